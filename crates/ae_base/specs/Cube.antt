@@ -1,0 +1,33 @@
+-- Products of literals, and the signs of inputs.
+use Rattle.std.specs.Prelude.{◌≡◌, ℕ, ◌≤◌, ◌<◌, ◌==◌, Bool, true, false, ◌&&◌}
+use Rattle.ae_base.specs.declared.limits.TheConstants.{NET_LINES}
+use Rattle.ae_base.specs.Mask as set
+use Rattle.ae_base.specs.Mask.{Set}
+
+-- the inputs with a plain literal, and those with a complemented one
+pub record Product : Type 0 where
+  pub pos : Set
+  pub neg : Set
+
+-- no input has both literals
+abbrev pub IsProduct : Product → Type 0
+IsProduct c = (j : ℕ) → set.has c.pos j ≡ true → set.has c.neg j ≡ false
+
+unfoldable pub whole : Product
+whole = record { pos = set.empty; neg = set.empty }
+
+-- each plain literal is 1 at the point, and each complemented one is 0
+unfoldable pub holds : Product → Set → Bool
+holds c x = set.inside c.pos x && set.len (set.both c.neg x) == 0
+
+-- the number of inputs at which the literals differ
+unfoldable pub distance : Product → Product → ℕ
+distance c d = set.len (set.either (set.xor c.pos d.pos) (set.xor c.neg d.neg))
+
+-- for each of n inputs, whether its literal is plain
+pub record Signs : Type 0 where
+  pub n : ℕ
+  pub plain : Set
+
+abbrev pub IsSigns : Signs → Type 0
+IsSigns p = (p.n ≤ NET_LINES) × ((j : ℕ) → set.has p.plain j ≡ true → j < p.n)

@@ -1,0 +1,6 @@
+pub mod Cube
+pub mod Mask
+pub mod Name
+pub mod Source
+pub mod Terms
+pub mod Text

@@ -1,0 +1,20 @@
+//! Sets of numbers, terms, cubes, names and lists.
+#![tactic(auto)]
+
+mod cube;
+mod laws;
+mod limits;
+mod mask;
+mod memory;
+mod name;
+mod seq;
+
+pub use cube::{Cube, Point, Polarity, Term};
+pub use laws::set_laws;
+pub use limits::{
+    GATES, NAME_BYTES, NET_LINES, PINS, SOURCE_LINES, SOURCE_NAME_BYTES, WIDTH, WRITTEN_LINES,
+};
+pub use mask::Mask;
+pub use memory::Memory;
+pub use name::Name;
+pub use seq::Seq;

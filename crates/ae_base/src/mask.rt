@@ -1,0 +1,136 @@
+//! A set of small numbers.
+ghost use Rattle.std.specs.Prelude.{◌≡◌, ◌<◌, ◌≤◌, ◌↔◌, IsTrue};
+ghost use Rattle.ae_base.specs.Mask as set;
+
+use crate::limits::WIDTH;
+use std::cmp::Ordering;
+use std::marker::Model;
+
+/// A set of numbers below `WIDTH`.
+#[derive(Clone, Copy, Debug, PartialEq, Eq, Hash)]
+pub struct Mask {
+    bits: u128,
+}
+
+impl Model for Mask {
+    ghost use Rattle.ae_base.specs.Mask.{Set};
+    ghost use Rattle.std.specs.Prelude.{◌<◌, ◌^◌};
+
+    ghost Value = { Set };
+
+    ghost view = { λ m. m.bits };
+
+    ghost invariant = { λ m. m.bits < 2 ^ 128 };
+
+    ghost inverse = { λ s. record { bits = s } };
+}
+
+impl Mask {
+    #[tactic(auto, unfolding(crate::specs::Mask::empty))]
+    pub fn empty() -> Mask
+        ensures { result ≡ set.empty }
+    {
+        Mask { bits: 0 }
+    }
+
+    #[tactic(auto, unfolding(crate::specs::Mask::first))]
+    /// The numbers below `n`.
+    pub fn first(n: u32) -> Mask
+        requires { n ≤ WIDTH }
+        ensures { result ≡ set.first n }
+    {
+        if n == WIDTH {
+            Mask { bits: u128::MAX }
+        } else {
+            Mask { bits: (1 << n) - 1 }
+        }
+    }
+
+    #[tactic(auto, unfolding(crate::specs::Mask::with))]
+    pub fn with(self, j: u32) -> Mask
+        requires { j < WIDTH }
+        ensures { result ≡ set.with self j }
+    {
+        Mask {
+            bits: self.bits | (1 << j),
+        }
+    }
+
+    pub fn without(self, j: u32) -> Mask
+        requires { j < WIDTH }
+        ensures { result ≡ set.without self j }
+    {
+        Mask {
+            bits: self.bits & !(1 << j),
+        }
+    }
+
+    #[tactic(auto, using(crate::proofs::Members::has_above), unfolding(crate::specs::Mask::has))]
+    pub fn has(self, j: u32) -> bool
+        ensures { result ≡ set.has self j }
+    {
+        let bits = self.bits;
+        j < WIDTH && (bits >> j) & 1 == 1
+    }
+
+    #[tactic(auto, unfolding(crate::specs::Mask::both))]
+    pub fn both(self, other: Mask) -> Mask
+        ensures { result ≡ set.both self other }
+    {
+        Mask {
+            bits: self.bits & other.bits,
+        }
+    }
+
+    #[tactic(auto, unfolding(crate::specs::Mask::either))]
+    pub fn or(self, other: Mask) -> Mask
+        ensures { result ≡ set.either self other }
+    {
+        Mask {
+            bits: self.bits | other.bits,
+        }
+    }
+
+    #[tactic(auto, unfolding(crate::specs::Mask::xor))]
+    pub fn xor(self, other: Mask) -> Mask
+        ensures { result ≡ set.xor self other }
+    {
+        Mask {
+            bits: self.bits ^ other.bits,
+        }
+    }
+
+    #[tactic(auto, unfolding(crate::specs::Mask::inside, crate::specs::Mask::both))]
+    pub fn inside(self, other: Mask) -> bool
+        ensures { result ≡ set.inside self other }
+    {
+        self.bits & other.bits == self.bits
+    }
+
+    pub fn len(self) -> u32
+        ensures { result ≡ set.len self }
+    {
+        self.bits.count_ones()
+    }
+
+    /// Fewer members come first. Among equally many, the increasing lists of members are compared lexicographically.
+    pub fn cmp_terms(self, other: Mask) -> Ordering
+        ensures { result ≡ set.cmp_terms self other }
+    {
+        if self.len() < other.len() {
+            return Ordering::Less;
+        }
+        if other.len() < self.len() {
+            return Ordering::Greater;
+        }
+        if self.bits == other.bits {
+            return Ordering::Equal;
+        }
+        let apart = (self.bits ^ other.bits).trailing_zeros();
+        if self.has(apart) {
+            Ordering::Less
+        } else {
+            Ordering::Greater
+        }
+    }
+}

@@ -1,0 +1,68 @@
+//! Networks, places and faults.
+ghost use Rattle.std.specs.Prelude.{◌≡◌, ◌<◌, ◌+◌, length};
+
+use crate::pins::Pins;
+use ae_base::{Cube, Name, Seq};
+use std::marker::Model;
+
+/// A signal: the inputs have the first numbers, and then the gates in list order.
+pub type Sig = u32;
+
+/// A gate by its table: with `on` it is 1 exactly where some row holds, else 0 exactly there. A row is a cube over the positions of the pins.
+#[derive(Drop)]
+pub struct Gate {
+    pub out: Name,
+    pub pins: Pins,
+    pub rows: Seq<Cube>,
+    pub on: bool,
+}
+
+/// A network. An output port has the name of the gate whose signal it shows.
+#[derive(Drop)]
+pub struct Net {
+    pub model: Name,
+    pub inputs: Seq<Name>,
+    pub outputs: Seq<Sig>,
+    pub gates: Seq<Gate>,
+}
+
+impl Model for Net {
+    ghost use Rattle.ae_net.specs.Network.{Network};
+
+    ghost Value = { Network };
+
+    ghost use Rattle.ae_net.specs.Valid.{IsValid};
+
+    ghost view = { λ n. record { model = n.model; inputs = n.inputs; outputs = n.outputs; gates = n.gates } };
+
+    ghost invariant = { λ n. IsValid (record { model = n.model; inputs = n.inputs; outputs = n.outputs; gates = n.gates }) };
+}
+
+impl Net {
+    ghost use Rattle.ae_net.specs.Network.{gate_at};
+    ghost use Rattle.ae_net.specs.Valid.{IsGate};
+
+    /// The gate in place `i` of the list.
+    pub fn gate(&self, i: usize) -> &Gate
+        requires { i < length self.now.gates }
+        ensures gate { result.now ≡ gate_at self.now i }
+        ensures valid { IsGate (length self.now.inputs + i) result.now }
+    {
+        self.gates.at(i)
+    }
+}
+
+/// Where a fault is: the stem of a signal, a pin of a gate by its place in the list and its position, or an output port.
+#[derive(Clone, Copy, Debug, PartialEq, Eq)]
+pub enum Place {
+    Stem(Sig),
+    Pin(u32, u32),
+    Port(u32),
+}
+
+/// A place that is held at a value.
+#[derive(Clone, Copy, Debug, PartialEq, Eq)]
+pub struct Fault {
+    pub place: Place,
+    pub value: bool,
+}
