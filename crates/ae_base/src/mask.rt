@@ -1,5 +1,5 @@
 //! A set of small numbers.
-ghost use Rattle.std.specs.Prelude.{◌≡◌, ◌<◌, ◌≤◌, ◌↔◌, IsTrue};
+ghost use Rattle.std.specs.Prelude.{◌≡◌, ◌<◌, ◌≤◌, IfSome};
 ghost use Rattle.ae_base.specs.Mask as set;
 
 use crate::limits::WIDTH;
@@ -155,6 +155,18 @@ impl Mask {
         ensures { result ≡ set.inside self other }
     {
         self.bits & other.bits == self.bits
+    }
+
+    /// The least member, where there is one.
+    pub fn least(self) -> Option<u32>
+        ensures least { result ≡ set.least self }
+        ensures below { IfSome result (λ j. j < WIDTH) }
+    {
+        let bits = self.bits;
+        if bits == 0 {
+            return None;
+        }
+        Some(bits.trailing_zeros())
     }
 
     pub fn len(self) -> u32
