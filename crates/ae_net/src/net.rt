@@ -17,7 +17,8 @@ pub struct Gate {
     pub on: bool,
 }
 
-/// A network. An output port has the name of the gate whose signal it shows.
+/// A network of gates. An output port has the name of the gate whose signal it shows. What is asked of it is its invariant, `IsValid`:
+/// names of inputs and gates differ, each pin is an earlier signal, ports show gates, and the limits of this crate's base are kept.
 #[derive(Drop)]
 pub struct Net {
     pub model: Name,
