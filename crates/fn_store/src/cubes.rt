@@ -1,11 +1,10 @@
 //! The expansion of a list of cubes.
-ghost use Rattle.std.specs.Prelude.{◌≡◌, ◌<◌, ◌&&◌, ◌||◌, ◌==◌, Bool, not, if◌then◌else◌, IfOk, All, List};
+ghost use Rattle.std.specs.Prelude.{◌<◌, ◌&&◌, ◌||◌, Bool, IfOk, All};
 ghost use Rattle.ae_base.specs.Mask.{Set, has};
-ghost use Rattle.ae_base.specs.Cube as cube;
-ghost use Rattle.ae_base.specs.Terms.{value};
+ghost use Rattle.ae_base.specs.Cube.{holds};
 ghost use Rattle.fn_store.specs.Cubes.{IsOver, some_holds};
 ghost use Rattle.fn_store.specs.Davio.{IsExpansion};
-ghost use Rattle.fn_store.specs.Scratch.{Means};
+ghost use Rattle.fn_store.specs.Scratch.{Means, is_at, are_all};
 
 use crate::terms::{exor, times_literal};
 use ae_base::{Cube, Mask, Memory, Polarity, Term};
@@ -25,8 +24,8 @@ pub fn cubes_expansion(alloc: Global, polarity: Polarity, cubes: &[Cube]) -> Res
 
 /// f or c, as f EXOR (c and not f).
 fn or_cube(alloc: Global, polarity: Polarity, terms: &[Term], cube: Cube) -> Result<Vec<Term>, Memory>
-    requires over { IsOver polarity.n cube }
-    ensures { IfOk result (λ ts. (f : Set → Bool) → Means polarity f terms.now → Means polarity (λ x. f x || cube.holds cube x) ts.items) }
+    requires { IsOver polarity.n cube }
+    ensures { IfOk result (λ ts. (f : Set → Bool) → Means polarity f terms.now → Means polarity (λ x. f x || holds cube x) ts.items) }
 {
     let complement = exor(alloc, terms, &[Mask::empty()])?;
     let rest = times_cube(alloc, polarity, complement, cube)?;
@@ -35,16 +34,21 @@ fn or_cube(alloc: Global, polarity: Polarity, terms: &[Term], cube: Cube) -> Res
 
 /// The product with each literal of the cube.
 fn times_cube(alloc: Global, polarity: Polarity, terms: Vec<Term>, cube: Cube) -> Result<Vec<Term>, Memory>
-    requires over { IsOver polarity.n cube }
-    ensures { IfOk result (λ ts. (f : Set → Bool) → Means polarity f terms.items → Means polarity (λ x. f x && cube.holds cube x) ts.items) }
+    requires { IsOver polarity.n cube }
+    ensures { IfOk result (λ ts. (f : Set → Bool) → Means polarity f terms.items → Means polarity (λ x. f x && holds cube x) ts.items) }
+{
+    let product = times_inputs(alloc, polarity, terms, cube.pos, true)?;
+    times_inputs(alloc, polarity, product, cube.neg, false)
+}
+
+/// The product with each of the inputs, or with the complement of each.
+fn times_inputs(alloc: Global, polarity: Polarity, terms: Vec<Term>, inputs: Mask, plain: bool) -> Result<Vec<Term>, Memory>
+    ensures { IfOk result (λ ts. (f : Set → Bool) → Means polarity f terms.items → Means polarity (λ x. f x && are_all polarity.n inputs plain x) ts.items) }
 {
     let mut product = terms;
     for j in 0..polarity.n {
-        if cube.pos.has(j) {
-            product = times_input(alloc, polarity, &product, j, true)?;
-        }
-        if cube.neg.has(j) {
-            product = times_input(alloc, polarity, &product, j, false)?;
+        if inputs.has(j) {
+            product = times_input(alloc, polarity, &product, j, plain)?;
         }
     }
     Ok(product)
@@ -53,7 +57,7 @@ fn times_cube(alloc: Global, polarity: Polarity, terms: Vec<Term>, cube: Cube) -
 /// The product with an input, or with its complement. Where the polarity has the other literal, that one is 1 EXOR the literal.
 fn times_input(alloc: Global, polarity: Polarity, terms: &[Term], j: u32, plain: bool) -> Result<Vec<Term>, Memory>
     requires { j < polarity.n }
-    ensures { IfOk result (λ ts. (f : Set → Bool) → Means polarity f terms.now → Means polarity (λ x. f x && (if plain then has x j else not (has x j))) ts.items) }
+    ensures { IfOk result (λ ts. (f : Set → Bool) → Means polarity f terms.now → Means polarity (λ x. f x && is_at plain (has x j)) ts.items) }
 {
     let product = times_literal(alloc, terms, j)?;
     if polarity.plain.has(j) == plain {

@@ -1,9 +1,9 @@
 //! Lists of terms: symmetric difference, and the product with a literal.
-ghost use Rattle.std.specs.Prelude.{◌≡◌, ◌<◌, Bool, true, IfOk, OnOk};
+ghost use Rattle.std.specs.Prelude.{◌≡◌, ◌<◌, Bool, true, map, IfOk, OnOk};
 ghost use Rattle.std.specs.List.{list_all};
 ghost use Rattle.ae_base.specs.Mask.{Set, differ, with};
 ghost use Rattle.ae_base.specs.Terms.{IsInOrder, exor_of};
-ghost use Rattle.fn_store.specs.Scratch.{IsToggled};
+ghost use Rattle.fn_store.specs.Scratch.{IsReduced, IsToggled};
 
 use ae_base::{Memory, Term, WIDTH};
 use std::alloc::Global;
@@ -27,14 +27,21 @@ pub fn times_literal(alloc: Global, terms: &[Term], j: u32) -> Result<Vec<Term>,
     ensures same { IfOk result (λ ts. (h : Set → Bool) → exor_of h ts.items ≡ exor_of (λ t. h (with t j)) terms.now) }
     ensures keeps { IfOk result (λ ts. (h : Set → Bool) → list_all (λ t. h (with t j)) terms.now ≡ true → list_all h ts.items ≡ true) }
 {
-    let held = terms.iter().map(|t| t.with(j)).collect(alloc)?;
+    let held = with_each(alloc, terms, j)?;
     in_term_order(alloc, held)
+}
+
+fn with_each(alloc: Global, terms: &[Term], j: u32) -> Result<Vec<Term>, Memory>
+    requires { j < WIDTH }
+    ensures { IfOk result (λ ts. ts.items ≡ map (λ t. with t j) terms.now) }
+{
+    let held = terms.iter().map(|t| t.with(j)).collect(alloc)?;
+    Ok(held)
 }
 
 /// The terms that stand an odd number of times, in term order.
 fn in_term_order(alloc: Global, terms: Vec<Term>) -> Result<Vec<Term>, Memory>
-    ensures order { IfOk result (λ ts. IsInOrder ts.items) }
-    ensures same { IfOk result (λ ts. (h : Set → Bool) → exor_of h ts.items ≡ exor_of h terms.items) }
+    ensures { IfOk result (λ ts. IsReduced terms.items ts.items) }
 {
     let mut sorted = terms;
     sorted.sort_unstable();
