@@ -1,5 +1,5 @@
 //! A set of small numbers.
-ghost use Rattle.std.specs.Prelude.{◌≡◌, ◌<◌, ◌≤◌, ◌↔◌, IsTrue};
+ghost use Rattle.std.specs.Prelude.{◌≡◌, ◌<◌, ◌≤◌, IfSome};
 ghost use Rattle.ae_base.specs.Mask as set;
 
 use crate::limits::WIDTH;
@@ -7,7 +7,7 @@ use std::cmp::Ordering;
 use std::marker::Model;
 
 /// A set of numbers below `WIDTH`.
-#[derive(Clone, Copy, Debug, PartialEq, Eq, Hash)]
+#[derive(Clone, Copy, Debug, Hash)]
 pub struct Mask {
     bits: u128,
 }
@@ -23,6 +23,56 @@ impl Model for Mask {
     ghost invariant = { λ m. m.bits < 2 ^ 128 };
 
     ghost inverse = { λ s. record { bits = s } };
+}
+
+impl PartialEq for Mask {
+    ghost use Rattle.std.specs.Prelude.{nat_eq};
+    ghost use Rattle.std.specs.Cmp.{nat_eq_equiv, partial_equiv_from_equiv};
+
+    ghost eq = { nat_eq };
+
+    ghost laws = { partial_equiv_from_equiv nat_eq_equiv };
+
+    fn eq(&self, other: &Mask) -> bool {
+        self.bits == other.bits
+    }
+}
+
+impl Eq for Mask {
+    ghost use Rattle.std.specs.Cmp.{nat_eq_equiv};
+
+    ghost laws = { nat_eq_equiv };
+}
+
+impl Ord for Mask {
+    ghost use Rattle.std.proofs.Common.{refl};
+    ghost use Rattle.ae_base.specs.Order.{cmp_terms_total, equal_where_tied};
+
+    ghost cmp = { set.cmp_terms };
+
+    ghost total = { cmp_terms_total };
+
+    ghost matches_partial_cmp = { λ a b. refl };
+
+    ghost matches_eq = { equal_where_tied };
+
+    /// The order of terms.
+    fn cmp(&self, other: &Mask) -> Ordering {
+        self.cmp_terms(*other)
+    }
+}
+
+impl PartialOrd for Mask {
+    ghost use Rattle.std.specs.Ordering.{as_partial_cmp};
+    ghost use Rattle.ae_base.specs.Order.{cmp_terms_partial};
+
+    ghost partial_cmp = { as_partial_cmp set.cmp_terms };
+
+    ghost laws = { cmp_terms_partial };
+
+    fn partial_cmp(&self, other: &Mask) -> Option<Ordering> {
+        Some(self.cmp(other))
+    }
 }
 
 impl Mask {
@@ -105,6 +155,18 @@ impl Mask {
         ensures { result ≡ set.inside self other }
     {
         self.bits & other.bits == self.bits
+    }
+
+    /// The least member, where there is one.
+    pub fn least(self) -> Option<u32>
+        ensures least { result ≡ set.least self }
+        ensures below { IfSome result (λ j. j < WIDTH) }
+    {
+        let bits = self.bits;
+        if bits == 0 {
+            return None;
+        }
+        Some(bits.trailing_zeros())
     }
 
     pub fn len(self) -> u32
