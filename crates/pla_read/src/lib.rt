@@ -2,9 +2,13 @@
 #![tactic(auto)]
 
 mod cover;
+mod cut;
+mod laws;
+mod names;
 mod narrow;
 mod parts;
 
 pub use cover::{Cover, PLA_ROWS};
-pub use narrow::{NARROW_BYTES, NARROW_LINES, NARROW_ROWS};
+pub use laws::narrow_laws;
+pub use narrow::{NARROW_BYTES, NARROW_LINES, NARROW_ROWS, read_narrow};
 pub use parts::{Kind, Mark, Row};
