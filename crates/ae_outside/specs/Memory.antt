@@ -1,10 +1,10 @@
 -- Files and a sink in memory, with the calls that are to fail.
-use Rattle.std.specs.Prelude.{◌≡◌, ⊤, ℕ, ◌-◌, ◌^◌, List, [], ◌∷◌, ◌++◌, take, Bool, nat_eq, Result, Ok, Err}
+use Rattle.std.specs.Prelude.{◌≡◌, ⊤, ℕ, ◌-◌, ◌^◌, List, [], ◌∷◌, ◌++◌, take, Bool, nat_eq, if◌then◌else◌, is_ok, Result, Ok, Err}
 use Rattle.std.specs.List.{list_any}
 use Rattle.std.specs.FinMap.{empty, insert}
 use Rattle.ae_outside.specs.declared.outside.FilesErr.{FilesErr}
-use Rattle.ae_outside.specs.declared.outside.FilesErr.TheVariants.{Failed, Memory}
-use Rattle.ae_outside.specs.Counts.{Tally, next_count, one_more}
+use Rattle.ae_outside.specs.Counts.{Tally, next_count}
+use Rattle.ae_outside.specs.Causes.{counted, fault_counted}
 use Rattle.ae_outside.specs.Files.{Shelf, bytes_of}
 
 -- the calls of one kind: how many were made, and the numbers of those that are to fail, the first call being 1
@@ -47,21 +47,20 @@ new_files = record { held = empty; read_faults = empty; write_faults = empty; re
 
 -- after a read of a name that gave this answer
 abbrev pub after_read : MemoryFiles → List ℕ → Result ℕ FilesErr → MemoryFiles
-after_read s name (Ok k) = record s { reads = after_call s.reads }
-after_read s name (Err Failed) = record s { reads = after_call s.reads; read_faults = one_more s.read_faults name }
-after_read s name (Err Memory) = record s { reads = after_call s.reads }
+after_read s name answer = record s { reads = after_call s.reads; read_faults = counted s.read_faults name answer }
 
 -- after a create of a name that gave this answer
 abbrev pub after_create : MemoryFiles → List ℕ → Result ⊤ FilesErr → MemoryFiles
-after_create s name (Ok _) = record s { creates = after_call s.creates; held = insert s.held name [] }
-after_create s name (Err Failed) = record s { creates = after_call s.creates; write_faults = one_more s.write_faults name }
-after_create s name (Err Memory) = record s { creates = after_call s.creates }
+after_create s name answer = record s { creates = after_call s.creates; write_faults = counted s.write_faults name answer; held = (if is_ok answer then insert s.held name [] else s.held) }
+
+-- what is held after an append of a front of this piece
+abbrev pub held_after : Shelf → List ℕ → List ℕ → Result ℕ FilesErr → Shelf
+held_after m name piece (Ok k) = insert m name (bytes_of m name ++ take k piece)
+held_after m name piece (Err _) = m
 
 -- after an append to a name that gave this answer
 abbrev pub after_append : MemoryFiles → List ℕ → List ℕ → Result ℕ FilesErr → MemoryFiles
-after_append s name piece (Ok k) = record s { appends = after_call s.appends; held = insert s.held name (bytes_of s.held name ++ take k piece) }
-after_append s name piece (Err Failed) = record s { appends = after_call s.appends; write_faults = one_more s.write_faults name }
-after_append s name piece (Err Memory) = record s { appends = after_call s.appends }
+after_append s name piece answer = record s { appends = after_call s.appends; write_faults = counted s.write_faults name answer; held = held_after s.held name piece answer }
 
 -- a sink in memory; a write takes at most `limit` bytes
 pub record MemorySink : Type 0 where
@@ -74,8 +73,11 @@ pub record MemorySink : Type 0 where
 abbrev pub new_sink : MemorySink
 new_sink = record { taken = []; faults = 0; writes = no_plan; limit = 2 ^ 64 - 1 }
 
+-- what was taken after a write of a front of this piece
+abbrev pub taken_after : List ℕ → List ℕ → Result ℕ FilesErr → List ℕ
+taken_after taken piece (Ok k) = taken ++ take k piece
+taken_after taken piece (Err _) = taken
+
 -- after a write that gave this answer
 abbrev pub after_write : MemorySink → List ℕ → Result ℕ FilesErr → MemorySink
-after_write s piece (Ok k) = record s { writes = after_call s.writes; taken = s.taken ++ take k piece }
-after_write s piece (Err Failed) = record s { writes = after_call s.writes; faults = next_count s.faults }
-after_write s piece (Err Memory) = record s { writes = after_call s.writes }
+after_write s piece answer = record s { writes = after_call s.writes; faults = fault_counted s.faults answer; taken = taken_after s.taken piece answer }
