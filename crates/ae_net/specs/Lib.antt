@@ -1,6 +1,8 @@
 pub mod Blif
 pub mod Detects
+pub mod Gates
 pub mod Implements
+pub mod Names
 pub mod Network
 pub mod Run
 pub mod Scratch

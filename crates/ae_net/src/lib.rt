@@ -1,12 +1,16 @@
 //! Networks of gates, stuck-at faults, and what a network answers at a point.
 #![tactic(auto)]
 
+mod gates;
 mod laws;
+mod names;
 mod net;
 mod pins;
 mod run;
 
+pub use gates::{and_gate, buffer, exor, inverter};
 pub use laws::one_run;
+pub use names::{NetNames, lead, letter_name, numbered_name};
 pub use net::{Fault, Gate, Net, Place, Sig};
 pub use pins::Pins;
 pub use run::{Scratch, answer, scratch_for};

@@ -17,7 +17,8 @@ pub struct Gate {
     pub on: bool,
 }
 
-/// A network. An output port has the name of the gate whose signal it shows.
+/// A network of gates. An output port has the name of the gate whose signal it shows. What is asked of it is its invariant, `IsValid`:
+/// names of inputs and gates differ, each pin is an earlier signal, ports show gates, and the limits of this crate's base are kept.
 #[derive(Drop)]
 pub struct Net {
     pub model: Name,
@@ -40,9 +41,41 @@ impl Model for Net {
 
 impl Net {
     ghost use Rattle.ae_net.specs.Network.{gate_at};
-    ghost use Rattle.ae_net.specs.Valid.{IsGate};
+    ghost use Rattle.ae_net.specs.Valid.{IsGate, IsValid};
 
-    /// The gate in place `i` of the list.
+    /// The name of the model.
+    pub fn model(&self) -> &Name
+        ensures model { result.now ≡ self.now.model }
+        ensures valid { IsValid self.now }
+    {
+        &self.model
+    }
+
+    /// The names of the inputs, in order.
+    pub fn inputs(&self) -> &[Name]
+        ensures inputs { result.now ≡ self.now.inputs }
+        ensures valid { IsValid self.now }
+    {
+        self.inputs.as_slice()
+    }
+
+    /// The signals that the output ports show, in order.
+    pub fn outputs(&self) -> &[Sig]
+        ensures outputs { result.now ≡ self.now.outputs }
+        ensures valid { IsValid self.now }
+    {
+        self.outputs.as_slice()
+    }
+
+    /// The gates, in order.
+    pub fn gates(&self) -> &[Gate]
+        ensures gates { result.now ≡ self.now.gates }
+        ensures valid { IsValid self.now }
+    {
+        self.gates.as_slice()
+    }
+
+    /// The gate in place `i` of the list, counted from 0.
     pub fn gate(&self, i: usize) -> &Gate
         requires { i < length self.now.gates }
         ensures gate { result.now ≡ gate_at self.now i }

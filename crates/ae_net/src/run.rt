@@ -76,10 +76,10 @@ fn keep_gates(net: &Net, fault: Option<Fault>, bytes: &mut [u8])
     ensures { (x : Set) → run.AreKept bytes.old (run.run_to net.now fault x 0)
         → run.AreKept bytes.new (run.run_to net.now fault x (length net.now.gates)) }
 {
-    let first = net.inputs.len();
-    let gates = net.gates.as_slice();
-    for i in 0..gates.len() {
-        let gate = &gates[i];
+    let first = net.inputs().len();
+    let gates = net.gates().len();
+    for i in 0..gates {
+        let gate = net.gate(i);
         let value = table(gate, ones_kept(gate, i as u32, fault, bytes));
         bytes[first + i] = seen(fault, Place::Stem((first + i) as u32), value) as u8;
     }

@@ -1,0 +1,80 @@
+-- What each kind of gate computes, with a fault or without.
+use Rattle.std.proofs.Common.{◌≡◌, ℕ, zero, suc, ◌+◌, ◌<◌, Bool, true, false, not, ◌&&◌, ◌||◌, cond, List, [], ◌∷◌, length, refl, sym, ap, ap₂, ◌∙◌, arith}
+use Rattle.std.specs.Prelude.{Option, None, slice_index}
+use Rattle.std.specs.List.{list_all}
+use Rattle.std.proofs.lemmas.Bool.{and_parts, and_from, lt-ltb, ltb-true}
+use Rattle.ae_base.specs.Mask.{Set, differ, has, first, where_below, inside}
+use Rattle.ae_base.proofs.Sets.{has-first, has-where_below, inside-has, has-inside}
+use Rattle.ae_net.specs.declared.net.Place.TheVariants.{Pin}
+use Rattle.ae_net.specs.declared.net.Fault.{Fault}
+use Rattle.ae_net.specs.Run.{table, seen, value_of, ones_seen}
+use Rattle.ae_net.specs.Gates.{inverter, buffer, exor, and_gate}
+use Rattle.ae_net.proofs.Rows.{same_truth, plain_row, complemented_row, one_of_each_row, full_row}
+
+-- what pin q of the gate in place i sees
+abbrev pub sees : Option Fault → List Bool → ℕ → ℕ → ℕ → Bool
+sees fault w i q s = seen fault (Pin i q) (value_of w s)
+
+or-false : (b : Bool) → (b || false) ≡ b
+or-false true = refl
+or-false false = refl
+
+pub table-inverter : (fault : Option Fault) (w : List Bool) (i : ℕ) (out : List ℕ) (a : ℕ) → table (inverter out a) (ones_seen fault w i (inverter out a)) ≡ not (sees fault w i 0 a)
+unfolding table
+table-inverter fault w i out a = or-false _ ∙ complemented_row 0 (ones_seen fault w i (inverter out a)) ∙ ap not (has-where_below 1 (λ k. sees fault w i k (slice_index (a ∷ []) k)) 0)
+
+pub table-buffer : (fault : Option Fault) (w : List Bool) (i : ℕ) (out : List ℕ) (a : ℕ) → table (buffer out a) (ones_seen fault w i (buffer out a)) ≡ sees fault w i 0 a
+unfolding table
+table-buffer fault w i out a = or-false _ ∙ plain_row 0 (ones_seen fault w i (buffer out a)) ∙ has-where_below 1 (λ k. sees fault w i k (slice_index (a ∷ []) k)) 0
+
+pub table-exor : (fault : Option Fault) (w : List Bool) (i : ℕ) (out : List ℕ) (a b : ℕ) → table (exor out a b) (ones_seen fault w i (exor out a b)) ≡ differ (sees fault w i 0 a) (sees fault w i 1 b)
+unfolding table
+table-exor fault w i out a b =
+    let ones : Set = ones_seen fault w i (exor out a b) in
+    let p = λ (k : ℕ). sees fault w i k (slice_index (a ∷ b ∷ []) k) in
+    ap₂ (λ l r. l || (r || false)) (one_of_each_row 0 1 ones) (one_of_each_row 1 0 ones)
+    ∙ either_way (has ones 0) (has ones 1)
+    ∙ ap₂ differ (has-where_below 2 p 0) (has-where_below 2 p 1)
+  where
+    either_way : (c d : Bool) → ((c && not d) || ((d && not c) || false)) ≡ differ c d
+    either_way true true = refl
+    either_way true false = refl
+    either_way false true = refl
+    either_way false false = refl
+
+-- ---- AND gates
+
+-- each pin sees 1, the first of them being pin q
+unfoldable pub all_see : Option Fault → List Bool → ℕ → ℕ → List ℕ → Bool
+all_see fault w i q [] = true
+all_see fault w i q (s ∷ ss) = sees fault w i q s && all_see fault w i (suc q) ss
+
+all_from : (fault : Option Fault) (w : List Bool) (i q : ℕ) (ss : List ℕ) → all_see fault w i q ss ≡ true → (k : ℕ) → k < length ss → sees fault w i (q + k) (slice_index ss k) ≡ true
+unfolding all_see
+all_from fault w i q [] h k l = absurd (omega (arith, l))
+all_from fault w i q (s ∷ ss) h zero l = let z : q + 0 ≡ q = omega arith in rw z ((and_parts _ _ h).0)
+all_from fault w i q (s ∷ ss) h (suc k) l = let z : q + suc k ≡ suc q + k = omega arith in rw z (all_from fault w i (suc q) ss ((and_parts _ _ h).1) k (omega (arith, l)))
+
+all_to : (fault : Option Fault) (w : List Bool) (i q : ℕ) (ss : List ℕ) → ((k : ℕ) → k < length ss → sees fault w i (q + k) (slice_index ss k) ≡ true) → all_see fault w i q ss ≡ true
+unfolding all_see
+all_to fault w i q [] h = refl
+all_to fault w i q (s ∷ ss) h =
+    and_from _ _ (let z : q + 0 ≡ q = omega arith in rw z at (h 0 (omega arith)))
+    (all_to fault w i (suc q) ss (λ k l. let z : q + suc k ≡ suc q + k = omega arith in rw z at (h (suc k) (omega (arith, l)))))
+
+pub table-and : (fault : Option Fault) (w : List Bool) (i : ℕ) (out pins : List ℕ) → table (and_gate out pins) (ones_seen fault w i (and_gate out pins)) ≡ all_see fault w i 0 pins
+unfolding table
+table-and fault w i out pins =
+    let p = λ (k : ℕ). sees fault w i k (slice_index pins k) in
+    let ones : Set = where_below (length pins) p in
+    or-false _
+    ∙ full_row (length pins) ones
+    ∙ same_truth _ _
+    (λ h. all_to fault w i 0 pins (λ k l. let z : 0 + k ≡ k = omega arith in rw z ((and_parts _ _ (sym (has-where_below (length pins) p k) ∙ inside-has _ _ h k (has-first (length pins) k ∙ lt-ltb k (length pins) l))).1)))
+    (λ h. has-inside _ _ (λ k m. has-where_below (length pins) p k ∙ and_from _ _ (sym (has-first (length pins) k) ∙ m) (let z : 0 + k ≡ k = omega arith in rw z at (all_from fault w i 0 pins h k (ltb-true k (length pins) (sym (has-first (length pins) k) ∙ m))))))
+
+-- without a fault
+pub all_see-none : (w : List Bool) (i q : ℕ) (ss : List ℕ) → all_see None w i q ss ≡ list_all (λ s. value_of w s) ss
+unfolding all_see
+all_see-none w i q [] = refl
+all_see-none w i q (s ∷ ss) = ap (λ b. value_of w s && b) (all_see-none w i (suc q) ss)

@@ -1,0 +1,32 @@
+-- Expansions of the outputs at one polarity, as contracts see them (Sasao, "Switching Theory for Logic Synthesis").
+use Rattle.std.specs.Prelude.{◌≡◌, ℕ, ◌<◌, Bool, true, List, length, All}
+use Rattle.std.specs.List.{list_any, sum_by}
+use Rattle.ae_base.specs.Mask.{Set, has, inside, first, where_below}
+use Rattle.ae_base.specs.Cube.{Signs, IsSigns}
+use Rattle.ae_base.specs.Terms.{IsInOrder}
+use Rattle.expansion.specs.declared.limits.TheConstants.{LISTS, TERMS}
+
+-- for each output in order the terms whose products have the output as their EXOR, the literals being those of the polarity
+pub record Terms : Type 0 where
+  pub polarity : Signs
+  pub outs : List (List Set)
+
+-- the number of terms of all outputs
+abbrev pub cost : Terms → ℕ
+cost e = sum_by length e.outs
+
+-- Each list is in term order without repeats, over the inputs, and there are few enough of them.
+pub record IsTerms (e : Terms) : Type 0 where
+  pub signs : IsSigns e.polarity
+  pub below : All (λ ts. All (λ t. inside t (first e.polarity.n) ≡ true) ts) e.outs
+  pub order : All IsInOrder e.outs
+  pub few_lists : length e.outs < LISTS
+  pub few_terms : cost e < TERMS
+
+-- some term of some output holds the input
+abbrev pub is_used : Terms → ℕ → Bool
+is_used e j = list_any (λ ts. list_any (λ t. has t j) ts) e.outs
+
+-- the inputs that some term of some output holds
+unfoldable pub used_inputs : Terms → Set
+used_inputs e = where_below e.polarity.n (is_used e)

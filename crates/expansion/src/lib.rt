@@ -1,0 +1,12 @@
+//! Fixed-polarity expansions: lists of terms, one for each output, at one polarity.
+#![tactic(auto)]
+
+mod expansion;
+mod limits;
+#[cfg(test)]
+mod tests;
+mod used;
+
+pub use expansion::{Expansion, pairs};
+pub use limits::{LISTS, TERMS};
+pub use used::{is_used, used_inputs};

@@ -1,0 +1,38 @@
+//! The inputs that an expansion uses.
+ghost use Rattle.std.specs.Prelude.{◌≡◌};
+ghost use Rattle.std.specs.List.{list_any};
+ghost use Rattle.ae_base.specs.Mask.{has};
+ghost use Rattle.expansion.specs.Terms as spec;
+
+use crate::expansion::Expansion;
+use ae_base::{Mask, Seq, Term};
+
+/// Whether some of the terms holds the input.
+fn some_holds(terms: &[Term], j: u32) -> bool
+    ensures { result ≡ list_any (λ t. has t j) terms.now }
+{
+    terms.iter().any(|t| t.has(j))
+}
+
+/// Whether some term of some output holds the input. It takes no memory.
+pub fn is_used(e: &Expansion, j: u32) -> bool
+    ensures { result ≡ spec.is_used e.now j }
+{
+    e.lists()
+        .iter()
+        .any(|terms| some_holds(terms.as_slice(), j))
+}
+
+/// The inputs that some term of some output holds. It takes no memory.
+#[tactic(auto, unfolding(crate::specs::Terms::used_inputs))]
+pub fn used_inputs(e: &Expansion) -> Mask
+    ensures { result ≡ spec.used_inputs e.now }
+{
+    let mut used = Mask::empty();
+    for j in 0..e.inputs() {
+        if is_used(e, j) {
+            used = used.with(j);
+        }
+    }
+    used
+}
