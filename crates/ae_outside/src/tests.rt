@@ -12,7 +12,10 @@ fn a_file_is_written_and_read_whole(rt: HostRuntime) -> Result<(), Fail> {
     assert_eq!(rt; files.held("name").unwrap_or(b""), b"hello".as_slice());
     assert_eq!(rt; files.held("other").unwrap_or(b""), b"old".as_slice());
     let read = read_whole(alloc, &mut files, "name", 5);
-    assert_eq!(rt; read.unwrap_or(Vec::new(alloc)).as_slice(), b"hello".as_slice());
+    assert_eq!(rt;
+        read.unwrap_or(Vec::new(alloc)).as_slice(),
+        b"hello".as_slice()
+    );
     let long = read_whole(alloc, &mut files, "name", 4);
     assert!(rt; matches!(long, Err(ReadErr::TooLong)));
     Ok(())

@@ -1,0 +1,42 @@
+-- Bounds that the builder keeps, and the network that it puts together.
+use Rattle.std.proofs.Common.{◌≡◌, ℕ, ◌+◌, ◌<◌, ◌≤◌, true, List, [], ◌∷◌, ◌++◌, length, ap, arith}
+use Rattle.std.specs.Prelude.{All, codes}
+use Rattle.std.proofs.lemmas.List.Elements.{All-from_recursion, recursion_from_All}
+use Rattle.ae_base.specs.Mask.{first, inside}
+use Rattle.ae_net.specs.declared.net.Gate.{Gate}
+use Rattle.ae_base.specs.declared.limits.TheConstants.{NET_LINES, SOURCE_NAME_BYTES}
+use Rattle.ae_net.specs.Valid.{IsValid}
+use Rattle.cascade.specs.declared.limits.TheConstants.{REDDY_TERMS}
+use Rattle.expansion.specs.Terms.{Terms, IsTerms, cost}
+use Rattle.ae_net.specs.Names.{Names, IsNames, lead, inner}
+use Rattle.cascade.specs.Reddy.{lines, turned, wide_terms, and_place, chain_place, ends, gates, reddy_net}
+use Rattle.cascade.specs.declared.signals.Plan.{Plan}
+use Rattle.cascade.specs.Plan.{IsPlan}
+use Rattle.cascade.specs.Shows.{Fits}
+use Rattle.ae_net.proofs.Distinct.{each_weaker}
+use Rattle.cascade.proofs.Law.{Stands}
+use Rattle.cascade.proofs.GatesValid.{turned_below}
+use Rattle.cascade.proofs.Valid.{few_turned, few_wide, few_lines, wide_stand, all_stand, valid}
+
+pub is_plan : (plan : Plan) (e : Terms) → IsTerms e → cost e ≤ REDDY_TERMS → plan.lead ≤ SOURCE_NAME_BYTES + 1 → plan.turned.items ≡ turned e → plan.wide.items ≡ wide_terms e → plan.ands ≡ and_place e → IsPlan plan e
+is_plan plan e terms cheap short turned_is wide_is ands_is = record {
+  terms = terms;
+  short = short;
+  few_inputs = terms.signs.0;
+  turned = turned_is;
+  each_turned = rw turned_is (All-from_recursion (λ j. j ≤ NET_LINES) (turned e) (each_weaker (λ j. j < lines e) (λ j. j ≤ NET_LINES) (λ j l. omega (arith, terms.signs.0)) (turned e) (turned_below e)));
+  few_turned = omega (arith, few_turned e, ap length turned_is, terms.signs.0);
+  wide = wide_is;
+  each_wide = rw wide_is (All-from_recursion (λ t. inside t (first e.polarity.n) ≡ true) (wide_terms e) (each_weaker (λ t. Stands e t × (inside t (first e.polarity.n) ≡ true)) (λ t. inside t (first e.polarity.n) ≡ true) (λ t h. h.1) (wide_terms e)
+      (wide_stand e (all_stand e e.outs (λ q m. m) (recursion_from_All _ e.outs terms.below)))));
+  few_wide = omega (arith, few_wide e, ap length wide_is);
+  ands = ands_is;
+  low = omega (arith, ands_is, few_lines e, terms.signs.0);
+}
+
+pub net_valid : (names : Names) (e : Terms) (k : ℕ) (model control : List ℕ) (inputs : List (List ℕ)) (outputs : List ℕ) (made : List Gate) → IsNames names → IsTerms e → Fits names e → cost e ≤ REDDY_TERMS
+    → k ≡ lead names → model ≡ names.model → control ≡ inner k (codes "c") → inputs ≡ names.inputs ++ control ∷ [] → outputs ≡ ends e (chain_place e) e.outs → made ≡ gates k names e
+    → IsValid (record { model = model; inputs = inputs; outputs = outputs; gates = made })
+unfolding reddy_net
+net_valid names e k model control inputs outputs made named terms fits cheap k_is model_is control_is inputs_is outputs_is made_is =
+    rw (made_is, outputs_is, inputs_is, control_is, model_is, k_is) (valid names e named terms fits cheap)

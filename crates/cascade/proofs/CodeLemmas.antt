@@ -1,0 +1,230 @@
+-- Steps of the loops that build the network.
+use Rattle.std.proofs.Common.{◌≡◌, ◌≢◌, ℕ, zero, suc, ◌+◌, ◌-◌, ◌<◌, ◌≤◌, ◌^◌, ◌%◌, Bool, true, false, cond, inl, inr, List, [], ◌∷◌, ◌++◌, length, map, get_or, drop, refl, sym, ap, ◌∙◌, arith, append-nil, append_assoc, map-id, length-append, replicate}
+use Rattle.std.specs.Prelude.{filter, All, slice_index, Option, Some, None, IsSome}
+use Rattle.std.specs.Option.{SomeIff}
+use Rattle.std.specs.List.{range_with_len}
+use Rattle.std.specs.Fmt.{decimal}
+use Rattle.std.proofs.Math.ListN.{length-replicate}
+use Rattle.std.proofs.lemmas.Bool.{cases_Bool}
+use Rattle.std.proofs.lemmas.List.FromFn.{map-range_with_len_more}
+use Rattle.std.proofs.lemmas.List.Elements.{filter-append, All-append, All-cons, All-replicate, All-push, All-nil, All-weaker}
+use Rattle.std.proofs.Common.{add-one, drop-cons, ne_eqb, eq-eqb}
+use Rattle.std.proofs.lemmas.List.{length-map, map-append, take-append-drop}
+use Rattle.std.proofs.Math.Seq.{take-suc}
+use Rattle.std.specs.declared.cmp.Ordering.{Ordering}
+use Rattle.std.specs.declared.cmp.Ordering.TheVariants.{Less, Equal, Greater}
+use Rattle.std.specs.Ordering.{is_lt}
+use Rattle.std.proofs.Common.{take}
+use Rattle.std.specs.List.{flat_map}
+use Rattle.cascade.specs.Reddy.{placed, in_order, is_wide}
+use Rattle.std.proofs.Common.{eqb, length-drop}
+use Rattle.std.specs.Prelude.{codes}
+use Rattle.std.proofs.lemmas.Bool.{cases_eq}
+use Rattle.expansion.specs.Terms.{Terms}
+use Rattle.ae_net.specs.Gates.{exor}
+use Rattle.cascade.specs.Reddy.{lines, term_signal}
+use Rattle.std.proofs.Common.{not, ap₂}
+use Rattle.std.proofs.lemmas.List.Elements.{All-from_recursion, recursion_from_All}
+use Rattle.std.proofs.lemmas.List.Concat.{length-flat_map}
+use Rattle.ae_base.specs.Mask.{empty}
+use Rattle.expansion.specs.Terms.{cost}
+use Rattle.cascade.specs.Reddy.{start, rest, chain, chains, ends, inner_gates}
+use Rattle.cascade.proofs.NamesApart.{all_inner}
+use Rattle.cascade.proofs.Valid.{each_filter, length_filter_le, few_of_all}
+use Rattle.cascade.specs.Left.{placed_onto, links_of}
+use Rattle.cascade.proofs.GatesValid.{length-members}
+use Rattle.ae_base.specs.Mask.{cmp_terms}
+use Rattle.ae_net.specs.declared.net.Gate.{Gate}
+use Rattle.cascade.specs.Reddy.{gates_for, place_of}
+use Rattle.std.proofs.lemmas.Fmt.{decimal_by_steps, length-decimal-le}
+use Rattle.ae_base.specs.declared.limits.TheConstants.{NET_LINES, PINS, GATES}
+use Rattle.cascade.specs.declared.limits.TheConstants.{REDDY_TERMS}
+use Rattle.ae_base.specs.Mask.{Set, has, first, inside, members, members_from}
+use Rattle.ae_base.proofs.Members.{has_above, below_own_power}
+use Rattle.ae_net.specs.Names.{inner, IsLetter}
+use Rattle.cascade.proofs.Law.{members_below}
+
+range_more : (k : ℕ) → range_with_len 0 (k + 1) ≡ range_with_len 0 k ++ k ∷ []
+range_more k = sym (map-id (range_with_len 0 (k + 1))) ∙ map-range_with_len_more (λ i. i) 0 k k (omega arith) ∙ ap (λ l. l ++ k ∷ []) (map-id (range_with_len 0 k))
+
+pub filter_range_more : (p : ℕ → Bool) (k : ℕ) → filter p (range_with_len 0 (k + 1)) ≡ cond (p k) (filter p (range_with_len 0 k) ++ k ∷ []) (filter p (range_with_len 0 k))
+filter_range_more p k =
+    ap (filter p) (range_more k) ∙ filter-append p (range_with_len 0 k) (k ∷ []) ∙ elim (cases_Bool (p k)) [ inl e ↦ rw e refl | inr e ↦ rw e (append-nil _) ]
+
+-- ---- members of a term over the first n inputs
+
+members_range : (d j : ℕ) (t : Set) → members_from d j t ≡ filter (has t) (range_with_len j d)
+members_range zero j t = refl
+members_range (suc d) j t = let e1 : j + 1 ≡ suc j = omega arith in rw (e1, members_range d (suc j) t) refl
+
+none_kept : (p : ℕ → Bool) (a m : ℕ) → ((k : ℕ) → a ≤ k → p k ≡ false) → filter p (range_with_len a m) ≡ []
+none_kept p a zero h = refl
+none_kept p a (suc m) h = rw (h a (omega arith)) (none_kept p (a + 1) m (λ k l. h k (omega arith)))
+
+same_kept : (p : ℕ → Bool) (a m n : ℕ) → ((k : ℕ) → a + m ≤ k → p k ≡ false) → ((k : ℕ) → a + n ≤ k → p k ≡ false) → filter p (range_with_len a m) ≡ filter p (range_with_len a n)
+same_kept p a zero n h g = sym (none_kept p a n (λ k l. h k (omega arith)))
+same_kept p a (suc m) zero h g = none_kept p a (suc m) (λ k l. g k (omega arith))
+same_kept p a (suc m) (suc n) h g =
+    let more = same_kept p (a + 1) m n (λ k l. h k (omega arith)) (λ k l. g k (omega arith)) in
+    elim (cases_Bool (p a)) [ inl e ↦ rw e (ap (λ l. a ∷ l) more) | inr e ↦ rw e more ]
+
+pub members_below_n : (n : ℕ) (t : Set) → inside t (first n) ≡ true → members t ≡ filter (has t) (range_with_len 0 n)
+unfolding members
+members_below_n n t below =
+    members_range t 0 t
+    ∙ same_kept (has t) 0 t n (λ k l. has_above t t k (below_own_power t) (omega arith)) (λ k l. elim (cases_Bool (has t k)) [ inl e ↦ absurd (omega (arith, members_below n t below k e)) | inr e ↦ e ])
+
+-- ---- steps of the loops
+
+pub map_kept_more : {X : Type 0} (f : ℕ → X) (p : ℕ → Bool) (k : ℕ) → map f (filter p (range_with_len 0 (k + 1))) ≡ cond (p k) (map f (filter p (range_with_len 0 k)) ++ f k ∷ []) (map f (filter p (range_with_len 0 k)))
+map_kept_more f p k = ap (map f) (filter_range_more p k) ∙ elim (cases_Bool (p k)) [ inl e ↦ rw e (map-append f (filter p (range_with_len 0 k)) (k ∷ [])) | inr e ↦ rw e refl ]
+
+-- the gates of the elements that are left
+pub gates_for_more : (gate : ℕ → ℕ → Gate) (c : ℕ) (xs : List ℕ) (i : ℕ) (now all : List Gate) → i < length xs → now ++ gates_for gate (c + i) (drop i xs) ≡ all → (now ++ gate (c + i) (get_or xs i 0) ∷ []) ++ gates_for gate (c + (i + 1)) (drop (i + 1) xs) ≡ all
+gates_for_more gate c xs i now all l h =
+    let z : c + suc i ≡ suc (c + i) = omega arith in
+    append_assoc now (gate (c + i) (get_or xs i 0) ∷ []) _ ∙ (rw (add-one i, z) (sym (ap (λ rest. now ++ gates_for gate (c + i) rest) (drop-cons xs i 0 l)))) ∙ h
+
+place_more : (xs : List ℕ) (x i : ℕ) → i < length xs → (get_or xs i x ≡ x → ⊥) → place_of (drop i xs) x ≡ suc (place_of (drop (i + 1) xs) x)
+place_more xs x i l ne = ap (λ rest. place_of rest x) (drop-cons xs i x l) ∙ rw (ne_eqb (get_or xs i x) x ne, add-one i) refl
+
+-- the search for a place
+pub place_found : (xs : List ℕ) (x i : ℕ) → i < length xs → get_or xs i x ≡ x → place_of xs x ≡ i + place_of (drop i xs) x → i ≡ place_of xs x
+place_found xs x i l e h =
+    let z : place_of (drop i xs) x ≡ 0 = ap (λ rest. place_of rest x) (drop-cons xs i x l) ∙ rw (eq-eqb (get_or xs i x) x e) refl in
+    omega (arith, h, z)
+
+pub place_on : (xs : List ℕ) (x i : ℕ) → i < length xs → (get_or xs i x ≡ x → ⊥) → place_of xs x ≡ i + place_of (drop i xs) x → place_of xs x ≡ i + 1 + place_of (drop (i + 1) xs) x
+place_on xs x i l ne h = omega (arith, h, place_more xs x i l ne)
+
+kept_append : (p : ℕ → Bool) (a m n : ℕ) → filter p (range_with_len a (m + n)) ≡ filter p (range_with_len a m) ++ filter p (range_with_len (a + m) n)
+kept_append p a zero n = let z : 0 + n ≡ n = omega arith in let y : a + 0 ≡ a = omega arith in rw (z, y) refl
+kept_append p a (suc m) n =
+    let z : suc m + n ≡ suc (m + n) = omega arith in let y : a + suc m ≡ a + 1 + m = omega arith in
+    rw (z, y) (elim (cases_Bool (p a)) [ inl e ↦ rw e (ap (λ l. a ∷ l) (kept_append p (a + 1) m n)) | inr e ↦ rw e (kept_append p (a + 1) m n) ])
+
+pub first_found : (n j : ℕ) (t : Set) → inside t (first n) ≡ true → j < n → filter (has t) (range_with_len 0 j) ≡ [] → has t j ≡ true → j ≡ slice_index (members t) 0
+first_found n j t below l none here =
+    let z : n ≡ j + suc (n - j - 1) = omega arith in
+    let y : 0 + j ≡ j = omega arith in
+    let whole : members t ≡ j ∷ filter (has t) (range_with_len (j + 1) (n - j - 1)) =
+    members_below_n n t below ∙ ap (λ m. filter (has t) (range_with_len 0 m)) z ∙ kept_append (has t) 0 j (suc (n - j - 1)) ∙ rw (none, y, here) refl in
+    sym (ap (λ (ms : List ℕ). slice_index ms 0) whole)
+
+pub first_none : (n : ℕ) (t : Set) → inside t (first n) ≡ true → filter (has t) (range_with_len 0 n) ≡ [] → 0 ≡ slice_index (members t) 0
+first_none n t below none = sym (ap (λ ms. slice_index ms 0) (members_below_n n t below ∙ none))
+
+not_less : (o : Ordering) → (o ≡ Less → ⊥) → is_lt o ≡ false
+not_less Less h = absurd (h refl)
+not_less Equal h = refl
+not_less Greater h = refl
+
+-- a term that is put in its place
+pub placed_on : (t : Set) (us : List Set) (i : ℕ) → i < length us → (t ≡ get_or us i t → ⊥) → (cmp_terms t (get_or us i t) ≡ Less → ⊥) → placed t us ≡ take i us ++ placed t (drop i us) → placed t us ≡ take (i + 1) us ++ placed t (drop (i + 1) us)
+placed_on t us i l other later h =
+    h ∙ ap (λ rest. take i us ++ placed t rest) (drop-cons us i t l)
+    ∙ rw (ne_eqb t (get_or us i t) other, not_less (cmp_terms t (get_or us i t)) later, add-one i, take-suc us i t l, append_assoc (take i us) (get_or us i t ∷ []) (placed t (drop (suc i) us))) refl
+
+pub placed_there : (t : Set) (us : List Set) (i : ℕ) → i < length us → t ≡ get_or us i t → placed t us ≡ take i us ++ placed t (drop i us) → us ≡ placed t us
+placed_there t us i l same h =
+    sym (h ∙ ap (λ rest. take i us ++ placed t rest) (drop-cons us i t l) ∙ rw (eq-eqb t (get_or us i t) same) (sym (ap (λ rest. take i us ++ rest) (drop-cons us i t l)) ∙ take-append-drop i us))
+
+pub placed_before : (t : Set) (us : List Set) (i : ℕ) → i < length us → (t ≡ get_or us i t → ⊥) → cmp_terms t (get_or us i t) ≡ Less → placed t us ≡ take i us ++ placed t (drop i us) → take i us ++ t ∷ drop i us ≡ placed t us
+placed_before t us i l other less h =
+    sym (h ∙ ap (λ rest. take i us ++ placed t rest) (drop-cons us i t l) ∙ rw (ne_eqb t (get_or us i t) other, less) (sym (ap (λ rest. take i us ++ t ∷ rest) (drop-cons us i t l))))
+
+pub few_pins : (n : ℕ) (t : Set) (f : ℕ → ℕ) → inside t (first n) ≡ true → n ≤ NET_LINES → length (map f (members t)) ≤ PINS
+few_pins n t f below few = omega (arith, length-map (members t) f, length-members n t below)
+
+pub placed_more : (ts list : List Set) (n d : ℕ) → n ≡ length ts → d < n → cond (is_wide (get_or ts (n - 1 - d) 0)) (placed (get_or ts (n - 1 - d) 0) (placed_onto (drop (n - d) ts) list)) (placed_onto (drop (n - d) ts) list) ≡ placed_onto (drop (n - (d + 1)) ts) list
+placed_more ts list n d same l =
+    let i : ℕ = n - 1 - d in
+    let z : n - d ≡ suc i = omega arith in
+    let y : n - (d + 1) ≡ i = omega arith in
+    rw (z, y) (sym (ap (λ rest. placed_onto rest list) (drop-cons ts i 0 (omega arith))))
+
+placed_onto-in_order : (ts us : List Set) → in_order (filter is_wide (ts ++ us)) ≡ placed_onto ts (in_order (filter is_wide us))
+placed_onto-in_order [] us = refl
+placed_onto-in_order (t ∷ ts) us = elim (cases_Bool (is_wide t)) [ inl e ↦ rw e (ap (placed t) (placed_onto-in_order ts us)) | inr e ↦ rw e (placed_onto-in_order ts us) ]
+
+pub ordered_more : (tss : List (List Set)) (other : List Set) (n d : ℕ) → n ≡ length tss → d < n → placed_onto (get_or tss (n - 1 - d) other) (in_order (filter is_wide (flat_map (λ ts. ts) (drop (n - d) tss)))) ≡ in_order (filter is_wide (flat_map (λ ts. ts) (drop (n - (d + 1)) tss)))
+ordered_more tss other n d same l =
+    let i : ℕ = n - 1 - d in
+    let z : n - d ≡ suc i = omega arith in
+    let y : n - (d + 1) ≡ i = omega arith in
+    rw (z, y) (sym (ap (λ rest. in_order (filter is_wide (flat_map (λ ts. ts) rest))) (drop-cons tss i other (omega arith)) ∙ placed_onto-in_order (get_or tss i other) _))
+
+links_step : (k : ℕ) (e : Terms) (out : List ℕ) (x i y : ℕ) (t : Set) (ts : List Set) → links_of k e out x i y (t ∷ ts) ≡ exor (cond (eqb (length ts) 0) out (inner k (codes "x" ++ decimal (suc x)))) y (term_signal e t) ∷ links_of k e out (suc x) (suc i) (lines e + i) ts
+links_step k e out x i y t [] = refl
+links_step k e out x i y t (u ∷ us) = rw (ne_eqb (suc (length us)) 0 (λ z. absurd (omega (arith, z)))) refl
+
+-- the gates of the terms that are left
+pub links_more : (k : ℕ) (e : Terms) (out : List ℕ) (x i y d n : ℕ) (ts : List Set) (now all : List Gate) → n ≡ length ts → d < n
+    → now ++ links_of k e out (x + d) (i + d) y (drop d ts) ≡ all
+    → (now ++ exor (cond (eqb (d + 1) n) out (inner k (codes "x" ++ decimal (suc (x + d))))) y (term_signal e (get_or ts d 0)) ∷ []) ++ links_of k e out (x + (d + 1)) (i + (d + 1)) (e.polarity.n + 1 + (i + d)) (drop (d + 1) ts) ≡ all
+links_more k e out x i y d n ts now all same l h =
+    let z1 : x + (d + 1) ≡ suc (x + d) = omega arith in
+    let z2 : i + (d + 1) ≡ suc (i + d) = omega arith in
+    let z3 : e.polarity.n + 1 + (i + d) ≡ lines e + (i + d) = omega arith in
+    let last : eqb (d + 1) n ≡ eqb (length (drop (suc d) ts)) 0 = same_test same in
+    append_assoc now (exor (cond (eqb (d + 1) n) out (inner k (codes "x" ++ decimal (suc (x + d))))) y (term_signal e (get_or ts d 0)) ∷ []) _
+    ∙ rw (z1, z2, z3, last, add-one d) (sym (ap (λ rest. now ++ rest) (ap (λ rest. links_of k e out (x + d) (i + d) y rest) (drop-cons ts d 0 (omega arith)) ∙ links_step k e out (x + d) (i + d) y (get_or ts d 0) (drop (suc d) ts))))
+    ∙ h
+  where
+    same_test : n ≡ length ts → eqb (d + 1) n ≡ eqb (length (drop (suc d) ts)) 0
+    same_test e0 = elim (cases_eq (d + 1) n) [
+      | inl a ↦ rw (eq-eqb (d + 1) n a, eq-eqb (length (drop (suc d) ts)) 0 (omega (arith, length-drop (suc d) ts))) refl
+      | inr b ↦ rw (ne_eqb (d + 1) n b, ne_eqb (length (drop (suc d) ts)) 0 (λ z. absurd (omega (arith, z, length-drop (suc d) ts)))) refl
+    ]
+
+pub rest_inside : (n : ℕ) (ts : List Set) → All (λ t. inside t (first n) ≡ true) ts → All (λ t. inside t (first n) ≡ true) (rest ts)
+rest_inside n ts h = All-from_recursion _ (rest ts) (each_filter (λ t. inside t (first n) ≡ true) (λ t. not (eqb t empty)) ts (recursion_from_All _ ts h))
+
+pub length_rest_le : (ts : List Set) → length (rest ts) ≤ length ts
+length_rest_le ts = length_filter_le (λ t. not (eqb t empty)) ts
+
+-- one more output
+pub chains_more : (k : ℕ) (e : Terms) (x i o inner' : ℕ) (tss : List (List Set)) (outs : List (List ℕ)) (ts : List Set) (out : List ℕ) (now new all : List Gate) → o < length tss → length tss ≡ length outs
+    → ts ≡ get_or tss o ts → out ≡ get_or outs o out → inner' ≡ inner_gates ts → new ≡ now ++ chain k e out x i (start e ts) (rest ts)
+    → now ++ chains k e x i (drop o tss) (drop o outs) ≡ all → new ++ chains k e (x + inner') (i + (inner' + 1)) (drop (o + 1) tss) (drop (o + 1) outs) ≡ all
+chains_more k e x i o inner' tss outs ts out now new all l same ts_is out_is inner_is new_is h =
+    let z : i + (inner' + 1) ≡ suc (i + inner_gates ts) = omega (arith, inner_is) in
+    let one : chains k e x i (drop o tss) (drop o outs) ≡ chain k e out x i (start e ts) (rest ts) ++ chains k e (x + inner_gates ts) (suc (i + inner_gates ts)) (drop (suc o) tss) (drop (suc o) outs) =
+    ap₂ (chains k e x i) (drop-cons tss o ts l ∙ ap (λ t. t ∷ drop (suc o) tss) (sym ts_is)) (drop-cons outs o out (omega (arith, same)) ∙ ap (λ t. t ∷ drop (suc o) outs) (sym out_is)) in
+    rw (new_is, z, inner_is, add-one o) (append_assoc now (chain k e out x i (start e ts) (rest ts)) _ ∙ sym (ap (λ rest'. now ++ rest') one) ∙ h)
+
+pub ends_more : (e : Terms) (i o inner' : ℕ) (tss : List (List Set)) (ts : List Set) (now new all : List ℕ) → o < length tss → ts ≡ get_or tss o ts → inner' ≡ inner_gates ts → new ≡ now ++ (e.polarity.n + 1 + (i + inner')) ∷ []
+    → now ++ ends e i (drop o tss) ≡ all → new ++ ends e (i + (inner' + 1)) (drop (o + 1) tss) ≡ all
+ends_more e i o inner' tss ts now new all l ts_is inner_is new_is h =
+    let z : i + (inner' + 1) ≡ suc (i + inner_gates ts) = omega (arith, inner_is) in
+    let y : e.polarity.n + 1 + (i + inner') ≡ lines e + (i + inner_gates ts) = omega (arith, inner_is) in
+    let one : ends e i (drop o tss) ≡ (lines e + (i + inner_gates ts)) ∷ ends e (suc (i + inner_gates ts)) (drop (suc o) tss) =
+    ap (ends e i) (drop-cons tss o ts l ∙ ap (λ t. t ∷ drop (suc o) tss) (sym ts_is)) in
+    rw (new_is, y, z, add-one o) (append_assoc now ((lines e + (i + inner_gates ts)) ∷ []) _ ∙ sym (ap (λ rest'. now ++ rest') one) ∙ h)
+
+pub inner_more : (o inner' : ℕ) (tss : List (List Set)) (ts : List Set) → o < length tss → ts ≡ get_or tss o ts → inner' ≡ inner_gates ts → all_inner (drop o tss) ≡ inner' + all_inner (drop (o + 1) tss)
+inner_more o inner' tss ts l ts_is inner_is =
+    rw (inner_is, add-one o) (ap all_inner (drop-cons tss o ts l ∙ ap (λ t. t ∷ drop (suc o) tss) (sym ts_is)))
+
+length_at_le : (tss : List (List Set)) (o : ℕ) (d : List Set) → o < length tss → length (get_or tss o d) ≤ length (flat_map (λ ts. ts) tss)
+length_at_le [] o d l = absurd (omega (arith, l))
+length_at_le (ts ∷ tss) zero d l = omega (arith, length-append ts (flat_map (λ us. us) tss))
+length_at_le (ts ∷ tss) (suc o) d l = omega (arith, length-append ts (flat_map (λ us. us) tss), length_at_le tss o d (omega (arith, l)))
+
+pub length_le_cost : (e : Terms) (o : ℕ) (ts : List Set) → o < length e.outs → ts ≡ get_or e.outs o ts → length ts ≤ cost e
+length_le_cost e o ts l ts_is = omega (arith, ap length ts_is, length_at_le e.outs o ts l, length-flat_map (λ (us : List Set). us) e.outs)
+
+-- the numbers of one output's step are small
+pub record Small (x i length_ts : ℕ) : Type 0 where
+  pub inner : x + length_ts ≤ GATES
+  pub places : i + length_ts ≤ GATES
+
+pub small_numbers : (e : Terms) (outs : List (List Set)) (x i o place : ℕ) (ts : List Set) → outs ≡ e.outs → x + all_inner (drop o outs) ≡ all_inner outs → i ≡ place + (x + o) → o < length outs → length outs ≤ NET_LINES → place ≤ NET_LINES + 1 + REDDY_TERMS → cost e ≤ REDDY_TERMS
+    → ts ≡ get_or outs o ts → Small x i (length ts)
+small_numbers e outs x i o place ts outs_is inner places l few low cheap ts_is =
+    let all : all_inner outs ≤ cost e = omega (arith, few_of_all e, ap all_inner outs_is) in
+    let at : length ts ≤ cost e = length_le_cost e o ts (omega (arith, l, ap length outs_is)) (ts_is ∙ ap (λ (tss : List (List Set)). get_or tss o ts) outs_is) in
+    record { inner = omega arith; places = omega arith }
+
+pub inner_small : (ts : List Set) → inner_gates ts ≤ length ts
+inner_small ts = omega (arith, length_rest_le ts)

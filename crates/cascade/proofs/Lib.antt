@@ -1,0 +1,10 @@
+pub mod Lists
+pub mod Values
+pub mod Law
+pub mod NamesApart
+pub mod GatesValid
+pub mod Valid
+pub mod Ports
+pub mod CodeLemmas
+pub mod CodeBounds
+pub mod VectorLemmas

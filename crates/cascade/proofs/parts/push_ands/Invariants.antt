@@ -1,0 +1,12 @@
+use Rattle.std.proofs.Common.{◌≡◌, ◌+◌, ◌++◌, suc, drop, map}
+use Rattle.std.specs.Prelude.{codes}
+use Rattle.std.specs.Fmt.{decimal}
+use Rattle.ae_base.specs.Mask.{members}
+use Rattle.ae_net.specs.Gates.{and_gate}
+use Rattle.ae_net.specs.Names.{inner}
+use Rattle.cascade.specs.Reddy.{gates_for, literal_signal}
+use Rattle.cascade.proofs.parts.push_ands.Given as goal
+
+abbrev pub invariant-loop-i : goal.invariant-loop-i
+invariant-loop-i l = l.gates ++ gates_for (λ i t. and_gate (inner l.plan.lead (codes "t" ++ decimal (suc i))) (map (literal_signal l.e) (members t))) (0 + l.i) (drop l.i l.plan.wide.items)
+    ≡ l.initial.gates ++ gates_for (λ i t. and_gate (inner l.plan.lead (codes "t" ++ decimal (suc i))) (map (literal_signal l.e) (members t))) 0 l.plan.wide.items

@@ -1,0 +1,26 @@
+-- What the builder works out before it makes the gates. For its private contracts alone.
+use Rattle.std.specs.Prelude.{◌≡◌, ℕ, ◌+◌, ◌≤◌, true, List, length, All}
+use Rattle.ae_base.specs.declared.limits.TheConstants.{NET_LINES, SOURCE_NAME_BYTES}
+use Rattle.ae_base.specs.Mask.{Set, inside, first}
+use Rattle.expansion.specs.Terms.{Terms, IsTerms}
+use Rattle.cascade.specs.declared.limits.TheConstants.{REDDY_TERMS}
+use Rattle.cascade.specs.declared.signals.Plan.{Plan}
+use Rattle.cascade.specs.Reddy.{turned, wide_terms, and_place}
+
+-- the parts of the network that the plan names are those of the expansions, and few enough
+pub record IsPlan (plan : Plan) (e : Terms) : Type 0 where
+  pub terms : IsTerms e
+  pub short : plan.lead ≤ SOURCE_NAME_BYTES + 1
+  pub few_inputs : e.polarity.n ≤ NET_LINES
+  pub turned : plan.turned.items ≡ turned e
+  pub each_turned : All (λ j. j ≤ NET_LINES) plan.turned.items
+  pub few_turned : length plan.turned.items ≤ NET_LINES
+  pub wide : plan.wide.items ≡ wide_terms e
+  pub each_wide : All (λ t. inside t (first e.polarity.n) ≡ true) plan.wide.items
+  pub few_wide : length plan.wide.items ≤ REDDY_TERMS
+  pub ands : plan.ands ≡ and_place e
+  pub low : plan.ands ≤ NET_LINES + 1
+
+-- the terms are over the inputs of the expansions
+abbrev pub AreOver : Terms → List Set → Type 0
+AreOver e ts = All (λ t. inside t (first e.polarity.n) ≡ true) ts

@@ -1,0 +1,15 @@
+//! The Reddy network: an AND-EXOR cascade with a control input, of expansions at any polarity.
+#![tactic(auto)]
+
+mod build;
+mod laws;
+mod limits;
+mod parts;
+mod signals;
+mod terms;
+mod vectors;
+
+pub use build::reddy;
+pub use laws::reddy_law;
+pub use limits::REDDY_TERMS;
+pub use vectors::first_vectors;

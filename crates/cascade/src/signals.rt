@@ -1,0 +1,112 @@
+//! The signals of literals, of terms and of the starts of chains.
+ghost use Rattle.std.specs.Prelude.{◌≡◌, ◌≤◌, true, length, slice_index};
+ghost use Rattle.ae_base.specs.Mask.{first, inside, members};
+ghost use Rattle.cascade.specs.Reddy as spec;
+ghost use Rattle.cascade.specs.Plan.{IsPlan};
+
+use crate::terms::has_one;
+use ae_base::{Mask, Term};
+use expansion::Expansion;
+
+/// What is worked out before the gates are made.
+#[derive(Drop)]
+pub struct Plan {
+    /// The number of underscores that inner names begin with.
+    pub lead: u32,
+    /// The inputs that have an inverter, in order.
+    pub turned: Vec<u32>,
+    /// The terms that have an AND gate, in order.
+    pub wide: Vec<Term>,
+    /// The place of the first AND gate.
+    pub ands: u32,
+}
+
+/// The place of a number in a list, or the list's length.
+#[tactic(auto, using(crate::proofs::CodeLemmas::place_found, crate::proofs::CodeLemmas::place_on))]
+fn place_of(list: &[u32], x: u32) -> usize
+    ensures place { result ≡ spec.place_of list.now x }
+    ensures within { result ≤ length list.now }
+{
+    for (i, y) in list.iter().enumerate() {
+        if *y == x {
+            return i;
+        }
+    }
+    list.len()
+}
+
+/// The place of a term in a list, or the list's length.
+#[tactic(auto, using(crate::proofs::CodeLemmas::place_found, crate::proofs::CodeLemmas::place_on))]
+fn place_of_term(list: &[Term], t: Term) -> usize
+    ensures place { result ≡ spec.place_of list.now t }
+    ensures within { result ≤ length list.now }
+{
+    for (i, u) in list.iter().enumerate() {
+        if *u == t {
+            return i;
+        }
+    }
+    list.len()
+}
+
+/// The signal of the literal of an input.
+#[tactic(auto, unfolding(crate::specs::Reddy::literal_signal))]
+pub fn literal_signal(plan: &Plan, e: &Expansion, j: u32) -> u32
+    requires { IsPlan plan.now e.now }
+    ensures { result ≡ spec.literal_signal e.now j }
+{
+    let polarity = e.polarity();
+    if polarity.plain.has(j) {
+        j
+    } else {
+        polarity.n + 1 + place_of(&plan.turned, j) as u32
+    }
+}
+
+/// The first member of a term over n inputs, or 0.
+#[tactic(auto, using(crate::proofs::CodeLemmas::filter_range_more, crate::proofs::CodeLemmas::first_found, crate::proofs::CodeLemmas::first_none))]
+fn first_member(t: Term, n: u32) -> u32
+    requires { inside t (first n) ≡ true }
+    ensures { result ≡ slice_index (members t) 0 }
+{
+    for j in 0..n {
+        if t.has(j) {
+            return j;
+        }
+    }
+    0
+}
+
+/// Whether the term has two or more members.
+pub fn is_wide(t: Term) -> bool
+    ensures { result ≡ spec.is_wide t }
+{
+    1 < t.len()
+}
+
+/// The signal of a term.
+#[tactic(auto, unfolding(crate::specs::Reddy::term_signal))]
+pub fn term_signal(plan: &Plan, e: &Expansion, t: Term) -> u32
+    requires plan { IsPlan plan.now e.now }
+    requires below { inside t (first e.now.polarity.n) ≡ true }
+    ensures { result ≡ spec.term_signal e.now t }
+{
+    if is_wide(t) {
+        e.inputs() + 1 + (plan.ands + place_of_term(&plan.wide, t) as u32)
+    } else {
+        literal_signal(plan, e, first_member(t, e.inputs()))
+    }
+}
+
+/// Where the chain of an output starts: at the inverter of the control where the output has the empty term, else at the control.
+#[tactic(auto, unfolding(crate::specs::Reddy::start))]
+pub fn start(plan: &Plan, e: &Expansion, terms: &[Term]) -> u32
+    requires { IsPlan plan.now e.now }
+    ensures { result ≡ spec.start e.now terms.now }
+{
+    if has_one(terms) {
+        e.inputs() + 1 + plan.turned.len() as u32
+    } else {
+        e.inputs()
+    }
+}
