@@ -1,8 +1,8 @@
 -- The default names.
-use Rattle.std.proofs.Common.{◌≡◌, ◌≢◌, ℕ, zero, suc, ◌+◌, ◌-◌, ◌%◌, ◌^◌, ◌<◌, ◌≤◌, Bool, true, false, not, ◌&&◌, eqb, leb, List, [], ◌∷◌, ◌++◌, length, get_or, All, refl, sym, ap, ◌∙◌, subst, inl, inr, ◌⊎◌, arith, mod-lt}
+use Rattle.std.proofs.Common.{◌≡◌, ◌≢◌, ℕ, zero, suc, ◌+◌, ◌-◌, ◌%◌, ◌^◌, ◌<◌, ◌≤◌, Bool, true, false, not, ◌&&◌, eqb, leb, List, [], ◌∷◌, ◌++◌, length, get_or, All, refl, ap, ◌∙◌, inl, inr, ◌⊎◌, arith, mod-lt}
 use Rattle.std.specs.List.{list_all, AllPairs}
 use Rattle.std.specs.Fmt.{decimal}
-use Rattle.std.proofs.lemmas.Bool.{le-leb, leb-true, ne_eqb}
+use Rattle.std.proofs.lemmas.Bool.{le-leb, ne_eqb}
 use Rattle.std.proofs.lemmas.List.{get_or_at, length_push, append-nil, append_assoc}
 use Rattle.std.proofs.lemmas.List.Elements.{All-nil, All-push, All-append}
 use Rattle.std.proofs.lemmas.List.Quantifiers.{all_pairs_push}

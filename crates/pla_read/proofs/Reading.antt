@@ -1,17 +1,16 @@
 -- Reading the rows of a text one by one.
-use Rattle.std.proofs.Common.{◌≡◌, ◌≢◌, ℕ, zero, suc, ◌+◌, ◌<◌, ◌≤◌, Bool, true, false, not, List, [], ◌∷◌, ◌++◌, length, map, All, codes, refl, sym, ap, ap₂, ◌∙◌, subst, arith}
+use Rattle.std.proofs.Common.{◌≡◌, ◌≢◌, ℕ, ◌<◌, ◌≤◌, Bool, true, false, not, List, [], ◌∷◌, ◌++◌, length, All, codes, refl, sym, ap, ap₂, ◌∙◌, subst, arith}
 use Rattle.std.specs.Str.{bytes_eq}
 use Rattle.std.proofs.lemmas.Slice.Eq.{bytes_eq-Decides}
 use Rattle.std.proofs.lemmas.List.{length-map, map-append}
 use Rattle.std.proofs.lemmas.List.Elements.{All-nil, All-head}
 use Rattle.pla_read.specs.declared.narrow.TheConstants.{NARROW_ROWS}
 use Rattle.pla_read.specs.declared.parts.Row.{Row}
-use Rattle.pla_read.specs.Cover.{Table, IsCover}
-use Rattle.pla_read.specs.Narrow.{Line, Form, IsLine, IsFew, IsNarrow, row_of, narrow_text, cover_of, NarrowSays, SaysNothing, default_names}
+use Rattle.pla_read.specs.Cover.{Table}
+use Rattle.pla_read.specs.Narrow.{Line, Form, IsLine, IsNarrow, row_of, narrow_text, cover_of, NarrowSays, SaysNothing, default_names}
 use Rattle.pla_read.specs.declared.parts.Kind.TheVariants.{Fd}
 use Rattle.pla_read.specs.Parts.{number_then, rows_then, ending, HasNumber, HasLine, HasLines, AreRows, SayRows}
 use Rattle.pla_read.proofs.Texts.{Left, left, more_lines, same_number, narrow_parts}
-use Rattle.pla_read.proofs.Rows.{cover_fits}
 
 pub no_rows : (n m : ℕ) (bytes : List ℕ) → SayRows n m bytes [] bytes
 no_rows n m bytes = record { lines = []; has = record { are_lines = All-nil _; text = refl }; rows_are = refl }
@@ -79,8 +78,6 @@ no_lines bytes n rest m after has next none t says =
     let lines : All (IsLine n m) form.rows = subst (λ (k : ℕ). All (IsLine k m) form.rows) (sym ins.0) (subst (λ (k : ℕ). All (IsLine form.inputs k) form.rows) (sym outs.0) says.is_narrow.rows) in
     none form.rows (record { few = says.is_narrow.few; has = record { are_lines = lines; text = outs.1 } })
 
-
-
 pub says_cover : (bytes : List ℕ) (n : ℕ) (rest : List ℕ) (m : ℕ) (after : List ℕ) (rows : List Row) (ins outs : List (List ℕ)) → HasNumber (codes ".i ") bytes n rest → HasNumber (codes ".o ") rest m after
     → (length rows ≤ NARROW_ROWS) × SayRows n m after rows ending → ins ≡ default_names 120 n → outs ≡ default_names 102 m
     → NarrowSays bytes (record { inputs = ins; outputs = outs; kind = Fd; rows = rows })
@@ -93,11 +90,8 @@ says_cover bytes n rest m after rows ins outs has next say is-ins is-outs =
       is_narrow = record { inputs = has.few; outputs = next.few; few = omega (arith, say.0, ap length read.rows_are, length-map read.lines row_of); rows = read.has.are_lines };
       text = has.text ∙ ap (number_then (codes ".i ") n) (next.text ∙ ap (number_then (codes ".o ") m) read.has.text) ∙ sym (narrow_parts form);
       cover_is = ap₂ (λ (i o : List (List ℕ)). let t : Table = record { inputs = i; outputs = o; kind = Fd; rows = rows } in t) is-ins is-outs
-        ∙ ap (λ (rs : List Row). let t : Table = record { inputs = default_names 120 n; outputs = default_names 102 m; kind = Fd; rows = rs } in t) read.rows_are;
+          ∙ ap (λ (rs : List Row). let t : Table = record { inputs = default_names 120 n; outputs = default_names 102 m; kind = Fd; rows = rs } in t) read.rows_are;
     }
-
-pub says_fits : (bytes : List ℕ) (t : Table) → NarrowSays bytes t → IsCover t
-says_fits bytes t says = subst IsCover (sym says.cover_is) (cover_fits says.form says.is_narrow)
 
 -- ---- the test for the ending
 

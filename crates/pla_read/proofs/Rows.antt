@@ -1,16 +1,16 @@
 -- The covers that texts of the narrow form say.
-use Rattle.std.proofs.Common.{◌≡◌, ℕ, ◌+◌, ◌<◌, ◌≤◌, Bool, true, false, ◌&&◌, eqb, ltb, List, [], ◌∷◌, ◌++◌, length, map, All, refl, sym, ap, ◌∙◌, subst, inl, inr, arith}
+use Rattle.std.proofs.Common.{◌≡◌, ℕ, ◌<◌, ◌≤◌, Bool, true, false, ◌&&◌, eqb, ltb, List, length, map, All, refl, sym, ap, ◌∙◌, subst, inr, arith}
 use Rattle.std.specs.Prelude.{slice_index}
-use Rattle.std.specs.List.{AllPairs}
 use Rattle.std.proofs.lemmas.Bool.{eqb-true, ne_eqb, ltb-true}
 use Rattle.std.proofs.lemmas.List.{length-map}
 use Rattle.std.proofs.lemmas.List.Elements.{All-map, All-weaker, All-append}
 use Rattle.ae_base.specs.Mask.{has}
 use Rattle.ae_base.specs.Name.{is_name}
 use Rattle.ae_base.proofs.Sets.{has-where_below}
-use Rattle.pla_read.specs.declared.parts.Row.{Row}
+use Rattle.pla_read.specs.declared.narrow.TheConstants.{NARROW_LINES, NARROW_ROWS}
+use Rattle.pla_read.specs.declared.parts.Kind.TheVariants.{Fd}
 use Rattle.pla_read.specs.Cover.{Table, IsCover, IsRow}
-use Rattle.pla_read.specs.Narrow.{Line, Form, IsLine, IsNarrow, places, row_of, default_names, cover_of}
+use Rattle.pla_read.specs.Narrow.{Line, Form, IsLine, IsNarrow, places, row_of, default_names, cover_of, NarrowSays}
 use Rattle.pla_read.proofs.Defaults.{length-default, all_named, all_distinct}
 
 and_both : (a b : Bool) → (a && b) ≡ true → (a ≡ true) × (b ≡ true)
@@ -57,3 +57,36 @@ cover_fits form is =
       few = omega (arith, length-map form.rows row_of, is.few);
       rows = subst (λ (n : ℕ). All (IsRow n (length (default_names 102 form.outputs))) (map row_of form.rows)) (sym ins) (subst (λ (m : ℕ). All (IsRow form.inputs m) (map row_of form.rows)) (sym outs) rows);
     }
+
+-- ---- what holds of the cover that a text says
+
+-- what holds of the cover of each form of the narrow form
+of_form : (P : Table → Type 0) → ((form : Form) → IsNarrow form → P (cover_of form)) → (bytes : List ℕ) (t : Table) → NarrowSays bytes t → P t
+of_form P holds bytes t says = subst P (sym says.cover_is) (holds says.form says.is_narrow)
+
+pub says_fits : (bytes : List ℕ) (t : Table) → NarrowSays bytes t → IsCover t
+says_fits = of_form IsCover cover_fits
+
+pub few_inputs : (bytes : List ℕ) (t : Table) → NarrowSays bytes t → length t.inputs ≤ NARROW_LINES
+unfolding cover_of
+few_inputs = of_form (λ t. length t.inputs ≤ NARROW_LINES) (λ form is. omega (arith, length-default 120 form.inputs, is.inputs.1))
+
+pub few_outputs : (bytes : List ℕ) (t : Table) → NarrowSays bytes t → length t.outputs ≤ NARROW_LINES
+unfolding cover_of
+few_outputs = of_form (λ t. length t.outputs ≤ NARROW_LINES) (λ form is. omega (arith, length-default 102 form.outputs, is.outputs.1))
+
+pub few_rows : (bytes : List ℕ) (t : Table) → NarrowSays bytes t → length t.rows ≤ NARROW_ROWS
+unfolding cover_of
+few_rows = of_form (λ t. length t.rows ≤ NARROW_ROWS) (λ form is. omega (arith, length-map form.rows row_of, is.few))
+
+pub input_names : (bytes : List ℕ) (t : Table) → NarrowSays bytes t → t.inputs ≡ default_names 120 (length t.inputs)
+unfolding cover_of
+input_names = of_form (λ t. t.inputs ≡ default_names 120 (length t.inputs)) (λ form is. ap (default_names 120) (sym (length-default 120 form.inputs)))
+
+pub output_names : (bytes : List ℕ) (t : Table) → NarrowSays bytes t → t.outputs ≡ default_names 102 (length t.outputs)
+unfolding cover_of
+output_names = of_form (λ t. t.outputs ≡ default_names 102 (length t.outputs)) (λ form is. ap (default_names 102) (sym (length-default 102 form.outputs)))
+
+pub kind_of : (bytes : List ℕ) (t : Table) → NarrowSays bytes t → t.kind ≡ Fd
+unfolding cover_of
+kind_of = of_form (λ t. t.kind ≡ Fd) (λ form is. refl)

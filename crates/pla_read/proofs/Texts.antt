@@ -1,15 +1,15 @@
 -- What a text of the narrow form begins with, and what is left after it.
-use Rattle.std.proofs.Common.{◌≡◌, ◌≢◌, ℕ, zero, suc, ◌+◌, ◌-◌, ◌*◌, ◌<◌, ◌≤◌, List, [], ◌∷◌, ◌++◌, length, get_or, drop, map, All, codes, refl, sym, ap, ap₂, ◌∙◌, subst, inl, inr, arith, mul-le-mul}
+use Rattle.std.proofs.Common.{◌≡◌, ◌≢◌, ℕ, ◌+◌, ◌*◌, ◌<◌, ◌≤◌, List, [], ◌∷◌, ◌++◌, length, get_or, drop, map, All, codes, refl, sym, ap, ap₂, ◌∙◌, subst, inl, inr, arith, mul-le-mul}
 use Rattle.std.specs.List.{flat_map}
 use Rattle.std.specs.Fmt.{decimal}
 use Rattle.std.proofs.lemmas.Fmt.{decimal_digit}
 use Rattle.std.proofs.lemmas.List.{append-nil, append_assoc, append_cancel_left, length-append}
-use Rattle.std.proofs.lemmas.List.Elements.{All-nil, All-head, All-tail, All-push}
-use Rattle.ae_base.specs.Text.{text_of, spaced}
+use Rattle.std.proofs.lemmas.List.Elements.{All-head, All-tail, All-push}
+use Rattle.ae_base.specs.Text.{text_of}
 use Rattle.pla_read.specs.Cover.{Table}
 use Rattle.pla_read.specs.Narrow.{Line, Form, IsInput, IsOutput, IsLine, IsFew, IsNarrow, narrow_text, cover_of, NarrowSays}
 use Rattle.pla_read.specs.declared.narrow.TheConstants.{NARROW_ROWS, NARROW_BYTES}
-use Rattle.pla_read.specs.Parts.{number_then, line_then, rows_then, ending, HasNumber, HasLine, HasLines, AreRows}
+use Rattle.pla_read.specs.Parts.{number_then, line_then, rows_then, ending, HasNumber, HasLine, HasLines}
 
 -- equal lists have equal fronts of one length, and equal rests
 pub same_front : {X : Type 0} (xs ys us vs : List X) → length xs ≡ length ys → xs ++ us ≡ ys ++ vs → (xs ≡ ys) × (us ≡ vs)
@@ -31,14 +31,11 @@ pub number_text : (header : List ℕ) (n : ℕ) (rest : List ℕ) → IsFew n �
 unfolding number_then
 number_text header n rest few = ap (λ (ds : List ℕ). header ++ (ds ++ 10 ∷ rest)) (digit_of n few)
 
-pub number_found : (header bytes after : List ℕ) → bytes ≡ header ++ after → 49 ≤ get_or after 0 0 → get_or after 0 0 ≤ 56 → get_or after 1 0 ≡ 10
-    → HasNumber header bytes (get_or after 0 0 - 48) (drop 2 after)
-number_found header bytes [] e low high end = absurd (omega arith)
-number_found header bytes (b ∷ []) e low high end = absurd (omega arith)
-number_found header bytes (b ∷ c ∷ rest) e low high end =
-    let few : IsFew (b - 48) = (omega arith, omega arith) in
-    let digit : b ≡ 48 + (b - 48) = omega arith in
-    record { few = few; text = e ∙ ap₂ (λ (x y : ℕ). header ++ (x ∷ y ∷ rest)) digit end ∙ sym (number_text header (b - 48) rest few) }
+pub number_found : (header bytes after : List ℕ) (n : ℕ) → bytes ≡ header ++ after → IsFew n → get_or after 0 0 ≡ 48 + n → get_or after 1 0 ≡ 10 → HasNumber header bytes n (drop 2 after)
+number_found header bytes [] n e few digit end = absurd (omega arith)
+number_found header bytes (b ∷ []) n e few digit end = absurd (omega arith)
+number_found header bytes (b ∷ c ∷ rest) n e few digit end =
+    record { few = few; text = e ∙ ap₂ (λ (x y : ℕ). header ++ (x ∷ y ∷ rest)) digit end ∙ sym (number_text header n rest few) }
 
 pub no_number : (header bytes : List ℕ) → ((rest : List ℕ) → bytes ≢ header ++ rest) → (n : ℕ) (rest : List ℕ) → HasNumber header bytes n rest → ⊥
 no_number header bytes none n rest has = none ((48 + n) ∷ 10 ∷ rest) (has.text ∙ number_text header n rest has.few)
@@ -181,7 +178,6 @@ same_narrow f g hf hg e =
 
 pub one_cover : (bytes : List ℕ) (t u : Table) → NarrowSays bytes t → NarrowSays bytes u → t ≡ u
 one_cover bytes t u a b = a.cover_is ∙ ap cover_of (same_narrow a.form b.form a.is_narrow b.is_narrow (sym a.text ∙ b.text)) ∙ sym b.cover_is
-
 
 -- ---- how long it is
 

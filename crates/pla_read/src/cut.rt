@@ -1,14 +1,27 @@
 //! Cuts a text of the narrow form into its parts.
-ghost use Rattle.std.specs.Prelude.{◌≡◌, ℕ, ◌↔◌, IsTrue, List, ◌∷◌, ◌++◌, length, All, MatchOption};
-ghost use Rattle.pla_read.specs.Narrow.{Line, IsInput, IsOutput};
+ghost use Rattle.std.specs.Prelude.{◌≡◌, ℕ, ◌+◌, ◌↔◌, IsTrue, List, ◌∷◌, ◌++◌, length, All, MatchOption};
+ghost use Rattle.pla_read.specs.Narrow.{Line, IsFew, IsInput, IsOutput};
 ghost use Rattle.pla_read.specs.Parts.{HasNumber, HasLine};
+
+use crate::narrow::NARROW_LINES;
+
+/// The number of a digit from 1 to `NARROW_LINES`.
+fn number(digit: u8) -> Option<usize>
+    ensures { MatchOption result ((n : ℕ) → IsFew n → digit ≡ 48 + n → ⊥) (λ n. IsFew n × (digit ≡ 48 + n)) }
+{
+    let n = usize::from(digit.checked_sub(b'0')?);
+    if n == 0 || NARROW_LINES < n {
+        return None;
+    }
+    Some(n)
+}
 
 /// The number from 1 to `NARROW_LINES` of a line that begins with `header`, and what follows the line.
 pub fn number_line<'a>(bytes: &'a [u8], header: &[u8]) -> Option<(usize, &'a [u8])>
     ensures { MatchOption result ((n : ℕ) (rest : List ℕ) → HasNumber header.now bytes.now n rest → ⊥) (λ found. HasNumber header.now bytes.now found.0 found.1.now) }
 {
     match bytes.strip_prefix(header)? {
-        [digit @ b'1'..=b'8', b'\n', rest @ ..] => Some((usize::from(*digit - b'0'), rest)),
+        [digit, b'\n', rest @ ..] => Some((number(*digit)?, rest)),
         _ => None,
     }
 }

@@ -12,3 +12,6 @@ pub use cover::{Cover, PLA_ROWS};
 pub use laws::narrow_laws;
 pub use narrow::{NARROW_BYTES, NARROW_LINES, NARROW_ROWS, read_narrow};
 pub use parts::{Kind, Mark, Row};
+
+#[cfg(test)]
+mod tests;

@@ -2,25 +2,29 @@
 
 use ae_base::{Cube, Seq};
 
-/// What a cover specifies at the points that no row with `One` holds.
+/// What a cover specifies at a point that no row with `One` holds.
 #[derive(Clone, Copy, Debug, PartialEq, Eq)]
 pub enum Kind {
-    /// Off everywhere.
+    /// Off.
     F,
-    /// Free where a row with `Dash` holds the point, else Off.
+    /// Free where some row with `Dash` holds it, else Off.
     Fd,
-    /// Off where a row with `Zero` holds the point, else Free.
+    /// Off where some row with `Zero` holds it, else Free.
     Fr,
-    /// As `Fr`; a row with `Dash` says that it leaves its points Free.
+    /// Off where some row with `Zero` holds it, else Free.
     Fdr,
 }
 
-/// What a row says of an output.
+/// What a row says of an output at the points that it holds.
 #[derive(Clone, Copy, Debug, PartialEq, Eq)]
 pub enum Mark {
+    /// On.
     One,
+    /// Off, in the kinds `Fr` and `Fdr`; nothing in the others.
     Zero,
+    /// Free, in the kinds `Fd` and `Fdr`; nothing in the others.
     Dash,
+    /// Nothing.
     Void,
 }
 

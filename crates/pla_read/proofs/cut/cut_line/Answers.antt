@@ -17,6 +17,6 @@ pub returns-else-are_inputs : goal.returns-else-are_inputs
 returns-else-are_inputs c = λ line rest has.
     let only = only_line _ _ _ _ c.in_ok-ins.rest.now _ _ c.in_ok-ins.ensures.0 c.in_ok-ins.ensures.1 c.in_ok-outs.ensures.0 c.in_ok-outs.ensures.1 line rest has in
     elim c.else-are_inputs.branch [
-      else-are_inputs-via-then-are_inputs+else-are_outputs w ↦ let yes = w.are_outputs.ensures.1 only.1 in cc (yes, w.if-are_outputs.false)
-    | else-are_inputs-via-else-are_inputs w ↦ let yes = c.are_inputs.ensures.1 only.0 in cc (yes, w.if-are_inputs.false)
+      | else-are_inputs-via-then-are_inputs+else-are_outputs w ↦ let yes = w.are_outputs.ensures.1 only.1 in cc (yes, w.if-are_outputs.false)
+      | else-are_inputs-via-else-are_inputs w ↦ let yes = c.are_inputs.ensures.1 only.0 in cc (yes, w.if-are_inputs.false)
     ]

@@ -1,6 +1,5 @@
-use Rattle.std.proofs.Common.{length, ◌≤◌, List, ◌∷◌}
-use Rattle.pla_read.specs.Narrow.{NarrowSays}
-use Rattle.pla_read.proofs.Reading.{no_inputs_line, no_outputs_line, no_lines, says_cover, says_fits}
+use Rattle.pla_read.proofs.Reading.{no_inputs_line, no_outputs_line, no_lines, says_cover}
+use Rattle.pla_read.proofs.Rows.{says_fits}
 use Rattle.pla_read.proofs.narrow.read_narrow.Goals as goal
 
 pub returns-in_default : goal.returns-in_default

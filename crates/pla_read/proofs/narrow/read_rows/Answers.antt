@@ -14,16 +14,14 @@ returns-in_default c =
 
 pub loop-rest-preserved : goal.loop-rest-preserved
 loop-rest-preserved c =
-    let pushed = c.in_ok-push.ensures.ok in
-    (
+    let pushed = c.in_ok-push.ensures.ok in (
       omega (arith, ap length pushed, length_push c.loop-rest.rows c.in_ok-row_of.field-0),
       subst (λ rows. SayRows c.args.inputs c.args.outputs c.args.bytes.now rows c.in-Some.after.now) (sym pushed)
-      (more_rows _ _ _ _ _ _ _ _ c.loop-rest.invariant.1 c.in-Some.ensures c.in_ok-row_of.ensures),
+          (more_rows _ _ _ _ _ _ _ _ c.loop-rest.invariant.1 c.in-Some.ensures c.in_ok-row_of.ensures),
     )
 
 pub returns : goal.returns
-returns c =
-    (
-      c.loop-rest.invariant.0,
-      subst (SayRows c.args.inputs c.args.outputs c.args.bytes.now c.loop-rest.rows) (has_ended _ _ c.as_slice.ensures (sym c.ne.ensures ∙ c.loop-rest-test.false)) c.loop-rest.invariant.1,
-    )
+returns c = (
+  c.loop-rest.invariant.0,
+  subst (SayRows c.args.inputs c.args.outputs c.args.bytes.now c.loop-rest.rows) (has_ended _ _ c.as_slice.ensures (sym c.ne.ensures ∙ c.loop-rest-test.false)) c.loop-rest.invariant.1,
+)
