@@ -1,2 +1,3 @@
 pub mod Lists
 pub mod Cancel
+pub mod Coefficients
