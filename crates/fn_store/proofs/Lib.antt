@@ -5,3 +5,4 @@ pub mod Products
 pub mod Expansions
 pub mod Exists
 pub mod Uses
+pub mod CubeSteps
