@@ -1,18 +1,19 @@
 -- Comparing the texts of two products: what they have at the least input at which they differ decides.
 use Rattle.std.proofs.Common.{Bool, Equal, Greater, Less, List, [], ap, ap₂, arith, cond, false, inl, inr, refl, sym, true, zero, suc, nat_cmp, ℕ, ◌+◌, ◌<◌, ◌||◌, ◌∙◌, ◌∷◌, ◌≡◌, ◌≢◌, ◌≤◌}
-use Rattle.std.specs.Prelude.{map, Some}
+use Rattle.std.specs.Prelude.{map, Option, Some, None}
+use Rattle.std.proofs.lemmas.Map.Lookups.{exact_unsigned}
 use Rattle.std.specs.declared.cmp.Ordering.{Ordering}
 use Rattle.std.specs.Ordering.{ordering_then}
-use Rattle.std.specs.Cmp.{nat_cmp_is, tied_itself}
+use Rattle.std.specs.Cmp.{IsTotalOrder, nat_cmp_is, on_total, tied_itself}
 use Rattle.std.specs.Cmp.Lexicographic.{slice_cmp, nat_list_cmp_total}
 use Rattle.std.specs.List.{range_with_len}
-use Rattle.std.proofs.lemmas.Bool.{cases_eq, cases_order, false≢true}
+use Rattle.std.proofs.lemmas.Bool.{cases_eq, cases_lt, cases_order, false≢true}
 use Rattle.ae_base.specs.declared.limits.TheConstants.{WIDTH}
 use Rattle.ae_base.specs.Mask.{Set, differ, has, xor, either, least}
-use Rattle.ae_base.specs.Cube.{Product, IsProduct}
+use Rattle.ae_base.specs.Cube.{Product, IsProduct, IsOver}
 use Rattle.ae_base.specs.Text.{literal_text, cube_text, cmp_text}
-use Rattle.ae_base.proofs.Sets.{has-xor, has-either}
-use Rattle.ae_base.proofs.Members.{least-is, differ_false}
+use Rattle.ae_base.proofs.Sets.{same_set, has-xor, has-either}
+use Rattle.ae_base.proofs.Members.{least-is, least-empty, outside_first, differ_false}
 
 map_same : (f g : ℕ → ℕ) (xs : List ℕ) → ((k : ℕ) → f k ≡ g k) → map f xs ≡ map g xs
 map_same f g [] same = refl
@@ -73,6 +74,10 @@ other_literal : (c d : Product) (k : ℕ) → IsProduct c → IsProduct d → ha
 unfolding byte
 other_literal c d k p q h = other_byte (has c.pos k) (has c.neg k) (has d.pos k) (has d.neg k) (p k) (q k) (sym (has-apart c d k) ∙ h)
 
+pub cmp_text_total : IsTotalOrder cmp_text
+unfolding cmp_text
+cmp_text_total = on_total (cube_text WIDTH) nat_list_cmp_total
+
 pub cmp_text-same : (c d : Product) → ((k : ℕ) → has (apart_at c d) k ≡ false) → cmp_text c d ≡ Equal
 unfolding cmp_text
 cmp_text-same c d none =
@@ -84,3 +89,29 @@ unfolding cmp_text
 cmp_text-apart c d j p q l e =
     let first = least-is (apart_at c d) j e in
     first_apart (literal_text c) (literal_text d) WIDTH 0 j (omega arith) (omega (arith, l)) (λ k m. same_literal c d k (first.1 k m)) (other_literal c d j p q first.0)
+
+-- ---- products with the same text are equal
+
+not_apart_above : (n : ℕ) (c d : Product) → IsOver n c → IsOver n d → (k : ℕ) → n ≤ k → has (apart_at c d) k ≡ false
+not_apart_above n c d a b k l =
+    has-apart c d k
+    ∙ ap₂ (λ p q. p || q) (ap₂ differ (outside_first n c.pos a.1 k l) (outside_first n d.pos b.1 k l)) (ap₂ differ (outside_first n c.neg a.2 k l) (outside_first n d.neg b.2 k l))
+
+same_product : (c d : Product) → ((k : ℕ) → has (apart_at c d) k ≡ false) → c ≡ d
+same_product c d none =
+    ap₂ (λ (s t : Set). let r : Product = record { pos = s; neg = t } in r) (same_set c.pos d.pos (λ k. differ_false _ _ (each k).0)) (same_set c.neg d.neg (λ k. differ_false _ _ (each k).1))
+  where
+    each : (k : ℕ) → (differ (has c.pos k) (has d.pos k) ≡ false) × (differ (has c.neg k) (has d.neg k) ≡ false)
+    each k = no_or _ _ (sym (has-apart c d k) ∙ none k)
+
+pub cmp_text-equal : (n : ℕ) (c d : Product) → n ≤ WIDTH → IsOver n c → IsOver n d → cmp_text c d ≡ Equal → c ≡ d
+cmp_text-equal n c d small a b e = by_least (least (apart_at c d)) refl
+  where
+    by_least : (o : Option ℕ) → least (apart_at c d) ≡ o → c ≡ d
+    by_least None f = same_product c d (least-empty (apart_at c d) f)
+    by_least (Some j) f =
+        let there = (least-is (apart_at c d) j f).0 in
+        elim (cases_lt j n) [
+          | inl l ↦ absurd (other_literal c d j a.0 b.0 there (exact_unsigned _ _ (sym (cmp_text-apart c d j a.0 b.0 (omega (arith, l, small)) f) ∙ e)))
+          | inr l ↦ absurd (false≢true (sym (not_apart_above n c d a b j l) ∙ there))
+        ]

@@ -10,7 +10,7 @@ mod name;
 mod seq;
 
 pub use cube::{Cube, Point, Polarity, Term};
-pub use laws::set_laws;
+pub use laws::{cube_laws, member_laws, order_laws, set_laws};
 pub use limits::{
     GATES, NAME_BYTES, NET_LINES, PINS, SOURCE_LINES, SOURCE_NAME_BYTES, WIDTH, WRITTEN_LINES,
 };

@@ -1,4 +1,4 @@
-//! A set of small numbers.
+//! A set of small numbers: the inputs that are 1 at a point, or the members of a term.
 ghost use Rattle.std.specs.Prelude.{◌≡◌, ◌<◌, ◌≤◌, IfSome};
 ghost use Rattle.ae_base.specs.Mask as set;
 
@@ -6,7 +6,9 @@ use crate::limits::WIDTH;
 use std::cmp::Ordering;
 use std::marker::Model;
 
-/// A set of numbers below `WIDTH`.
+/// A set of numbers below `WIDTH`. `<` and `sort` put sets in the order of terms (`cmp_terms`).
+///
+/// No call takes memory, and none refuses.
 #[derive(Clone, Copy, Debug, Hash)]
 pub struct Mask {
     bits: u128,
@@ -76,6 +78,7 @@ impl PartialOrd for Mask {
 }
 
 impl Mask {
+    /// The set of no numbers.
     #[tactic(auto, unfolding(crate::specs::Mask::empty))]
     pub fn empty() -> Mask
         ensures { result ≡ set.empty }
@@ -83,8 +86,8 @@ impl Mask {
         Mask { bits: 0 }
     }
 
-    #[tactic(auto, unfolding(crate::specs::Mask::first))]
     /// The numbers below `n`.
+    #[tactic(auto, unfolding(crate::specs::Mask::first))]
     pub fn first(n: u32) -> Mask
         requires { n ≤ WIDTH }
         ensures { result ≡ set.first n }
@@ -96,6 +99,7 @@ impl Mask {
         }
     }
 
+    /// The set with `j` as a member.
     #[tactic(auto, unfolding(crate::specs::Mask::with))]
     pub fn with(self, j: u32) -> Mask
         requires { j < WIDTH }
@@ -106,6 +110,7 @@ impl Mask {
         }
     }
 
+    /// The set without `j`.
     pub fn without(self, j: u32) -> Mask
         requires { j < WIDTH }
         ensures { result ≡ set.without self j }
@@ -115,6 +120,7 @@ impl Mask {
         }
     }
 
+    /// Whether `j` is a member. It is not for `j` from `WIDTH` on.
     #[tactic(auto, using(crate::proofs::Members::has_above), unfolding(crate::specs::Mask::has))]
     pub fn has(self, j: u32) -> bool
         ensures { result ≡ set.has self j }
@@ -123,6 +129,7 @@ impl Mask {
         j < WIDTH && (bits >> j) & 1 == 1
     }
 
+    /// The intersection.
     #[tactic(auto, unfolding(crate::specs::Mask::both))]
     pub fn both(self, other: Mask) -> Mask
         ensures { result ≡ set.both self other }
@@ -132,6 +139,7 @@ impl Mask {
         }
     }
 
+    /// The union.
     #[tactic(auto, unfolding(crate::specs::Mask::either))]
     pub fn or(self, other: Mask) -> Mask
         ensures { result ≡ set.either self other }
@@ -141,6 +149,7 @@ impl Mask {
         }
     }
 
+    /// The symmetric difference.
     #[tactic(auto, unfolding(crate::specs::Mask::xor))]
     pub fn xor(self, other: Mask) -> Mask
         ensures { result ≡ set.xor self other }
@@ -150,6 +159,7 @@ impl Mask {
         }
     }
 
+    /// Whether the set is a subset of `other`.
     #[tactic(auto, unfolding(crate::specs::Mask::inside, crate::specs::Mask::both))]
     pub fn inside(self, other: Mask) -> bool
         ensures { result ≡ set.inside self other }
@@ -169,13 +179,14 @@ impl Mask {
         Some(bits.trailing_zeros())
     }
 
+    /// The number of members.
     pub fn len(self) -> u32
         ensures { result ≡ set.len self }
     {
         self.bits.count_ones()
     }
 
-    /// Fewer members come first. Among equally many, the increasing lists of members are compared lexicographically.
+    /// The order of terms: fewer members come first. Among equally many, the increasing lists of members are compared lexicographically.
     pub fn cmp_terms(self, other: Mask) -> Ordering
         ensures { result ≡ set.cmp_terms self other }
     {
