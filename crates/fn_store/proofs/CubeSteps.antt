@@ -1,19 +1,26 @@
 -- The steps from cubes to an expansion.
-use Rattle.std.proofs.Common.{◌≡◌, ◌≢◌, ℕ, zero, suc, ◌+◌, ◌<◌, ◌≤◌, Bool, true, false, not, ◌&&◌, ◌||◌, cond, inl, inr, List, [], ◌∷◌, take, refl, sym, ap, ap₂, ◌∙◌, eqb, arith, add-one}
-use Rattle.std.specs.Prelude.{All}
+use Rattle.std.proofs.Common.{◌≡◌, ◌≢◌, ℕ, zero, suc, ◌+◌, ◌<◌, ◌≤◌, Bool, true, false, not, ◌&&◌, ◌||◌, cond, inl, inr, List, [], ◌∷◌, take, length, get_or, refl, sym, ap, ap₂, ◌∙◌, eqb, arith, add-one}
+use mathlib.Core.Bool.{beq}
+use Rattle.std.specs.Prelude.{Result, Ok, Err, IfOk}
 use Rattle.std.specs.List.{list_any, list_all, AllByRecursion}
 use Rattle.std.proofs.lemmas.Bool.{cases_eq, cases_lt, cases_Bool, false≢true, and_parts, and_from}
 use Rattle.std.proofs.lemmas.List.Elements.{All-from_recursion}
+use Rattle.std.proofs.lemmas.List.Folds.{list_any_more}
 use Rattle.ae_base.specs.Mask.{Set, differ, has, empty, first, with, both, inside, len}
-use Rattle.ae_base.specs.Cube.{Signs, Product, holds}
+use Rattle.ae_base.specs.Cube.{Signs, Product, IsOver, holds}
 use Rattle.ae_base.specs.Terms.{IsPoint, IsInOrder, literal, product, exor_of, value}
-use Rattle.ae_base.proofs.Sets.{has-both, has-empty, inside-has, has-inside}
+use Rattle.ae_base.proofs.Sets.{has-empty}
+use Rattle.ae_base.proofs.Products.{holds-has, has-holds}
 use Rattle.fn_store.specs.Davio.{IsExpansion}
-use Rattle.fn_store.specs.Cubes.{IsOver, some_holds}
+use Rattle.fn_store.specs.Cubes.{some_holds}
 use Rattle.fn_store.specs.Scratch.{Means, is_at, are_all}
 use Rattle.fn_store.proofs.Lists.{same_truth, from_Ordered, and-differ}
 use Rattle.fn_store.proofs.Products.{inside-below, inside-from, inside-put, product-with, product-empty}
 use Rattle.fn_store.proofs.Expansions.{only}
+
+pub three-ok : {T E : Type 0} (r : Result T E) (P Q R S : T → Type 0) → IfOk r P → IfOk r Q → IfOk r R → ((x : T) → P x → Q x → R x → S x) → IfOk r S
+three-ok (Ok x) P Q R S p q s f = f x p q s
+three-ok (Err e) P Q R S p q s f = tt
 
 -- ---- lists that mean a function
 
@@ -89,6 +96,18 @@ literal-other p j plain x ne f = by_values (has p.plain j) plain ne f (has x j)
     by_values false true ne true false = refl
     by_values false true ne false v = refl
 
+pub same-signs : (a b : Bool) → beq a b ≡ true → a ≡ b
+same-signs true true h = refl
+same-signs false false h = refl
+same-signs true false h = absurd (false≢true h)
+same-signs false true h = absurd (false≢true h)
+
+pub other-signs : (a b : Bool) → beq a b ≡ false → a ≢ b
+other-signs true true h e = false≢true (sym h)
+other-signs false false h e = false≢true (sym h)
+other-signs true false h e = false≢true (sym e)
+other-signs false true h e = false≢true e
+
 -- ---- several inputs
 
 pub all-start : (f : Bool) (s : Set) (plain : Bool) (x : Set) → f ≡ (f && are_all 0 s plain x)
@@ -110,6 +129,15 @@ all-absent f j s plain x e = rw add-one (rw e (join f (are_all j s plain x)))
     join true false = refl
     join false b = refl
 
+pub Means-there : (p : Signs) (f : Set → Bool) (j : ℕ) (s : Set) (plain : Bool) (read ts us : List Set) → has s j ≡ true → read ≡ ts
+    → ((g : Set → Bool) → Means p g read → Means p (λ x. g x && is_at plain (has x j)) us) → Means p (λ x. f x && are_all j s plain x) ts → Means p (λ x. f x && are_all (j + 1) s plain x) us
+Means-there p f j s plain read ts us e r step m =
+    Means-agree p (λ x. (f x && are_all j s plain x) && is_at plain (has x j)) (λ x. f x && are_all (j + 1) s plain x) us (λ x. all-there (f x) j s plain x e) (step (λ x. f x && are_all j s plain x) (rw r m))
+
+pub Means-absent : (p : Signs) (f : Set → Bool) (j : ℕ) (s : Set) (plain : Bool) (ts : List Set) → has s j ≡ false
+    → Means p (λ x. f x && are_all j s plain x) ts → Means p (λ x. f x && are_all (j + 1) s plain x) ts
+Means-absent p f j s plain ts e m = Means-agree p (λ x. f x && are_all j s plain x) (λ x. f x && are_all (j + 1) s plain x) ts (λ x. all-absent (f x) j s plain x e) m
+
 -- ---- a cube
 
 all_has : (n : ℕ) (s : Set) (plain : Bool) (x : Set) → are_all n s plain x ≡ true → (j : ℕ) → j < n → has s j ≡ true → is_at plain (has x j) ≡ true
@@ -130,18 +158,16 @@ has_all (suc n) s plain x h = and_from _ _ (has_all n s plain x (λ j l. h j (om
     implies true b h = h refl
     implies false b h = refl
 
-plain_all : (n : ℕ) (s x : Set) → inside s (first n) ≡ true → inside s x ≡ are_all n s true x
-plain_all n s x below =
-    same_truth _ _
-    (λ h. has_all n s true x (λ j l m. inside-has s x h j m))
-    (λ h. has-inside s x (λ j m. all_has n s true x h j (inside-below n s below j m) m))
-
-complemented_all : (n : ℕ) (s x : Set) → inside s (first n) ≡ true → eqb (len (both s x)) 0 ≡ are_all n s false x
-complemented_all n s x below = ?
+no_of : (b : Bool) → not b ≡ true → b ≡ false
+no_of true h = absurd (false≢true h)
+no_of false h = refl
 
 pub holds-all : (n : ℕ) (c : Product) (x : Set) → IsOver n c → holds c x ≡ (are_all n c.pos true x && are_all n c.neg false x)
-unfolding holds
-holds-all n c x over = ap₂ (λ a b. a && b) (plain_all n c.pos x over.0) (complemented_all n c.neg x over.1)
+holds-all n c x over =
+    same_truth _ _
+    (λ h. let each = holds-has c x h in and_from _ _ (has_all n c.pos true x (λ j l m. each.0 j m)) (has_all n c.neg false x (λ j l m. ap not (each.1 j m))))
+    (λ h. let parts = and_parts _ _ h in
+    has-holds c x ((λ j m. all_has n c.pos true x parts.0 j (inside-below n c.pos over.1 j m) m), (λ j m. no_of _ (all_has n c.neg false x parts.1 j (inside-below n c.neg over.2 j m) m))))
 
 pub times-holds : (n : ℕ) (c : Product) (x : Set) (f : Bool) → IsOver n c → ((f && are_all n c.pos true x) && are_all n c.neg false x) ≡ (f && holds c x)
 times-holds n c x f over = join f (are_all n c.pos true x) (are_all n c.neg false x) ∙ ap (λ b. f && b) (sym (holds-all n c x over))
@@ -153,3 +179,20 @@ times-holds n c x f over = join f (are_all n c.pos true x) (are_all n c.neg fals
 pub or-exor : (f c : Bool) → differ f (differ f true && c) ≡ (f || c)
 or-exor true c = refl
 or-exor false c = refl
+
+-- d is the cube as the code reads it
+pub Means-cube : (p : Signs) (f : Set → Bool) (c d : Product) (ts ps us : List Set) → d ≡ c → IsOver p.n c → ((g : Set → Bool) → Means p g ts → Means p (λ x. g x && are_all p.n d.pos true x) ps)
+    → ((g : Set → Bool) → Means p g ps → Means p (λ x. g x && are_all p.n d.neg false x) us) → Means p f ts → Means p (λ x. f x && holds c x) us
+Means-cube p f c d ts ps us e over first_step second_step m =
+    Means-agree p (λ x. (f x && are_all p.n d.pos true x) && are_all p.n d.neg false x) (λ x. f x && holds c x) us
+    (λ x. times-holds p.n d x (f x) (rw e over) ∙ ap (λ (b : Product). f x && holds b x) e)
+    (second_step (λ x. f x && are_all p.n d.pos true x) (first_step f m))
+
+pub Means-or : (p : Signs) (f : Set → Bool) (c : Product) (us : List Set) → Means p (λ x. differ (f x) (differ (f x) true && holds c x)) us → Means p (λ x. f x || holds c x) us
+Means-or p f c us m = Means-agree p (λ x. differ (f x) (differ (f x) true && holds c x)) (λ x. f x || holds c x) us (λ x. or-exor (f x) (holds c x)) m
+
+pub Means-more : (p : Signs) (cubes : List Product) (i : ℕ) (d : Product) (ts : List Set) → i < length cubes → d ≡ get_or cubes i d → Means p (λ x. some_holds (take i cubes) x || holds d x) ts
+    → Means p (some_holds (take (i + 1) cubes)) ts
+Means-more p cubes i d ts l read m =
+    Means-agree p (λ x. some_holds (take i cubes) x || holds d x) (some_holds (take (i + 1) cubes)) ts
+    (λ x. ap (λ (c : Product). some_holds (take i cubes) x || holds c x) read ∙ sym (list_any_more (λ c. holds c x) cubes i d l)) m

@@ -1,8 +1,8 @@
 //! The expansion of a list of cubes.
 ghost use Rattle.std.specs.Prelude.{◌<◌, ◌&&◌, ◌||◌, Bool, IfOk, All};
 ghost use Rattle.ae_base.specs.Mask.{Set, has};
-ghost use Rattle.ae_base.specs.Cube.{holds};
-ghost use Rattle.fn_store.specs.Cubes.{IsOver, some_holds};
+ghost use Rattle.ae_base.specs.Cube.{IsOver, holds};
+ghost use Rattle.fn_store.specs.Cubes.{some_holds};
 ghost use Rattle.fn_store.specs.Davio.{IsExpansion};
 ghost use Rattle.fn_store.specs.Scratch.{Means, is_at, are_all};
 
