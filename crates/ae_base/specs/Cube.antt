@@ -1,5 +1,5 @@
 -- Products of literals, and the signs of inputs.
-use Rattle.std.specs.Prelude.{◌≡◌, ℕ, ◌≤◌, ◌<◌, ◌==◌, Bool, true, false, ◌&&◌}
+use Rattle.std.specs.Prelude.{◌≡◌, ℕ, ◌≤◌, ◌<◌, ◌==◌, Bool, true, false, not, ◌&&◌, if◌then◌else◌}
 use Rattle.ae_base.specs.declared.limits.TheConstants.{NET_LINES}
 use Rattle.ae_base.specs.Mask as set
 use Rattle.ae_base.specs.Mask.{Set}
@@ -19,6 +19,14 @@ IsOver n c = IsProduct c × (set.inside c.pos (set.first n) ≡ true) × (set.in
 
 unfoldable pub whole : Product
 whole = record { pos = set.empty; neg = set.empty }
+
+-- the product has no literal of input j
+abbrev pub is_free : Product → ℕ → Bool
+is_free c j = not (set.has c.pos j) && not (set.has c.neg j)
+
+-- with the literal of input j
+abbrev pub with : Product → ℕ → Bool → Product
+with c j plain = if plain then record c { pos = set.with c.pos j } else record c { neg = set.with c.neg j }
 
 -- each plain literal is 1 at the point, and each complemented one is 0
 unfoldable pub holds : Product → Set → Bool

@@ -8,6 +8,8 @@ mod mask;
 mod memory;
 mod name;
 mod seq;
+#[cfg(test)]
+mod tests;
 
 pub use cube::{Cube, Point, Polarity, Term};
 pub use laws::{cube_laws, member_laws, order_laws, set_laws};
