@@ -99,9 +99,9 @@ used p f ts j is l h =
       | inl e ↦ found p.n f j (sets_below p.n) e
       | inr e ↦
           let fewer : IsExpansion p f (filter (λ t. not (has t j)) ts) =
-            only p f (filter (λ t. not (has t j)) ts)
-            (AllPairs-filter (λ s t. cmp_terms s t ≡ Less) (λ t. not (has t j)) ts is.order)
-            (All-filter (λ t. not (has t j)) (λ t. inside t (first p.n) ≡ true) ts (terms_inside p f ts is))
-            (λ x point. value-kept p ts j x ∙ means p f ts is (low p j x) (inside-put p.n j (not (has p.plain j)) x point l) ∙ put_either f j (not (has p.plain j)) x (none_found p.n f j e x point)) in
+          only p f (filter (λ t. not (has t j)) ts)
+          (AllPairs-filter (λ s t. cmp_terms s t ≡ Less) (λ t. not (has t j)) ts is.order)
+          (All-filter (λ t. not (has t j)) (λ t. inside t (first p.n) ≡ true) ts (terms_inside p f ts is))
+          (λ x point. value-kept p ts j x ∙ means p f ts is (low p j x) (inside-put p.n j (not (has p.plain j)) x point l) ∙ put_either f j (not (has p.plain j)) x (none_found p.n f j e x point)) in
           absurd (false≢true (sym (none_kept j ts) ∙ ap (list_any (λ t. has t j)) (one p f (filter (λ t. not (has t j)) ts) ts fewer is) ∙ h))
     ]

@@ -13,6 +13,6 @@ returns c =
     (λ ts order same keeps f m.
     let one : Means p (λ x. true) (c.empty.result ∷ []) = rw c.empty.ensures (Means-one p) in
     let complement : Means p (λ x. differ (f x) true) c.in_ok-complement.complement.items =
-      Means-exor p f (λ x. true) c.args.terms.now (c.empty.result ∷ []) c.in_ok-complement.complement.items r.order r.same r.keeps m one in
+    Means-exor p f (λ x. true) c.args.terms.now (c.empty.result ∷ []) c.in_ok-complement.complement.items r.order r.same r.keeps m one in
     let rest : Means p (λ x. differ (f x) true && holds c.args.cube x) c.deref.result.now = rw c.deref.ensures.value (c.in_ok-rest.ensures (λ x. differ (f x) true) complement) in
     Means-or p f c.args.cube ts.items (Means-exor p f (λ x. differ (f x) true && holds c.args.cube x) c.args.terms.now c.deref.result.now ts.items order same keeps m rest))

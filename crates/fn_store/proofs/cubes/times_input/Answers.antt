@@ -19,7 +19,7 @@ pub returns-else-has-plain : goal.returns-else-has-plain
 returns-else-has-plain c =
     let r = c.in_ok-product.ensures in
     let ne : has c.args.polarity.plain c.args.j ≢ c.args.plain =
-      λ e. other-signs _ _ c.if-has-plain.false (c.has.ensures ∙ ap (λ p. has p.plain c.args.j) c.polarity.view_is ∙ e) in
+    λ e. other-signs _ _ c.if-has-plain.false (c.has.ensures ∙ ap (λ p. has p.plain c.args.j) c.polarity.view_is ∙ e) in
     three-ok c.exor.result _ _ _ _ c.exor.ensures.order c.exor.ensures.same c.exor.ensures.keeps
     (λ ts order same keeps f m.
     Means-agree c.args.polarity (λ x. differ (f x) (f x && literal c.args.polarity c.args.j x)) _ ts.items (λ x. literal-other c.args.polarity c.args.j c.args.plain x ne (f x))
