@@ -9,9 +9,9 @@ use Rattle.std.proofs.Math.ListN.{drop_of_length-le}
 use Rattle.std.proofs.lemmas.List.Sorted.{sorted_far, ranks_by}
 use Rattle.ae_base.specs.Mask.{Set, differ, cmp_terms}
 use Rattle.ae_base.specs.Terms.{exor_of, IsInOrder}
-use Rattle.ae_base.proofs.Order.{cmp_terms_total, cmp_equal}
+use Rattle.ae_base.proofs.Order.{cmp_terms_total, cmp_equal, less_trans}
 use Rattle.fn_store.specs.Scratch.{IsReduced, IsToggled}
-use Rattle.fn_store.proofs.Lists.{After, Ordered, Ordered-from, from_Ordered, less-trans, exor_of-append, exor_of-permutation, differ-assoc, differ-same}
+use Rattle.fn_store.proofs.Lists.{After, Ordered, Ordered-from, from_Ordered, exor_of-append, exor_of-permutation, differ-assoc, differ-same}
 
 -- ---- not falling, by recursion
 
@@ -79,7 +79,7 @@ push [] y ys up order other = (tt, tt)
 push (x ∷ []) y ys ((h, hs), up) order other = ((not_below_less x y h (λ e. other [] (ap (λ u. u ∷ []) e)), tt), (tt, tt))
 push (x ∷ z ∷ zs) y ys (h, up) (k, order) other =
     let more : Ordered ((z ∷ zs) ++ y ∷ []) = push (z ∷ zs) y ys up order (λ vs e. other (x ∷ vs) (ap (λ us. x ∷ us) e)) in
-    (all_push (λ u. cmp_terms x u ≡ Less) (z ∷ zs) y k (less-trans x z y k.0 (all_last (λ u. cmp_terms z u ≡ Less) zs y more.0)), more)
+    (all_push (λ u. cmp_terms x u ≡ Less) (z ∷ zs) y k (less_trans x z y k.0 (all_last (λ u. cmp_terms z u ≡ Less) zs y more.0)), more)
 
 -- ---- the step
 

@@ -11,7 +11,7 @@ use Rattle.std.proofs.lemmas.List.Sorted.{sum_by-IsPermutation}
 use Rattle.std.proofs.lemmas.List.Sums.{sum_by-cons}
 use Rattle.ae_base.specs.Mask.{Set, differ, cmp_terms}
 use Rattle.ae_base.specs.Terms.{exor_of, IsInOrder}
-use Rattle.ae_base.proofs.Order.{cmp_terms_total, cmp_equal, cmp_same}
+use Rattle.ae_base.proofs.Order.{less_irreflexive, less_trans, less_apart}
 
 -- ---- truth values
 
@@ -131,19 +131,10 @@ pub from_Ordered : (ts : List Set) → Ordered ts → IsInOrder ts
 from_Ordered [] h = λ i j d l k. absurd (omega (arith, k))
 from_Ordered (t ∷ ts) (h, hs) = AllPairs-cons (λ s t. cmp_terms s t ≡ Less) t ts (All-from_recursion (λ u. cmp_terms t u ≡ Less) ts h) (from_Ordered ts hs)
 
-pub less-irreflexive : (t : Set) → cmp_terms t t ≡ Less → ⊥
-less-irreflexive t h = let e = cmp_same t in cc
-
-pub less-apart : (s t : Set) → cmp_terms s t ≡ Less → s ≢ t
-less-apart s t h e = less-irreflexive t (ap (λ u. cmp_terms u t) (sym e) ∙ h)
-
-pub less-trans : (s t u : Set) → cmp_terms s t ≡ Less → cmp_terms t u ≡ Less → cmp_terms s u ≡ Less
-less-trans s t u h k = cmp_terms_total.trans s t u h k
-
 -- what stands after a term is not it
 pub not_among : (t u : Set) (us : List Set) → After t us → eqb t u ≡ true → list_any (λ y. eqb y u) us ≡ false
 not_among t u [] h e = refl
-not_among t u (y ∷ us) (h, hs) e = rw (ne_eqb y u (λ same. less-apart t y h (eqb-true t u e ∙ sym same))) (not_among t u us hs e)
+not_among t u (y ∷ us) (h, hs) e = rw (ne_eqb y u (λ same. less_apart t y h (eqb-true t u e ∙ sym same))) (not_among t u us hs e)
 
 apart_or : (a b : Bool) → (a ≡ true → b ≡ false) → (a || b) ≡ differ a b
 apart_or true b h = rw (h refl) refl
@@ -170,7 +161,7 @@ after_member s t [] h m = absurd (false≢true m)
 after_member s t (u ∷ us) (h, hs) m = elim (or_cases _ _ m) [ inl e ↦ ap (cmp_terms s) (sym (eqb-true u t e)) ∙ h | inr e ↦ after_member s t us hs e ]
 
 no_both : (s t : Set) → cmp_terms s t ≡ Less → cmp_terms t s ≡ Less → ⊥
-no_both s t h k = less-irreflexive s (less-trans s t s h k)
+no_both s t h k = less_irreflexive s (less_trans s t s h k)
 
 heads_equal : (s t : Set) (ss ts : List Set) → Ordered (s ∷ ss) → Ordered (t ∷ ts) → SameMembers (s ∷ ss) (t ∷ ts) → s ≡ t
 heads_equal s t ss ts (h, hs) (k, ks) same =

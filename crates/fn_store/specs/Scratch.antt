@@ -1,5 +1,6 @@
 -- Words of private contracts alone.
-use Rattle.std.specs.Prelude.{◌≡◌, ◌≢◌, ℕ, zero, suc, Bool, true, not, if◌then◌else◌, ◌&&◌, ◌||◌, ◌⊎◌, List, [], ◌∷◌, ◌++◌, All}
+use Rattle.std.specs.Prelude.{◌≡◌, ◌≢◌, ℕ, zero, suc, Bool, true, not, if◌then◌else◌, ◌&&◌, ◌||◌, ◌⊎◌, List, [], ◌∷◌, ◌++◌}
+use Rattle.std.specs.List.{list_all}
 use Rattle.ae_base.specs.Mask.{Set, has, first, inside}
 use Rattle.ae_base.specs.Cube.{Signs}
 use Rattle.ae_base.specs.Terms.{IsPoint, IsInOrder, exor_of, value}
@@ -16,7 +17,7 @@ pub record IsReduced (ts us : List Set) : Type 0 where
 -- a list in term order over the inputs, whose value at each point is that of the function
 pub record Means (p : Signs) (f : Set → Bool) (ts : List Set) : Type 0 where
   pub order : IsInOrder ts
-  pub below : All (λ t. inside t (first p.n) ≡ true) ts
+  pub below : list_all (λ t. inside t (first p.n)) ts ≡ true
   pub value : (x : Set) → IsPoint p.n x → value p ts x ≡ f x
 
 -- the value of the plain literal or of the complemented one, at an input's value

@@ -11,7 +11,7 @@ loop-t-init c =
     (subst (λ (all : List Set). Cancelled all [] 0) (sym c.deref-t-items.ensures.value) start)
 
 pub loop-t-preserved : goal.loop-t-preserved
-loop-t-preserved c = Cancelled-step _ _ _ _ c.t-item.result (search rules) (let h = c.t-item.is in ?) c.loop-t.invariant c.in_ok-toggle_last.ensures
+loop-t-preserved c = Cancelled-step _ _ _ _ c.t-item.result (search rules) (search rules) c.loop-t.invariant c.in_ok-toggle_last.ensures
 
 pub returns : goal.returns
 returns c = Cancelled-end _ c.deref-t-items.result.now _ c.loop-t.t-index (subst (λ (all : List Set). IsPermutation c.args.terms.items all) (sym c.deref-t-items.ensures.value) c.sort_unstable.ensures.permutation) (search rules) c.loop-t.invariant
