@@ -1,4 +1,5 @@
 use Rattle.ae_base.proofs.Order.{cmp_terms_total, cmp_equal, order-inside}
+use Rattle.ae_base.proofs.InOrder.{in_order-same}
 use Rattle.ae_base.proofs.laws.order_laws.Goals as goal
 
 pub returns-clause-total : goal.returns-clause-total
@@ -9,3 +10,6 @@ returns-clause-equal c = cmp_equal
 
 pub returns-clause-inside : goal.returns-clause-inside
 returns-clause-inside c = order-inside
+
+pub returns-clause-lists : goal.returns-clause-lists
+returns-clause-lists c = in_order-same
