@@ -8,6 +8,7 @@ mod mask;
 mod memory;
 mod name;
 mod seq;
+mod text;
 #[cfg(test)]
 mod tests;
 
@@ -20,3 +21,4 @@ pub use mask::Mask;
 pub use memory::Memory;
 pub use name::Name;
 pub use seq::Seq;
+pub use text::{push_bits, push_names, push_word};

@@ -1,9 +1,8 @@
 -- The text of a network (Berkeley Logic Interchange Format).
-use Rattle.std.specs.Prelude.{ℕ, zero, suc, Bool, if◌then◌else◌, List, [], ◌∷◌, ◌++◌, length, map, slice_index_or, codes}
-use Rattle.std.specs.List.{flat_map, range_with_len}
-use Rattle.ae_base.specs.Mask.{has}
+use Rattle.std.specs.Prelude.{ℕ, zero, suc, Bool, List, [], ◌∷◌, ◌++◌, length, map, slice_index_or, codes}
+use Rattle.std.specs.List.{flat_map}
 use Rattle.ae_base.specs.Cube.{Product}
-use Rattle.ae_base.specs.Text.{text_of, digit}
+use Rattle.ae_base.specs.Text.{text_of, digit, cube_text}
 use Rattle.ae_net.specs.declared.net.Gate.{Gate}
 use Rattle.ae_net.specs.Network.{Network}
 
@@ -14,18 +13,10 @@ signal_names n = n.inputs ++ map (λ gate. gate.out) n.gates
 abbrev pub name_of : List (List ℕ) → ℕ → List ℕ
 name_of names s = slice_index_or names s []
 
--- 1 for a plain literal, 0 for a complemented one, - for none
-abbrev pub literal_text : Product → ℕ → ℕ
-literal_text row j = if has row.pos j then 49 else (if has row.neg j then 48 else 45)
-
--- the literals at k pins
-abbrev pub row_text : ℕ → Product → List ℕ
-row_text k row = map (literal_text row) (range_with_len 0 k)
-
 -- the words of a row over k pins
 abbrev pub row_words : ℕ → Bool → Product → List (List ℕ)
 row_words zero on row = (digit on ∷ []) ∷ []
-row_words (suc k) on row = row_text (suc k) row ∷ (digit on ∷ []) ∷ []
+row_words (suc k) on row = cube_text (suc k) row ∷ (digit on ∷ []) ∷ []
 
 -- `.names`, the pins' names and the gate's, and then a line for each row
 abbrev pub gate_lines : List (List ℕ) → Gate → List (List (List ℕ))

@@ -2,22 +2,13 @@
 ghost use Rattle.std.specs.Prelude.{◌≡◌, ◌<◌, ◌≤◌, ◌+◌, ◌++◌, [], ◌∷◌, length, map, All, OnOk, IfOk};
 ghost use Rattle.std.specs.List.{flat_map};
 ghost use Rattle.ae_net.specs.Network.{signals};
-ghost use Rattle.ae_base.specs.Text.{text_of};
+ghost use Rattle.ae_base.specs.Text.{cube_text, text_of};
 ghost use Rattle.ae_base.specs.declared.limits.TheConstants.{PINS};
 ghost use Rattle.ae_net.specs.Blif as text;
 
-use ae_base::{Cube, Memory, Name};
+use ae_base::{Cube, Memory, push_names, push_word};
 use ae_net::{Gate, Net, Sig};
 use std::alloc::Global;
-
-// Writes a blank and a word.
-fn push_word(out: &mut Vec<u8>, word: &[u8]) -> Result<(), Memory>
-    ensures { OnOk result (out.new.items ≡ out.old.items ++ 32 ∷ word.now) }
-{
-    out.push(b' ')?;
-    out.extend_from_slice(word)?;
-    Ok(())
-}
 
 // The name of a signal.
 fn signal_name(net: &Net, s: Sig) -> &[u8]
@@ -34,7 +25,7 @@ fn signal_name(net: &Net, s: Sig) -> &[u8]
 }
 
 // Writes the names of signals, each after a blank.
-fn push_names(out: &mut Vec<u8>, net: &Net, list: &[Sig]) -> Result<(), Memory>
+fn push_signals(out: &mut Vec<u8>, net: &Net, list: &[Sig]) -> Result<(), Memory>
     requires { All (λ s. s < signals net.now) list.now }
     ensures { OnOk result (out.new.items ≡ out.old.items ++ flat_map (λ w. 32 ∷ w) (map (text.name_of (text.signal_names net.now)) list.now)) }
 {
@@ -44,35 +35,12 @@ fn push_names(out: &mut Vec<u8>, net: &Net, list: &[Sig]) -> Result<(), Memory>
     Ok(())
 }
 
-// Writes names, each after a blank.
-fn push_words(out: &mut Vec<u8>, names: &[Name]) -> Result<(), Memory>
-    ensures { OnOk result (out.new.items ≡ out.old.items ++ flat_map (λ w. 32 ∷ w) names.now) }
-{
-    for name in names {
-        push_word(out, name.bytes())?;
-    }
-    Ok(())
-}
-
-// 1 for a plain literal, 0 for a complemented one, - for none.
-fn literal_text(row: Cube, j: u32) -> u8
-    ensures { result ≡ text.literal_text row j }
-{
-    if row.pos.has(j) {
-        b'1'
-    } else if row.neg.has(j) {
-        b'0'
-    } else {
-        b'-'
-    }
-}
-
 // Writes the literals of a row over `k` pins.
 fn push_literals(out: &mut Vec<u8>, k: u32, row: Cube) -> Result<(), Memory>
-    ensures { OnOk result (out.new.items ≡ out.old.items ++ text.row_text k row) }
+    ensures { OnOk result (out.new.items ≡ out.old.items ++ cube_text k row) }
 {
     for j in 0..k {
-        out.push(literal_text(row, j))?;
+        out.push(row.literal_text(j))?;
     }
     Ok(())
 }
@@ -107,7 +75,7 @@ fn push_gate(out: &mut Vec<u8>, net: &Net, gate: &Gate) -> Result<(), Memory>
     ensures { OnOk result (out.new.items ≡ out.old.items ++ text_of (text.gate_lines (text.signal_names net.now) gate.now)) }
 {
     out.extend_from_slice(b".names")?;
-    push_names(out, net, gate.pins.as_slice())?;
+    push_signals(out, net, gate.pins.as_slice())?;
     push_word(out, gate.out.bytes())?;
     out.push(b'\n')?;
     push_rows(out, gate.pins.len() as u32, gate.on, gate.rows.as_slice())?;
@@ -131,9 +99,9 @@ fn push_head(out: &mut Vec<u8>, net: &Net) -> Result<(), Memory>
     out.extend_from_slice(b".model")?;
     push_word(out, net.model().bytes())?;
     out.extend_from_slice(b"\n.inputs")?;
-    push_words(out, net.inputs())?;
+    push_names(out, net.inputs())?;
     out.extend_from_slice(b"\n.outputs")?;
-    push_names(out, net, net.outputs())?;
+    push_signals(out, net, net.outputs())?;
     out.push(b'\n')?;
     Ok(())
 }

@@ -8,3 +8,4 @@ pub mod Ports
 pub mod CodeLemmas
 pub mod CodeBounds
 pub mod VectorLemmas
+pub mod Shown

@@ -6,3 +6,4 @@ pub mod Expansions
 pub mod Exists
 pub mod Uses
 pub mod CubeSteps
+pub mod Counting

@@ -1,6 +1,7 @@
 use Rattle.fn_store.proofs.Expansions.{means, only, one}
 use Rattle.fn_store.proofs.Exists.{exists}
 use Rattle.fn_store.proofs.Uses.{used, unused}
+use Rattle.fn_store.proofs.Counting.{few}
 use Rattle.fn_store.proofs.laws.expansion_law.Goals as goal
 
 pub returns-clause-meaning : goal.returns-clause-meaning
@@ -20,3 +21,6 @@ returns-clause-used c = used
 
 pub returns-clause-unused : goal.returns-clause-unused
 returns-clause-unused c = unused
+
+pub returns-clause-few : goal.returns-clause-few
+returns-clause-few c = few
