@@ -1,15 +1,12 @@
 -- The network of the two-input AND, as a test has it, is valid.
-use Rattle.std.proofs.Common.{◌≡◌, ◌≢◌, ℕ, ◌<◌, ◌≤◌, true, false, List, [], ◌∷◌, codes, refl, sym, ◌∙◌, arith, rules, lit≤}
-use Rattle.std.specs.Prelude.{All}
+use Rattle.std.proofs.Common.{◌≡◌, ◌≢◌, ℕ, ◌<◌, ◌≤◌, true, false, List, [], ◌∷◌, codes, refl, sym, ◌∙◌, arith, lit≤}
 use Rattle.std.proofs.lemmas.List.Elements.{All-from_recursion}
 use Rattle.std.specs.List.{AllByRecursion}
 use Rattle.ae_net.proofs.Distinct.{Distinct, AllPairs-from_Distinct, each_weaker}
 use Rattle.std.proofs.lemmas.Slice.Eq.{bytes_eq-Decides}
 use Rattle.std.specs.Str.{bytes_eq}
 use Rattle.ae_base.specs.Name.{is_name}
-use Rattle.ae_net.specs.Network.{Network}
 use Rattle.ae_net.specs.Valid.{IsValid}
-use Rattle.ae_net.specs.Gates.{exor, and_gate}
 use Rattle.ae_net.proofs.GatesValid.{AreGates, IsGate-at, IsGate-and, IsGate-exor}
 use Rattle.blif_write.specs.AndNet.{the_net}
 
