@@ -1,10 +1,10 @@
 -- What writes and pieces one after another leave.
-use Rattle.std.proofs.Common.{◌≡◌, ◌≢◌, ◌⊎◌, ℕ, ◌+◌, ◌-◌, ◌^◌, ◌<◌, ◌≤◌, min, List, [], ◌++◌, length, take, Bool, true, false, cond, Option, Some, None, IsSome, IfSome, is_some, unwrap_or, refl, sym, ◌∙◌, ap, subst, inl, inr, append_assoc, arith}
+use Rattle.std.proofs.Common.{◌≡◌, ◌≢◌, ℕ, ◌+◌, ◌≤◌, min, List, [], ◌++◌, length, take, Option, Some, None, IfSome, is_some, unwrap_or, refl, sym, ◌∙◌, ap, inr, append_assoc, arith}
 use Rattle.std.proofs.lemmas.List.{append-nil, take-append-le, take_min}
-use Rattle.std.proofs.Math.Seq.{take-append-add, take-append_seam, take-length}
+use Rattle.std.proofs.Math.Seq.{take-append-add, take-length}
 use Rattle.std.specs.FinMap.{insert, get}
 use Rattle.ae_outside.specs.Counts.{Tally, count, CountsAt, RoseAt}
-use Rattle.ae_outside.specs.Files.{Shelf, bytes_of, written, appended, IsWrittenInPart, added, TookFront}
+use Rattle.ae_outside.specs.Files.{Shelf, bytes_of, written, IsWrittenInPart, added, TookFront}
 use Rattle.ae_outside.proofs.Shelves.{get_same, get_other, insert-insert, insert_apart}
 
 -- the last write to a name counts

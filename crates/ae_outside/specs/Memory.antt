@@ -1,5 +1,5 @@
 -- Files and a sink in memory, with the calls that are to fail.
-use Rattle.std.specs.Prelude.{◌≡◌, ⊤, ℕ, ◌-◌, ◌^◌, List, [], ◌∷◌, ◌++◌, take, Bool, nat_eq, if◌then◌else◌, is_ok, Result, Ok, Err}
+use Rattle.std.specs.Prelude.{⊤, ℕ, ◌-◌, ◌^◌, List, [], ◌∷◌, ◌++◌, take, Bool, nat_eq, if◌then◌else◌, is_ok, Result, Ok, Err}
 use Rattle.std.specs.List.{list_any}
 use Rattle.std.specs.FinMap.{empty, insert}
 use Rattle.ae_outside.specs.declared.outside.FilesErr.{FilesErr}

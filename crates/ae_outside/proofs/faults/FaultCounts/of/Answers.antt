@@ -1,9 +1,9 @@
-use Rattle.std.proofs.Common.{◌≡◌, ℕ, unwrap_or, refl, sym, ◌∙◌, ap}
+use Rattle.std.proofs.Common.{unwrap_or, refl, sym, ◌∙◌, ap}
 use Rattle.std.specs.BTreeMap.{get_by_text}
 use Rattle.ae_outside.specs.declared.faults.Failed.{Failed}
 use Rattle.ae_outside.specs.Counts.{count}
 use Rattle.ae_outside.specs.Views.{with_count}
-use Rattle.ae_outside.proofs.Tables.{seen, seen_or, count-tally_of, same_count}
+use Rattle.ae_outside.proofs.Tables.{seen_or, count-tally_of, same_count}
 use Rattle.ae_outside.proofs.faults.FaultCounts.of.Goals as goal
 
 pub returns-clause-reads : goal.returns-clause-reads

@@ -1,6 +1,5 @@
-use Rattle.std.proofs.Common.{◌≡◌, ◌^◌, ◌<◌, ◌-◌, OnOk, sym, ◌∙◌, ap, subst, arith, refl}
-use Rattle.ae_outside.specs.Counts.{count, one_more, CountsAt, RoseAt}
-use Rattle.ae_outside.proofs.Laws.{counts_same}
+use Rattle.std.proofs.Common.{sym, subst, arith}
+use Rattle.ae_outside.specs.Counts.{CountsAt, RoseAt}
 use Rattle.ae_outside.proofs.Tables.{rises, rose, rose_counts}
 use Rattle.ae_outside.proofs.faults.FaultCounts.write_failed.Goals as goal
 

@@ -1,4 +1,4 @@
-use Rattle.std.proofs.Common.{rules, ◌≡◌, ◌++◌, List, ℕ, [], Some, None, Result, Ok, Err, OnOk, OnErr, option_map, unwrap_or, refl, sym, ◌∙◌, ap, subst}
+use Rattle.std.proofs.Common.{rules, ◌≡◌, ◌++◌, [], Some, None, Result, Ok, Err, OnOk, OnErr, option_map, unwrap_or, sym, ◌∙◌, ap, subst}
 use Rattle.std.specs.FinMap.{insert, get}
 use Rattle.ae_outside.specs.Files.{bytes_of}
 use Rattle.ae_outside.specs.Views.{shelf_of}
