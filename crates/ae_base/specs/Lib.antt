@@ -1,6 +1,7 @@
 pub mod Cube
 pub mod Mask
 pub mod Name
+pub mod Order
 pub mod Source
 pub mod Terms
 pub mod Text

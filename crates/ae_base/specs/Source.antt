@@ -1,5 +1,5 @@
 -- A source as contracts see it: its names, and what it specifies. Readers say which source a text is.
-use Rattle.std.specs.Prelude.{◌≡◌, ◌≢◌, ℕ, ◌<◌, Bool, true, false, List, length}
+use Rattle.std.specs.Prelude.{◌≢◌, ℕ, ◌<◌, Bool, true, false, List, length}
 use Rattle.ae_base.specs.Mask.{Set, with, without}
 use Rattle.ae_base.specs.Terms.{IsPoint}
 

@@ -8,9 +8,11 @@ mod mask;
 mod memory;
 mod name;
 mod seq;
+#[cfg(test)]
+mod tests;
 
 pub use cube::{Cube, Point, Polarity, Term};
-pub use laws::set_laws;
+pub use laws::{cube_laws, member_laws, order_laws, set_laws};
 pub use limits::{
     GATES, NAME_BYTES, NET_LINES, PINS, SOURCE_LINES, SOURCE_NAME_BYTES, WIDTH, WRITTEN_LINES,
 };

@@ -1,13 +1,15 @@
-//! A set of small numbers.
-ghost use Rattle.std.specs.Prelude.{◌≡◌, ◌<◌, ◌≤◌, ◌↔◌, IsTrue};
+//! A set of small numbers: the inputs that are 1 at a point, or the members of a term.
+ghost use Rattle.std.specs.Prelude.{◌≡◌, ◌<◌, ◌≤◌, IfSome};
 ghost use Rattle.ae_base.specs.Mask as set;
 
 use crate::limits::WIDTH;
 use std::cmp::Ordering;
 use std::marker::Model;
 
-/// A set of numbers below `WIDTH`.
-#[derive(Clone, Copy, Debug, PartialEq, Eq, Hash)]
+/// A set of numbers below `WIDTH`. `<` and `sort` put sets in the order of terms (`cmp_terms`).
+///
+/// No call takes memory, and none refuses.
+#[derive(Clone, Copy, Debug, Hash)]
 pub struct Mask {
     bits: u128,
 }
@@ -25,7 +27,58 @@ impl Model for Mask {
     ghost inverse = { λ s. record { bits = s } };
 }
 
+impl PartialEq for Mask {
+    ghost use Rattle.std.specs.Prelude.{nat_eq};
+    ghost use Rattle.std.specs.Cmp.{nat_eq_equiv, partial_equiv_from_equiv};
+
+    ghost eq = { nat_eq };
+
+    ghost laws = { partial_equiv_from_equiv nat_eq_equiv };
+
+    fn eq(&self, other: &Mask) -> bool {
+        self.bits == other.bits
+    }
+}
+
+impl Eq for Mask {
+    ghost use Rattle.std.specs.Cmp.{nat_eq_equiv};
+
+    ghost laws = { nat_eq_equiv };
+}
+
+impl Ord for Mask {
+    ghost use Rattle.std.proofs.Common.{refl};
+    ghost use Rattle.ae_base.specs.Order.{cmp_terms_total, equal_where_tied};
+
+    ghost cmp = { set.cmp_terms };
+
+    ghost total = { cmp_terms_total };
+
+    ghost matches_partial_cmp = { λ a b. refl };
+
+    ghost matches_eq = { equal_where_tied };
+
+    /// The order of terms.
+    fn cmp(&self, other: &Mask) -> Ordering {
+        self.cmp_terms(*other)
+    }
+}
+
+impl PartialOrd for Mask {
+    ghost use Rattle.std.specs.Ordering.{as_partial_cmp};
+    ghost use Rattle.ae_base.specs.Order.{cmp_terms_partial};
+
+    ghost partial_cmp = { as_partial_cmp set.cmp_terms };
+
+    ghost laws = { cmp_terms_partial };
+
+    fn partial_cmp(&self, other: &Mask) -> Option<Ordering> {
+        Some(self.cmp(other))
+    }
+}
+
 impl Mask {
+    /// The set of no numbers.
     #[tactic(auto, unfolding(crate::specs::Mask::empty))]
     pub fn empty() -> Mask
         ensures { result ≡ set.empty }
@@ -33,8 +86,8 @@ impl Mask {
         Mask { bits: 0 }
     }
 
-    #[tactic(auto, unfolding(crate::specs::Mask::first))]
     /// The numbers below `n`.
+    #[tactic(auto, unfolding(crate::specs::Mask::first))]
     pub fn first(n: u32) -> Mask
         requires { n ≤ WIDTH }
         ensures { result ≡ set.first n }
@@ -46,6 +99,7 @@ impl Mask {
         }
     }
 
+    /// The set with `j` as a member.
     #[tactic(auto, unfolding(crate::specs::Mask::with))]
     pub fn with(self, j: u32) -> Mask
         requires { j < WIDTH }
@@ -56,6 +110,7 @@ impl Mask {
         }
     }
 
+    /// The set without `j`.
     pub fn without(self, j: u32) -> Mask
         requires { j < WIDTH }
         ensures { result ≡ set.without self j }
@@ -65,6 +120,7 @@ impl Mask {
         }
     }
 
+    /// Whether `j` is a member. It is not for `j` from `WIDTH` on.
     #[tactic(auto, using(crate::proofs::Members::has_above), unfolding(crate::specs::Mask::has))]
     pub fn has(self, j: u32) -> bool
         ensures { result ≡ set.has self j }
@@ -73,6 +129,7 @@ impl Mask {
         j < WIDTH && (bits >> j) & 1 == 1
     }
 
+    /// The intersection.
     #[tactic(auto, unfolding(crate::specs::Mask::both))]
     pub fn both(self, other: Mask) -> Mask
         ensures { result ≡ set.both self other }
@@ -82,6 +139,7 @@ impl Mask {
         }
     }
 
+    /// The union.
     #[tactic(auto, unfolding(crate::specs::Mask::either))]
     pub fn or(self, other: Mask) -> Mask
         ensures { result ≡ set.either self other }
@@ -91,6 +149,7 @@ impl Mask {
         }
     }
 
+    /// The symmetric difference.
     #[tactic(auto, unfolding(crate::specs::Mask::xor))]
     pub fn xor(self, other: Mask) -> Mask
         ensures { result ≡ set.xor self other }
@@ -100,6 +159,7 @@ impl Mask {
         }
     }
 
+    /// Whether the set is a subset of `other`.
     #[tactic(auto, unfolding(crate::specs::Mask::inside, crate::specs::Mask::both))]
     pub fn inside(self, other: Mask) -> bool
         ensures { result ≡ set.inside self other }
@@ -107,13 +167,26 @@ impl Mask {
         self.bits & other.bits == self.bits
     }
 
+    /// The least member, where there is one.
+    pub fn least(self) -> Option<u32>
+        ensures least { result ≡ set.least self }
+        ensures below { IfSome result (λ j. j < WIDTH) }
+    {
+        let bits = self.bits;
+        if bits == 0 {
+            return None;
+        }
+        Some(bits.trailing_zeros())
+    }
+
+    /// The number of members.
     pub fn len(self) -> u32
         ensures { result ≡ set.len self }
     {
         self.bits.count_ones()
     }
 
-    /// Fewer members come first. Among equally many, the increasing lists of members are compared lexicographically.
+    /// The order of terms: fewer members come first. Among equally many, the increasing lists of members are compared lexicographically.
     pub fn cmp_terms(self, other: Mask) -> Ordering
         ensures { result ≡ set.cmp_terms self other }
     {

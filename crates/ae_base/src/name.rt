@@ -9,7 +9,9 @@ use std::alloc::Global;
 use std::hash::{Hash, Hasher};
 use std::marker::Model;
 
-/// 1 to 511 bytes from 33 to 255 without `#`, the last of which is not `\`.
+/// The name of a model or of a signal: 1 to `NAME_BYTES` bytes from 33 to 255 without `#`, the last of which is not `\`.
+///
+/// So a name is one word of a line, begins no comment and continues no line.
 #[derive(Drop, Debug)]
 pub struct Name {
     bytes: Vec<u8>,
@@ -62,7 +64,9 @@ impl Hash for Name {
 }
 
 impl Name {
-    /// The name of these bytes, where they are one.
+    /// The name that has these bytes. `None` comes exactly where they are no name.
+    ///
+    /// `Memory` comes only for want of memory.
     pub fn from_bytes(alloc: Global, bytes: &[u8]) -> Result<Option<Name>, Memory>
         ensures { IfOk result (λ found. found ≡ (if is_name bytes.now then Some bytes.now else None)) }
     {
@@ -74,6 +78,7 @@ impl Name {
         }))
     }
 
+    /// The bytes of the name.
     pub fn bytes(&self) -> &[u8]
         ensures name { is_name self.now ≡ true }
         ensures bytes { result.now ≡ self.now }
@@ -81,6 +86,7 @@ impl Name {
         self.bytes.as_slice()
     }
 
+    /// Another name of the same bytes. `Memory` comes only for want of memory.
     pub fn copy(&self, alloc: Global) -> Result<Name, Memory>
         ensures { IfOk result (λ name. name ≡ self.now) }
     {

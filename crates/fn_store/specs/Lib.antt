@@ -1,0 +1,3 @@
+pub mod Davio
+pub mod Cubes
+pub mod Scratch

@@ -1,0 +1,19 @@
+//! What the expansion of a truth function means.
+ghost use Rattle.std.specs.Prelude.{◌≡◌, ℕ, ◌<◌, Bool, true, List, All};
+ghost use Rattle.std.specs.List.{list_any};
+ghost use Rattle.ae_base.specs.Mask.{Set, has, first, inside};
+ghost use Rattle.ae_base.specs.Cube.{Signs};
+ghost use Rattle.ae_base.specs.Terms.{IsPoint, IsInOrder, value};
+ghost use Rattle.fn_store.specs.Davio.{IsExpansion, DependsOn};
+
+/// Each truth function has one expansion at each polarity. The EXOR of the products of its terms is the function, and no other list
+/// in term order without repeats has that EXOR. The function depends on exactly the inputs that its terms hold.
+pub fn expansion_law()
+    ensures meaning { (p : Signs) (f : Set → Bool) (ts : List Set) → IsExpansion p f ts → (x : Set) → IsPoint p.n x → value p ts x ≡ f x }
+    ensures only { (p : Signs) (f : Set → Bool) (ts : List Set) → IsInOrder ts → All (λ t. inside t (first p.n) ≡ true) ts
+        → ((x : Set) → IsPoint p.n x → value p ts x ≡ f x) → IsExpansion p f ts }
+    ensures one { (p : Signs) (f : Set → Bool) (ts us : List Set) → IsExpansion p f ts → IsExpansion p f us → ts ≡ us }
+    ensures exists { (p : Signs) (f : Set → Bool) → ((ts : List Set) × IsExpansion p f ts) }
+    ensures used { (p : Signs) (f : Set → Bool) (ts : List Set) (j : ℕ) → IsExpansion p f ts → j < p.n → list_any (λ t. has t j) ts ≡ true → DependsOn p.n f j }
+    ensures unused { (p : Signs) (f : Set → Bool) (ts : List Set) (j : ℕ) → IsExpansion p f ts → j < p.n → DependsOn p.n f j → list_any (λ t. has t j) ts ≡ true }
+{}

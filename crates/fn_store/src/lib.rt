@@ -1,0 +1,12 @@
+//! Truth functions, their fixed-polarity Reed-Muller expansions, and the plain store of term lists.
+#![tactic(auto)]
+
+mod cubes;
+mod laws;
+mod terms;
+#[cfg(test)]
+mod tests;
+
+pub use cubes::cubes_expansion;
+pub use laws::expansion_law;
+pub use terms::{exor, times_literal};

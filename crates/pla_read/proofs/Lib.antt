@@ -1,0 +1,5 @@
+pub mod Texts
+pub mod Defaults
+pub mod Rows
+pub mod Reading
+pub mod Examples
