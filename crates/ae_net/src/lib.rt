@@ -7,6 +7,8 @@ mod names;
 mod net;
 mod pins;
 mod run;
+#[cfg(test)]
+mod tests;
 
 pub use gates::{and_gate, buffer, exor, inverter};
 pub use laws::one_run;

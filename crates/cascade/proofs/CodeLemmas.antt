@@ -29,8 +29,9 @@ use Rattle.std.proofs.lemmas.List.Concat.{length-flat_map}
 use Rattle.ae_base.specs.Mask.{empty}
 use Rattle.expansion.specs.Terms.{cost}
 use Rattle.cascade.specs.Reddy.{start, rest, chain, chains, ends, inner_gates}
+use Rattle.cascade.proofs.Lists.{length_filter_le}
 use Rattle.cascade.proofs.NamesApart.{all_inner}
-use Rattle.cascade.proofs.Valid.{each_filter, length_filter_le, few_of_all}
+use Rattle.cascade.proofs.Valid.{each_filter, few_of_all}
 use Rattle.cascade.specs.Left.{placed_onto, links_of}
 use Rattle.cascade.proofs.GatesValid.{length-members}
 use Rattle.ae_base.specs.Mask.{cmp_terms}
@@ -40,7 +41,7 @@ use Rattle.std.proofs.lemmas.Fmt.{decimal_by_steps, length-decimal-le}
 use Rattle.ae_base.specs.declared.limits.TheConstants.{NET_LINES, PINS, GATES}
 use Rattle.cascade.specs.declared.limits.TheConstants.{REDDY_TERMS}
 use Rattle.ae_base.specs.Mask.{Set, has, first, inside, members, members_from}
-use Rattle.ae_base.proofs.Members.{has_above, below_own_power}
+use Rattle.ae_base.proofs.Members.{members-filter}
 use Rattle.ae_net.specs.Names.{inner, IsLetter}
 use Rattle.cascade.proofs.Law.{members_below}
 
@@ -53,26 +54,8 @@ filter_range_more p k =
 
 -- ---- members of a term over the first n inputs
 
-members_range : (d j : ℕ) (t : Set) → members_from d j t ≡ filter (has t) (range_with_len j d)
-members_range zero j t = refl
-members_range (suc d) j t = let e1 : j + 1 ≡ suc j = omega arith in rw (e1, members_range d (suc j) t) refl
-
-none_kept : (p : ℕ → Bool) (a m : ℕ) → ((k : ℕ) → a ≤ k → p k ≡ false) → filter p (range_with_len a m) ≡ []
-none_kept p a zero h = refl
-none_kept p a (suc m) h = rw (h a (omega arith)) (none_kept p (a + 1) m (λ k l. h k (omega arith)))
-
-same_kept : (p : ℕ → Bool) (a m n : ℕ) → ((k : ℕ) → a + m ≤ k → p k ≡ false) → ((k : ℕ) → a + n ≤ k → p k ≡ false) → filter p (range_with_len a m) ≡ filter p (range_with_len a n)
-same_kept p a zero n h g = sym (none_kept p a n (λ k l. h k (omega arith)))
-same_kept p a (suc m) zero h g = none_kept p a (suc m) (λ k l. g k (omega arith))
-same_kept p a (suc m) (suc n) h g =
-    let more = same_kept p (a + 1) m n (λ k l. h k (omega arith)) (λ k l. g k (omega arith)) in
-    elim (cases_Bool (p a)) [ inl e ↦ rw e (ap (λ l. a ∷ l) more) | inr e ↦ rw e more ]
-
 pub members_below_n : (n : ℕ) (t : Set) → inside t (first n) ≡ true → members t ≡ filter (has t) (range_with_len 0 n)
-unfolding members
-members_below_n n t below =
-    members_range t 0 t
-    ∙ same_kept (has t) 0 t n (λ k l. has_above t t k (below_own_power t) (omega arith)) (λ k l. elim (cases_Bool (has t k)) [ inl e ↦ absurd (omega (arith, members_below n t below k e)) | inr e ↦ e ])
+members_below_n n t below = members-filter n t below
 
 -- ---- steps of the loops
 

@@ -1,5 +1,5 @@
 -- The gates of the Reddy network are gates: their pins are earlier signals, and their rows hold positions of pins.
-use Rattle.std.proofs.Common.{◌≡◌, ◌≢◌, ℕ, zero, suc, ◌+◌, ◌-◌, ◌<◌, ◌≤◌, ◌^◌, Bool, true, false, cond, inl, inr, List, [], ◌∷◌, ◌++◌, length, map, refl, sym, ◌∙◌, subst, arith, eqb, eq-eqb, ne_eqb}
+use Rattle.std.proofs.Common.{◌≡◌, ◌≢◌, ℕ, zero, suc, ◌+◌, ◌-◌, ◌<◌, ◌≤◌, ◌^◌, Bool, true, false, cond, inl, inr, List, [], ◌∷◌, ◌++◌, length, map, refl, sym, ap, ◌∙◌, subst, arith, eqb, eq-eqb, ne_eqb}
 use Rattle.std.specs.Prelude.{Some, slice_get, slice_index, filter, codes, All}
 use Rattle.std.specs.List.{list_any, range_with_len, AllByRecursion}
 use Rattle.std.specs.Fmt.{decimal}
@@ -9,7 +9,8 @@ use Rattle.std.proofs.lemmas.List.Elements.{All-from_recursion, All-map}
 use Rattle.ae_base.specs.Mask.{Set, has, empty, first, with, both, inside, members, members_from}
 use Rattle.ae_base.specs.Cube.{Product}
 use Rattle.ae_base.proofs.Sets.{has-empty, has-inside}
-use Rattle.ae_base.proofs.Members.{members-has}
+use Rattle.ae_base.proofs.Members.{members-has, members-filter}
+use Rattle.std.proofs.lemmas.List.FromFn.{length-range_with_len}
 use Rattle.ae_net.specs.declared.net.Gate.{Gate}
 use Rattle.ae_net.specs.Valid.{IsGate}
 use Rattle.expansion.specs.Terms.{Terms}
@@ -22,7 +23,7 @@ use Rattle.cascade.proofs.NamesApart.{all_inner}
 use Rattle.ae_net.specs.Gates.{inverter, buffer, exor, and_gate}
 use Rattle.expansion.specs.Terms.{is_used}
 use Rattle.cascade.specs.Reddy.{place_of, gates_for, lines, turned, literal_signal, has_one, control_gates, start, is_wide, wide_terms, and_place, chain_place, term_signal, links, chain, rest, inner_gates, chains}
-use Rattle.cascade.proofs.Lists.{or_left, or_right}
+use Rattle.cascade.proofs.Lists.{or_left, or_right, length_filter_le}
 use Rattle.ae_net.proofs.Distinct.{each_weaker}
 use Rattle.cascade.proofs.Law.{Stands, used_since, wide_stands, turned_stands, members_below, no_members, length-chain}
 
@@ -64,17 +65,8 @@ each_member : (P : ℕ → Type 0) (ms : List ℕ) → ((j : ℕ) → list_any (
 each_member P [] h = tt
 each_member P (m ∷ ms) h = (h m (or_left _ _ (eq-eqb m m refl)), each_member P ms (λ j a. h j (or_right _ _ a)))
 
-few_members : (d j n : ℕ) (t : Set) → ((k : ℕ) → has t k ≡ true → k < n) → length (members_from d j t) ≤ n - j
-few_members zero j n t h = omega arith
-few_members (suc d) j n t h =
-    elim (cases_Bool (has t j)) [
-      | inl e ↦ rw e (omega (arith, few_members d (suc j) n t h, h j e))
-      | inr e ↦ rw e (omega (arith, few_members d (suc j) n t h))
-    ]
-
 pub length-members : (n : ℕ) (t : Set) → inside t (first n) ≡ true → length (members t) ≤ n
-unfolding members
-length-members n t below = omega (arith, few_members t 0 n t (members_below n t below))
+length-members n t below = omega (arith, ap length (members-filter n t below), length_filter_le (has t) (range_with_len 0 n), length-range_with_len 0 n)
 
 -- terms that stand in the expansions
 abbrev pub AllStand : Terms → List Set → Type 0

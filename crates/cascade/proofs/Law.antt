@@ -10,7 +10,7 @@ use Rattle.std.proofs.lemmas.Option.{slice_get_within, get_or_from_slice_get}
 use Rattle.std.specs.declared.cmp.Ordering.TheVariants.{Less}
 use Rattle.ae_base.specs.Mask.{Set, differ, has, empty, first, inside, len, members, cmp_terms}
 use Rattle.ae_base.proofs.Sets.{same_set, has-empty, has-first, inside-has, has-where_below}
-use Rattle.ae_base.proofs.Members.{members-has, cmp_same}
+use Rattle.ae_base.proofs.Members.{members-has, cmp_same, len-members, len-none}
 use Rattle.ae_net.specs.declared.net.Gate.{Gate}
 use Rattle.ae_net.specs.declared.net.Fault.{Fault}
 use Rattle.ae_net.specs.Network.{Network}
@@ -133,9 +133,13 @@ shows_rest e w f each (t ∷ ts) stand (here, below) =
 
 -- ---- the empty term
 
+none_all : (f : ℕ → Bool) (ms : List ℕ) → length ms ≡ 0 → list_all f ms ≡ true
+none_all f [] h = refl
+none_all f (m ∷ ms) h = absurd (omega (arith, h))
+
 product-empty : (e : Terms) (x : Set) → product e.polarity empty x ≡ true
-unfolding product members empty
-product-empty e x = refl
+unfolding product
+product-empty e x = none_all (λ j. literal e.polarity j x) (members empty) (sym (len-members empty) ∙ len-none empty has-empty)
 
 -- terms that are not empty stay
 rest_all : (ts : List Set) → AllByRecursion (λ t. t ≢ empty) ts → rest ts ≡ ts

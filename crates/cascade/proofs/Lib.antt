@@ -5,6 +5,7 @@ pub mod NamesApart
 pub mod GatesValid
 pub mod Valid
 pub mod Ports
+pub mod Small
 pub mod CodeLemmas
 pub mod CodeBounds
 pub mod VectorLemmas

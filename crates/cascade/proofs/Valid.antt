@@ -13,7 +13,7 @@ use Rattle.expansion.specs.Terms.{Terms, IsTerms, cost, is_used}
 use Rattle.ae_net.specs.Names.{Names, IsNames, lead, inner}
 use Rattle.cascade.specs.Reddy.{lines, turned, inverters, has_one, control_gates, start, placed, in_order, is_wide, wide_terms, and_place, chain_place, term_signal, and_gates, chain, rest, inner_gates, chains, ends, gates, reddy_net}
 use Rattle.cascade.specs.Shows.{Fits}
-use Rattle.cascade.proofs.Lists.{or_left, or_right}
+use Rattle.cascade.proofs.Lists.{or_left, or_right, length_filter_le}
 use Rattle.ae_net.proofs.Distinct.{each_front, Distinct, AllPairs-from_Distinct, Distinct-from_AllPairs, each_weaker, each-append}
 use Rattle.ae_net.proofs.LeadLemmas.{lead_is_lead, lead_few}
 use Rattle.ae_net.proofs.InnerAreNames.{letter_is_name}
@@ -26,10 +26,6 @@ use Rattle.ae_net.proofs.GatesValid.{AreGates, IsGate-at, AreGates-append}
 use Rattle.cascade.proofs.GatesValid.{AllStand, AreGates-inverters, turned_below, AreGates-control, AreGates-ands, start_below, term_below, Reads, AreGates-chains}
 
 -- ---- sizes
-
-pub length_filter_le : {X : Type 0} (p : X → Bool) (xs : List X) → length (filter p xs) ≤ length xs
-length_filter_le p [] = omega arith
-length_filter_le p (x ∷ xs) = elim (cases_Bool (p x)) [ inl e ↦ rw e (omega (arith, length_filter_le p xs)) | inr e ↦ rw e (omega (arith, length_filter_le p xs)) ]
 
 length_placed_le : (t : Set) (us : List Set) → length (placed t us) ≤ suc (length us)
 length_placed_le t [] = omega arith

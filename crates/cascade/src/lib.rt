@@ -7,6 +7,8 @@ mod limits;
 mod parts;
 mod signals;
 mod terms;
+#[cfg(test)]
+mod tests;
 mod vectors;
 
 pub use build::reddy;
