@@ -1,14 +1,14 @@
 -- The steps from cubes to an expansion.
-use Rattle.std.proofs.Common.{◌≡◌, ◌≢◌, ℕ, zero, suc, ◌+◌, ◌<◌, ◌≤◌, Bool, true, false, not, ◌&&◌, ◌||◌, cond, inl, inr, List, [], ◌∷◌, take, length, get_or, refl, sym, ap, ap₂, ◌∙◌, eqb, arith, add-one}
+use Rattle.std.proofs.Common.{◌≡◌, ◌≢◌, ℕ, zero, suc, ◌+◌, ◌<◌, Bool, true, false, not, ◌&&◌, ◌||◌, inl, inr, List, [], ◌∷◌, take, length, get_or, refl, sym, ap, ap₂, ◌∙◌, arith, add-one}
 use mathlib.Core.Bool.{beq}
 use Rattle.std.specs.Prelude.{Result, Ok, Err, IfOk}
-use Rattle.std.specs.List.{list_any, list_all, AllByRecursion}
-use Rattle.std.proofs.lemmas.Bool.{cases_eq, cases_lt, cases_Bool, false≢true, and_parts, and_from}
+use Rattle.std.specs.List.{list_all, AllByRecursion}
+use Rattle.std.proofs.lemmas.Bool.{cases_eq, false≢true, and_parts, and_from}
 use Rattle.std.proofs.lemmas.List.Elements.{All-from_recursion}
 use Rattle.std.proofs.lemmas.List.Folds.{list_any_more}
-use Rattle.ae_base.specs.Mask.{Set, differ, has, empty, first, with, both, inside, len}
+use Rattle.ae_base.specs.Mask.{Set, differ, has, empty, first, with, inside}
 use Rattle.ae_base.specs.Cube.{Signs, Product, IsOver, holds}
-use Rattle.ae_base.specs.Terms.{IsPoint, IsInOrder, literal, product, exor_of, value}
+use Rattle.ae_base.specs.Terms.{IsInOrder, literal, product, exor_of, value}
 use Rattle.ae_base.proofs.Sets.{has-empty}
 use Rattle.ae_base.proofs.Products.{holds-has, has-holds}
 use Rattle.fn_store.specs.Davio.{IsExpansion}
