@@ -27,9 +27,6 @@ three-ok (Err e) P Q R S p q s f = tt
 pub Means-agree : (p : Signs) (f g : Set → Bool) (ts : List Set) → ((x : Set) → f x ≡ g x) → Means p f ts → Means p g ts
 Means-agree p f g ts h m = record { order = m.order; below = m.below; value = λ x point. m.value x point ∙ h x }
 
-pub Means-none : (p : Signs) → Means p (λ x. false) []
-Means-none p = record { order = from_Ordered [] tt; below = refl; value = λ x point. refl }
-
 one_term : (b : Bool) → b ≡ true → differ b false ≡ true
 one_term true e = refl
 one_term false e = absurd (false≢true e)
@@ -109,10 +106,6 @@ other-signs true false h e = false≢true (sym e)
 other-signs false true h e = false≢true e
 
 -- ---- several inputs
-
-pub all-start : (f : Bool) (s : Set) (plain : Bool) (x : Set) → f ≡ (f && are_all 0 s plain x)
-all-start true s plain x = refl
-all-start false s plain x = refl
 
 pub all-there : (f : Bool) (j : ℕ) (s : Set) (plain : Bool) (x : Set) → has s j ≡ true → ((f && are_all j s plain x) && is_at plain (has x j)) ≡ (f && are_all (j + 1) s plain x)
 all-there f j s plain x e = rw add-one (rw e (join f (are_all j s plain x) (is_at plain (has x j))))

@@ -19,10 +19,6 @@ same_truth true b f g = sym (f refl)
 same_truth false true f g = g refl
 same_truth false false f g = refl
 
-pub differ-false : (a : Bool) → differ a false ≡ a
-differ-false true = refl
-differ-false false = refl
-
 pub differ-same : (a : Bool) → differ a a ≡ false
 differ-same true = refl
 differ-same false = refl
