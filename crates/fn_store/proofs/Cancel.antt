@@ -1,17 +1,17 @@
 -- Equal neighbours of a sorted list of terms cancel in pairs.
-use Rattle.std.proofs.Common.{◌≡◌, ◌≢◌, ℕ, zero, suc, ◌+◌, ◌<◌, ◌≤◌, Bool, true, false, ◌⊎◌, inl, inr, List, [], ◌∷◌, ◌++◌, length, drop, get_or, refl, sym, ap, ap₂, ◌∙◌, subst, arith, append_assoc, drop-cons, add-one, append-nil, Less, Equal, Greater}
+use Rattle.std.proofs.Common.{◌≡◌, ◌≢◌, ℕ, suc, ◌+◌, ◌<◌, ◌≤◌, Bool, false, inl, inr, List, [], ◌∷◌, ◌++◌, length, drop, get_or, refl, sym, ap, ◌∙◌, subst, arith, append_assoc, drop-cons, add-one, append-nil, Less, Equal, Greater}
 use Rattle.std.specs.List.{AllByRecursion}
 use Rattle.std.specs.List.Sorted.{IsSorted, IsPermutation}
 use Rattle.std.specs.Ordering.{is_lt, ordering_reverse}
 use Rattle.std.specs.declared.cmp.Ordering.{Ordering}
-use Rattle.std.proofs.lemmas.Bool.{false≢true, true≢false}
+use Rattle.std.proofs.lemmas.Bool.{false≢true}
 use Rattle.std.proofs.Math.ListN.{drop_of_length-le}
 use Rattle.std.proofs.lemmas.List.Sorted.{sorted_far, ranks_by}
 use Rattle.ae_base.specs.Mask.{Set, differ, cmp_terms}
-use Rattle.ae_base.specs.Terms.{exor_of, IsInOrder}
+use Rattle.ae_base.specs.Terms.{exor_of}
 use Rattle.ae_base.proofs.Order.{cmp_terms_total, cmp_equal, less_trans}
 use Rattle.fn_store.specs.Scratch.{IsReduced, IsToggled}
-use Rattle.fn_store.proofs.Lists.{After, Ordered, Ordered-from, from_Ordered, exor_of-append, exor_of-permutation, differ-assoc, differ-same}
+use Rattle.fn_store.proofs.Lists.{Ordered, from_Ordered, exor_of-append, exor_of-permutation, differ-assoc, differ-same}
 
 -- ---- not falling, by recursion
 

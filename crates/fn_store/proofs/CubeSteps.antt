@@ -1,14 +1,14 @@
 -- The steps from cubes to an expansion.
-use Rattle.std.proofs.Common.{◌≡◌, ◌≢◌, ℕ, zero, suc, ◌+◌, ◌<◌, ◌≤◌, Bool, true, false, not, ◌&&◌, ◌||◌, cond, inl, inr, List, [], ◌∷◌, take, length, get_or, refl, sym, ap, ap₂, ◌∙◌, eqb, arith, add-one}
+use Rattle.std.proofs.Common.{◌≡◌, ◌≢◌, ℕ, zero, suc, ◌+◌, ◌<◌, Bool, true, false, not, ◌&&◌, ◌||◌, inl, inr, List, [], ◌∷◌, take, length, get_or, refl, sym, ap, ap₂, ◌∙◌, arith, add-one}
 use mathlib.Core.Bool.{beq}
 use Rattle.std.specs.Prelude.{Result, Ok, Err, IfOk}
-use Rattle.std.specs.List.{list_any, list_all, AllByRecursion}
-use Rattle.std.proofs.lemmas.Bool.{cases_eq, cases_lt, cases_Bool, false≢true, and_parts, and_from}
+use Rattle.std.specs.List.{list_all, AllByRecursion}
+use Rattle.std.proofs.lemmas.Bool.{cases_eq, false≢true, and_parts, and_from}
 use Rattle.std.proofs.lemmas.List.Elements.{All-from_recursion}
 use Rattle.std.proofs.lemmas.List.Folds.{list_any_more}
-use Rattle.ae_base.specs.Mask.{Set, differ, has, empty, first, with, both, inside, len}
+use Rattle.ae_base.specs.Mask.{Set, differ, has, empty, first, with, inside}
 use Rattle.ae_base.specs.Cube.{Signs, Product, IsOver, holds}
-use Rattle.ae_base.specs.Terms.{IsPoint, IsInOrder, literal, product, exor_of, value}
+use Rattle.ae_base.specs.Terms.{IsInOrder, literal, product, exor_of, value}
 use Rattle.ae_base.proofs.Sets.{has-empty}
 use Rattle.ae_base.proofs.Products.{holds-has, has-holds}
 use Rattle.fn_store.specs.Davio.{IsExpansion}
@@ -26,9 +26,6 @@ three-ok (Err e) P Q R S p q s f = tt
 
 pub Means-agree : (p : Signs) (f g : Set → Bool) (ts : List Set) → ((x : Set) → f x ≡ g x) → Means p f ts → Means p g ts
 Means-agree p f g ts h m = record { order = m.order; below = m.below; value = λ x point. m.value x point ∙ h x }
-
-pub Means-none : (p : Signs) → Means p (λ x. false) []
-Means-none p = record { order = from_Ordered [] tt; below = refl; value = λ x point. refl }
 
 one_term : (b : Bool) → b ≡ true → differ b false ≡ true
 one_term true e = refl
@@ -109,10 +106,6 @@ other-signs true false h e = false≢true (sym e)
 other-signs false true h e = false≢true e
 
 -- ---- several inputs
-
-pub all-start : (f : Bool) (s : Set) (plain : Bool) (x : Set) → f ≡ (f && are_all 0 s plain x)
-all-start true s plain x = refl
-all-start false s plain x = refl
 
 pub all-there : (f : Bool) (j : ℕ) (s : Set) (plain : Bool) (x : Set) → has s j ≡ true → ((f && are_all j s plain x) && is_at plain (has x j)) ≡ (f && are_all (j + 1) s plain x)
 all-there f j s plain x e = rw add-one (rw e (join f (are_all j s plain x) (is_at plain (has x j))))

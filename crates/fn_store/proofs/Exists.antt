@@ -1,17 +1,17 @@
 -- Each truth function has an expansion: the sets below n with coefficient 1, put in order.
-use Rattle.std.proofs.Common.{◌≡◌, ◌≢◌, ℕ, zero, suc, ◌<◌, ◌≤◌, Bool, true, false, not, ◌&&◌, ◌||◌, cond, inl, inr, List, [], ◌∷◌, ◌++◌, map, refl, sym, ap, ap₂, ◌∙◌, eqb, eqb-true, eq-eqb, ne_eqb, arith, Less, Equal, Greater}
+use Rattle.std.proofs.Common.{◌≡◌, ℕ, zero, suc, ◌≤◌, Bool, true, false, ◌&&◌, ◌||◌, cond, inl, inr, List, [], ◌∷◌, ◌++◌, map, refl, sym, ap, ◌∙◌, eqb, eqb-true, eq-eqb, ne_eqb, arith, Less, Equal, Greater}
 use Rattle.std.specs.Prelude.{filter}
-use Rattle.std.specs.List.{list_any, AllByRecursion}
+use Rattle.std.specs.List.{list_any}
 use Rattle.std.specs.declared.cmp.Ordering.{Ordering}
 use Rattle.std.specs.Ordering.{ordering_reverse}
-use Rattle.std.proofs.lemmas.Bool.{cases_eq, cases_Bool, false≢true, and_parts, or_cases, or_left, or_right}
+use Rattle.std.proofs.lemmas.Bool.{cases_eq, cases_Bool, false≢true, or_cases, or_left, or_right}
 use Rattle.std.proofs.lemmas.List.Folds.{list_any-append}
 use Rattle.ae_base.specs.Mask.{Set, has, empty, first, with, without, inside, cmp_terms}
 use Rattle.ae_base.specs.Cube.{Signs}
 use Rattle.ae_base.proofs.Sets.{same_set, has-empty, has-with, has-without}
 use Rattle.ae_base.proofs.Order.{cmp_terms_total, cmp_equal, less_trans}
 use Rattle.fn_store.specs.Davio.{coefficient, IsExpansion}
-use Rattle.fn_store.proofs.Lists.{After, Ordered, from_Ordered, same_truth}
+use Rattle.fn_store.proofs.Lists.{After, Ordered, from_Ordered}
 use Rattle.fn_store.proofs.Products.{inside-above}
 
 -- ---- a list put in order, each term once

@@ -1,15 +1,15 @@
 -- A list of terms in order is the expansion of a function exactly where its value is the function.
-use Rattle.std.proofs.Common.{◌≡◌, ◌≢◌, ℕ, zero, suc, ◌<◌, ◌≤◌, Bool, true, false, not, ◌&&◌, ◌||◌, cond, inl, inr, List, [], ◌∷◌, refl, sym, ap, ap₂, ◌∙◌, eqb, eqb-true, eq-eqb, ne_eqb, arith}
+use Rattle.std.proofs.Common.{◌≡◌, ℕ, zero, suc, ◌<◌, ◌≤◌, Bool, true, false, not, ◌&&◌, ◌||◌, inl, inr, List, [], ◌∷◌, refl, sym, ap, ap₂, ◌∙◌, eqb, eqb-true, eq-eqb, ne_eqb, arith}
 use Rattle.std.specs.Prelude.{All}
 use Rattle.std.specs.List.{list_any, AllByRecursion}
 use Rattle.std.proofs.lemmas.Bool.{cases_eq, cases_Bool, false≢true, and_parts, or_cases, or_left, or_right}
 use Rattle.std.proofs.lemmas.List.Elements.{recursion_from_All, All-from_recursion}
 use Rattle.ae_base.specs.Mask.{Set, differ, has, empty, first, with, inside}
 use Rattle.ae_base.specs.Cube.{Signs}
-use Rattle.ae_base.specs.Terms.{IsPoint, IsInOrder, literal, product, exor_of, value}
+use Rattle.ae_base.specs.Terms.{IsPoint, IsInOrder, literal, product, value}
 use Rattle.ae_base.proofs.Sets.{same_set, has-empty, has-with}
 use Rattle.fn_store.specs.Davio.{put, low, high, coefficient_below, coefficient, IsExpansion}
-use Rattle.fn_store.proofs.Lists.{same_truth, differ-same, exor_of_agree, exor_of-member, Ordered-from, same_lists}
+use Rattle.fn_store.proofs.Lists.{differ-same, exor_of_agree, exor_of-member, Ordered-from, same_lists}
 use Rattle.fn_store.proofs.Coefficients.{SameFrom, put-same, put-other, coefficient_terms, coefficient_agree, coefficient-differ, coefficient-exor_of, low-is, high-is}
 use Rattle.fn_store.proofs.Products.{inside-above, inside-from, coefficient-product}
 

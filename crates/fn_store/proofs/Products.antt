@@ -1,14 +1,14 @@
 -- Products of literals.
-use Rattle.std.proofs.Common.{◌≡◌, ◌≢◌, ℕ, zero, suc, ◌<◌, ◌≤◌, Bool, true, false, not, ◌&&◌, ◌||◌, cond, inl, inr, refl, sym, ap, ap₂, ◌∙◌, eqb, eqb-true, eq-eqb, ne_eqb, arith}
+use Rattle.std.proofs.Common.{◌≡◌, ◌≢◌, ℕ, zero, suc, ◌<◌, ◌≤◌, Bool, true, false, not, ◌&&◌, ◌||◌, cond, inl, inr, refl, sym, ap, ap₂, ◌∙◌, eqb, eqb-true, eq-eqb, arith}
 use Rattle.std.proofs.lemmas.Bool.{cases_eq, cases_lt, cases_Bool, false≢true, and_parts, and_from, or_cases, or_left, or_right, lt-ltb, ltb-true}
-use Rattle.ae_base.specs.Mask.{Set, differ, has, empty, first, with, without, inside, members}
+use Rattle.ae_base.specs.Mask.{Set, differ, has, empty, first, with, inside, members}
 use Rattle.ae_base.specs.Cube.{Signs}
-use Rattle.ae_base.specs.Terms.{literal, product, IsPoint}
-use Rattle.ae_base.proofs.Sets.{same_set, has-empty, has-first, has-with, has-without, inside-has, has-inside}
+use Rattle.ae_base.specs.Terms.{literal, product}
+use Rattle.ae_base.proofs.Sets.{same_set, has-empty, has-first, has-with, inside-has, has-inside}
 use Rattle.ae_base.proofs.Members.{members-has}
 use Rattle.fn_store.specs.Davio.{put, low, high, coefficient_below}
-use Rattle.fn_store.proofs.Lists.{same_truth, all_at, all_from_members, differ-false, differ-same}
-use Rattle.fn_store.proofs.Coefficients.{SameFrom, put-same, put-other, coefficient_agree, coefficient-none, literal-low, literal-high}
+use Rattle.fn_store.proofs.Lists.{same_truth, all_at, all_from_members, differ-same}
+use Rattle.fn_store.proofs.Coefficients.{SameFrom, put-other, coefficient_agree, coefficient-none, literal-low, literal-high}
 
 -- ---- sets of numbers below n
 

@@ -1,14 +1,14 @@
 -- A function depends on exactly the inputs that the terms of its expansion hold.
-use Rattle.std.proofs.Common.{◌≡◌, ◌≢◌, ℕ, zero, suc, ◌<◌, ◌≤◌, Bool, true, false, not, ◌&&◌, ◌||◌, cond, ◌⊎◌, inl, inr, List, [], ◌∷◌, refl, sym, ap, ap₂, ◌∙◌, eqb}
-use Rattle.std.specs.Prelude.{All, filter}
+use Rattle.std.proofs.Common.{◌≡◌, ℕ, ◌<◌, Bool, true, false, not, ◌&&◌, ◌||◌, cond, inl, inr, List, [], ◌∷◌, refl, sym, ap, ap₂, ◌∙◌}
+use Rattle.std.specs.Prelude.{filter}
 use Rattle.std.specs.List.{list_any}
-use Rattle.std.proofs.lemmas.Bool.{cases_Bool, false≢true, and_parts, and_from, or_cases, or_left, or_right}
+use Rattle.std.proofs.lemmas.Bool.{cases_Bool, false≢true, and_parts, and_from, or_cases}
 use Rattle.std.proofs.lemmas.List.Elements.{All-filter}
 use Rattle.std.proofs.lemmas.List.Kept.{AllPairs-filter}
 use Rattle.std.specs.declared.cmp.Ordering.TheVariants.{Less}
 use Rattle.ae_base.specs.Mask.{Set, differ, has, first, with, without, inside, cmp_terms}
 use Rattle.ae_base.specs.Cube.{Signs}
-use Rattle.ae_base.specs.Terms.{IsPoint, product, exor_of, value}
+use Rattle.ae_base.specs.Terms.{IsPoint, product, value}
 use Rattle.fn_store.specs.Davio.{put, low, IsExpansion, DependsOn}
 use Rattle.fn_store.proofs.Lists.{differ-same, any_of}
 use Rattle.fn_store.proofs.Coefficients.{put-has}

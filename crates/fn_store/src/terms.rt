@@ -9,7 +9,7 @@ use ae_base::{Memory, Term, WIDTH};
 use std::alloc::Global;
 
 /// The symmetric difference: the terms that stand in one of the two lists alone, in term order. A test of one term says by `same`
-/// whether that term stands there.
+/// whether that term stands there. The value at a point is the EXOR of the two values. Where memory runs out, `Memory`.
 pub fn exor(alloc: Global, a: &[Term], b: &[Term]) -> Result<Vec<Term>, Memory>
     ensures order { IfOk result (λ ts. IsInOrder ts.items) }
     ensures same { IfOk result (λ ts. (h : Set → Bool) → exor_of h ts.items ≡ differ (exor_of h a.now) (exor_of h b.now)) }
@@ -20,7 +20,8 @@ pub fn exor(alloc: Global, a: &[Term], b: &[Term]) -> Result<Vec<Term>, Memory>
     in_term_order(alloc, both)
 }
 
-/// The product with the literal of an input: the input goes into each term, and equal terms cancel in pairs.
+/// The product with the literal of an input: the input goes into each term, and equal terms cancel in pairs. The value at a point is
+/// the old one where the literal is 1, and 0 elsewhere. Where memory runs out, `Memory`.
 pub fn times_literal(alloc: Global, terms: &[Term], j: u32) -> Result<Vec<Term>, Memory>
     requires { j < WIDTH }
     ensures order { IfOk result (λ ts. IsInOrder ts.items) }
@@ -31,6 +32,7 @@ pub fn times_literal(alloc: Global, terms: &[Term], j: u32) -> Result<Vec<Term>,
     in_term_order(alloc, held)
 }
 
+/// Each term with the input in it.
 fn with_each(alloc: Global, terms: &[Term], j: u32) -> Result<Vec<Term>, Memory>
     requires { j < WIDTH }
     ensures { IfOk result (λ ts. ts.items ≡ map (λ t. with t j) terms.now) }
