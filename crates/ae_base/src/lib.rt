@@ -8,9 +8,9 @@ mod mask;
 mod memory;
 mod name;
 mod seq;
-mod text;
 #[cfg(test)]
 mod tests;
+mod text;
 
 pub use cube::{Cube, Point, Polarity, Term};
 pub use laws::{cube_laws, member_laws, order_laws, set_laws};
