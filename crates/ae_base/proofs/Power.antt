@@ -1,5 +1,5 @@
 -- How sets below n are written.
-use Rattle.std.proofs.Common.{◌≡◌, ◌<◌, ◌≤◌, ◌^◌, ◌-◌, ℕ, zero, suc, lit<, true, eqb-true, arith, sym}
+use Rattle.std.proofs.Common.{◌≡◌, ◌<◌, ◌^◌, ◌-◌, ℕ, zero, suc, lit<, true, eqb-true, arith}
 use Rattle.std.proofs.lemmas.Nat.{and_le_r}
 use Rattle.std.specs.Prelude.{bit_and}
 use Rattle.ae_base.specs.Mask.{Set, first, inside, both}

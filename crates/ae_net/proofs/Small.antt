@@ -1,14 +1,12 @@
 -- The names and the network that the tests make are valid.
-use Rattle.std.proofs.Common.{◌≡◌, ◌≢◌, ℕ, ◌<◌, ◌≤◌, List, [], ◌∷◌, ◌++◌, true, length, get_or, map, refl, ap, ap₂, arith}
-use Rattle.std.specs.Prelude.{Some, slice_get}
+use Rattle.std.proofs.Common.{◌≡◌, ◌≢◌, ℕ, ◌<◌, ◌≤◌, List, [], ◌∷◌, true, length, get_or, refl, ap, arith}
 use Rattle.std.proofs.lemmas.List.Elements.{All-from_recursion}
 use Rattle.ae_base.specs.declared.limits.TheConstants.{SOURCE_NAME_BYTES}
 use Rattle.ae_base.specs.Name.{is_name}
 use Rattle.ae_net.specs.declared.net.Gate.{Gate}
 use Rattle.ae_net.specs.Gates.{inverter}
-use Rattle.ae_net.specs.Names.{Names, IsNames, inner}
-use Rattle.ae_net.specs.Network.{Network}
-use Rattle.ae_net.specs.Valid.{IsValid, IsGate}
+use Rattle.ae_net.specs.Names.{IsNames, inner}
+use Rattle.ae_net.specs.Valid.{IsValid}
 use Rattle.ae_net.proofs.Distinct.{AllPairs-from_Distinct}
 use Rattle.ae_net.proofs.GatesValid.{AreGates, IsGate-at, IsGate-inverter}
 use Rattle.ae_net.proofs.InnerAreNames.{letter_is_name}

@@ -1,9 +1,9 @@
 -- What each kind of gate computes, with a fault or without.
-use Rattle.std.proofs.Common.{◌≡◌, ℕ, zero, suc, ◌+◌, ◌<◌, Bool, true, false, not, ◌&&◌, ◌||◌, cond, List, [], ◌∷◌, length, refl, sym, ap, ap₂, ◌∙◌, arith}
+use Rattle.std.proofs.Common.{◌≡◌, ℕ, zero, suc, ◌+◌, ◌<◌, Bool, true, false, not, ◌&&◌, ◌||◌, List, [], ◌∷◌, length, refl, sym, ap, ap₂, ◌∙◌, arith}
 use Rattle.std.specs.Prelude.{Option, None, slice_index}
 use Rattle.std.specs.List.{list_all}
 use Rattle.std.proofs.lemmas.Bool.{and_parts, and_from, lt-ltb, ltb-true}
-use Rattle.ae_base.specs.Mask.{Set, differ, has, first, where_below, inside}
+use Rattle.ae_base.specs.Mask.{Set, differ, has, where_below}
 use Rattle.ae_base.proofs.Sets.{has-first, has-where_below, inside-has, has-inside}
 use Rattle.ae_net.specs.declared.net.Place.TheVariants.{Pin}
 use Rattle.ae_net.specs.declared.net.Fault.{Fault}

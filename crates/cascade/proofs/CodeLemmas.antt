@@ -1,13 +1,11 @@
 -- Steps of the loops that build the network.
-use Rattle.std.proofs.Common.{◌≡◌, ◌≢◌, ℕ, zero, suc, ◌+◌, ◌-◌, ◌<◌, ◌≤◌, ◌^◌, ◌%◌, Bool, true, false, cond, inl, inr, List, [], ◌∷◌, ◌++◌, length, map, get_or, drop, refl, sym, ap, ◌∙◌, arith, append-nil, append_assoc, map-id, length-append, replicate}
-use Rattle.std.specs.Prelude.{filter, All, slice_index, Option, Some, None, IsSome}
-use Rattle.std.specs.Option.{SomeIff}
+use Rattle.std.proofs.Common.{◌≡◌, ℕ, zero, suc, ◌+◌, ◌-◌, ◌<◌, ◌≤◌, Bool, true, false, cond, inl, inr, List, [], ◌∷◌, ◌++◌, length, map, get_or, drop, refl, sym, ap, ◌∙◌, arith, append-nil, append_assoc, map-id, length-append}
+use Rattle.std.specs.Prelude.{filter, All, slice_index}
 use Rattle.std.specs.List.{range_with_len}
 use Rattle.std.specs.Fmt.{decimal}
-use Rattle.std.proofs.Math.ListN.{length-replicate}
 use Rattle.std.proofs.lemmas.Bool.{cases_Bool}
 use Rattle.std.proofs.lemmas.List.FromFn.{map-range_with_len_more}
-use Rattle.std.proofs.lemmas.List.Elements.{filter-append, All-append, All-cons, All-replicate, All-push, All-nil, All-weaker}
+use Rattle.std.proofs.lemmas.List.Elements.{filter-append}
 use Rattle.std.proofs.Common.{add-one, drop-cons, ne_eqb, eq-eqb}
 use Rattle.std.proofs.lemmas.List.{length-map, map-append, take-append-drop}
 use Rattle.std.proofs.Math.Seq.{take-suc}
@@ -37,13 +35,11 @@ use Rattle.cascade.proofs.GatesValid.{length-members}
 use Rattle.ae_base.specs.Mask.{cmp_terms}
 use Rattle.ae_net.specs.declared.net.Gate.{Gate}
 use Rattle.cascade.specs.Reddy.{gates_for, place_of}
-use Rattle.std.proofs.lemmas.Fmt.{decimal_by_steps, length-decimal-le}
 use Rattle.ae_base.specs.declared.limits.TheConstants.{NET_LINES, PINS, GATES}
 use Rattle.cascade.specs.declared.limits.TheConstants.{REDDY_TERMS}
-use Rattle.ae_base.specs.Mask.{Set, has, first, inside, members, members_from}
+use Rattle.ae_base.specs.Mask.{Set, has, first, inside, members}
 use Rattle.ae_base.proofs.Members.{members-filter}
-use Rattle.ae_net.specs.Names.{inner, IsLetter}
-use Rattle.cascade.proofs.Law.{members_below}
+use Rattle.ae_net.specs.Names.{inner}
 
 range_more : (k : ℕ) → range_with_len 0 (k + 1) ≡ range_with_len 0 k ++ k ∷ []
 range_more k = sym (map-id (range_with_len 0 (k + 1))) ∙ map-range_with_len_more (λ i. i) 0 k k (omega arith) ∙ ap (λ l. l ++ k ∷ []) (map-id (range_with_len 0 k))

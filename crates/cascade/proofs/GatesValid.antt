@@ -1,17 +1,14 @@
 -- The gates of the Reddy network are gates: their pins are earlier signals, and their rows hold positions of pins.
-use Rattle.std.proofs.Common.{◌≡◌, ◌≢◌, ℕ, zero, suc, ◌+◌, ◌-◌, ◌<◌, ◌≤◌, ◌^◌, Bool, true, false, cond, inl, inr, List, [], ◌∷◌, ◌++◌, length, map, refl, sym, ap, ◌∙◌, subst, arith, eqb, eq-eqb, ne_eqb}
-use Rattle.std.specs.Prelude.{Some, slice_get, slice_index, filter, codes, All}
+use Rattle.std.proofs.Common.{◌≡◌, ◌≢◌, ℕ, zero, suc, ◌+◌, ◌-◌, ◌<◌, ◌≤◌, ◌^◌, Bool, true, false, cond, inl, inr, List, [], ◌∷◌, ◌++◌, length, map, refl, sym, ap, ◌∙◌, arith, eqb, eq-eqb, ne_eqb}
+use Rattle.std.specs.Prelude.{slice_index, filter, codes}
 use Rattle.std.specs.List.{list_any, range_with_len, AllByRecursion}
 use Rattle.std.specs.Fmt.{decimal}
 use Rattle.std.proofs.lemmas.Bool.{cases_eq, cases_Bool, false≢true}
 use Rattle.std.proofs.lemmas.List.{length-map}
 use Rattle.std.proofs.lemmas.List.Elements.{All-from_recursion, All-map}
-use Rattle.ae_base.specs.Mask.{Set, has, empty, first, with, both, inside, members, members_from}
-use Rattle.ae_base.specs.Cube.{Product}
-use Rattle.ae_base.proofs.Sets.{has-empty, has-inside}
+use Rattle.ae_base.specs.Mask.{Set, has, empty, first, inside, members}
 use Rattle.ae_base.proofs.Members.{members-has, members-filter}
 use Rattle.std.proofs.lemmas.List.FromFn.{length-range_with_len}
-use Rattle.ae_net.specs.declared.net.Gate.{Gate}
 use Rattle.ae_net.specs.Valid.{IsGate}
 use Rattle.expansion.specs.Terms.{Terms}
 use Rattle.ae_base.specs.declared.limits.TheConstants.{NET_LINES, SOURCE_NAME_BYTES}
@@ -20,7 +17,7 @@ use Rattle.ae_net.specs.Names.{inner, IsLetter}
 use Rattle.ae_net.proofs.InnerAreNames.{letter_is_name, numbered_is_name}
 use Rattle.ae_net.proofs.GatesValid.{AreGates, AreGates-append, IsGate-inverter, IsGate-buffer, IsGate-exor, IsGate-and}
 use Rattle.cascade.proofs.NamesApart.{all_inner}
-use Rattle.ae_net.specs.Gates.{inverter, buffer, exor, and_gate}
+use Rattle.ae_net.specs.Gates.{inverter, and_gate}
 use Rattle.expansion.specs.Terms.{is_used}
 use Rattle.cascade.specs.Reddy.{place_of, gates_for, lines, turned, literal_signal, has_one, control_gates, start, is_wide, wide_terms, and_place, chain_place, term_signal, links, chain, rest, inner_gates, chains}
 use Rattle.cascade.proofs.Lists.{or_left, or_right, length_filter_le}

@@ -1,5 +1,5 @@
 -- What the Reddy network shows.
-use Rattle.std.proofs.Common.{◌≡◌, ℕ, Bool, List, ap, not, ◌∙◌, refl}
+use Rattle.std.proofs.Common.{◌≡◌, ℕ, List, ap, ◌∙◌, refl}
 use Rattle.std.specs.Prelude.{Some, None, slice_get, codes}
 use Rattle.ae_base.specs.Mask.{Set, differ, has}
 use Rattle.ae_base.specs.Terms.{value}

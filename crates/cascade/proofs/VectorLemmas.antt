@@ -4,7 +4,7 @@ use Rattle.std.specs.Prelude.{filter}
 use Rattle.std.specs.List.{list_any}
 use Rattle.std.proofs.lemmas.Bool.{cases_Bool, false≢true}
 use Rattle.std.proofs.lemmas.List.Elements.{filter-append}
-use Rattle.ae_base.specs.Mask.{Set, differ, has, both, xor, where_below}
+use Rattle.ae_base.specs.Mask.{Set, differ, has, both, xor}
 use Rattle.ae_base.specs.Cube.{Signs}
 use Rattle.ae_base.proofs.Sets.{same_set, has-both, has-xor, has-where_below}
 use Rattle.expansion.specs.Terms.{Terms, is_used, used_inputs}

@@ -1,5 +1,5 @@
 -- The first four vectors of the Reddy form.
-use Rattle.std.specs.Prelude.{◌≡◌, ℕ, ◌==◌, Bool, true, false, not, ◌&&◌, if◌then◌else◌, List, [], ◌∷◌, filter}
+use Rattle.std.specs.Prelude.{◌==◌, Bool, true, false, not, ◌&&◌, if◌then◌else◌, List, [], ◌∷◌, filter}
 use Rattle.ae_base.specs.Mask.{Set, has, with, where_below}
 use Rattle.ae_base.specs.Cube.{Signs}
 

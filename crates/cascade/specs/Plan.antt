@@ -1,5 +1,5 @@
 -- What the builder works out before it makes the gates. For its private contracts alone.
-use Rattle.std.specs.Prelude.{◌≡◌, ℕ, ◌+◌, ◌≤◌, true, List, length, All}
+use Rattle.std.specs.Prelude.{◌≡◌, ◌+◌, ◌≤◌, true, List, length, All}
 use Rattle.ae_base.specs.declared.limits.TheConstants.{NET_LINES, SOURCE_NAME_BYTES}
 use Rattle.ae_base.specs.Mask.{Set, inside, first}
 use Rattle.expansion.specs.Terms.{Terms, IsTerms}

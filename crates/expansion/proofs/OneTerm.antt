@@ -1,5 +1,5 @@
 -- The expansion that the test makes.
-use Rattle.std.proofs.Common.{◌≡◌, ℕ, List, [], ◌∷◌, true, length, sym, ◌∙◌, arith}
+use Rattle.std.proofs.Common.{◌≡◌, List, [], ◌∷◌, true, sym, ◌∙◌, arith}
 use Rattle.std.specs.Prelude.{All}
 use Rattle.std.proofs.lemmas.Bool.{false≢true, lt-ltb, ltb-true}
 use Rattle.std.proofs.lemmas.List.Elements.{All-from_recursion}
@@ -7,7 +7,7 @@ use Rattle.ae_base.specs.Mask.{Set, empty, first, inside}
 use Rattle.ae_base.specs.Cube.{Signs}
 use Rattle.ae_base.specs.Terms.{IsInOrder}
 use Rattle.ae_base.proofs.Sets.{has-empty, has-first, has-inside}
-use Rattle.expansion.specs.Terms.{Terms, IsTerms}
+use Rattle.expansion.specs.Terms.{IsTerms}
 
 first_inside : inside (first 1) (first 2) ≡ true
 first_inside = has-inside (first 1) (first 2) (λ k m. has-first 2 k ∙ lt-ltb k 2 (omega (arith, ltb-true k 1 (sym (has-first 1 k) ∙ m))))

@@ -1,4 +1,4 @@
-use Rattle.std.proofs.Common.{◌≡◌, ◌∙◌, ◌++◌, ◌∷◌, [], List, ℕ, ap}
+use Rattle.std.proofs.Common.{◌∙◌, ◌++◌, ◌∷◌, [], List, ℕ, ap}
 use Rattle.cascade.specs.Reddy.{gates}
 use Rattle.cascade.proofs.CodeBounds.{net_valid}
 use Rattle.cascade.proofs.build.reddy_with.Goals as goal
