@@ -1,0 +1,10 @@
+pub mod Ends
+pub mod Expands
+pub mod Written
+pub mod Meaning
+pub mod Shown
+pub mod Small
+pub mod Sources
+pub mod Synthesised
+pub mod Telling
+pub mod Used

@@ -1,0 +1,7 @@
+pub mod Asked
+pub mod Lines
+pub mod Outcome
+pub mod Steps
+pub mod Synthesis
+pub mod VectorFile
+pub mod Words

@@ -1,0 +1,76 @@
+-- What a synthesis makes of a source: a network that implements it, and the network's vectors with its responses.
+use Rattle.std.specs.Prelude.{◌≡◌, ◌↔◌, ℕ, ◌<◌, Bool, true, not, Some, None, List, [], ◌∷◌, ◌++◌, length, map, slice_get, All}
+use Rattle.ae_base.specs.Mask.{Set, has, with, first}
+use Rattle.ae_base.specs.Cube.{Signs}
+use Rattle.ae_base.specs.Terms.{IsPoint}
+use Rattle.ae_base.specs.Source.{Source, on_set, IsUsed}
+use Rattle.ae_net.specs.Network.{Network}
+use Rattle.ae_net.specs.Valid.{IsValid}
+use Rattle.ae_net.specs.Run.{out}
+use Rattle.ae_net.specs.Implements.{Implements, port_names}
+use Rattle.ae_net.specs.Blif.{blif_text}
+use Rattle.ae_net.specs.Names.{Names}
+use Rattle.expansion.specs.Terms.{Terms, cost}
+use Rattle.fn_store.specs.Davio.{IsExpansion}
+use Rattle.cascade.specs.Reddy.{reddy_net}
+use Rattle.cascade.specs.FirstVectors.{first_vectors}
+use Rattle.synth_cmd.specs.declared.job.Summary.{Summary}
+use Rattle.synth_cmd.specs.declared.vector_file.Form.TheVariants.{Reddy}
+use Rattle.synth_cmd.specs.VectorFile.{VectorFile, IsValidVectorFile, vector_text}
+
+-- each of n inputs has its plain literal
+abbrev pub all_plain : ℕ → Signs
+all_plain n = record { n = n; plain = first n }
+
+abbrev pub names_of : Source → Names
+names_of s = record { model = s.model; inputs = s.inputs; outputs = s.outputs }
+
+-- for each output in order the expansion of the function that is 1 exactly where it is specified On
+pub record AreExpansions (s : Source) (p : Signs) (e : Terms) : Type 0 where
+  pub polarity : e.polarity ≡ p
+  pub outputs : length e.outs ≡ length s.outputs
+  pub each : (o : ℕ) (ts : List Set) → slice_get e.outs o ≡ Some ts → IsExpansion p (on_set s o) ts
+
+-- The network has Reddy form for the source at the polarity: it is the cascade over these expansions.
+pub record HasReddyForm (s : Source) (p : Signs) (e : Terms) (n : Network) : Type 0 where
+  pub expansions : AreExpansions s p e
+  pub cascade : n ≡ reddy_net (names_of s) e
+
+-- With the control at 0 each output is 1 exactly where the source specifies On, and with it at 1 exactly elsewhere. The control is the
+-- input after those of the source.
+pub record ShowsBoth (s : Source) (n : Network) : Type 0 where
+  pub low : (x : Set) → IsPoint (length s.inputs) x → (o : ℕ) → o < length s.outputs → has (out n None x) o ≡ on_set s o x
+  pub high : (x : Set) → IsPoint (length s.inputs) x → (o : ℕ) → o < length s.outputs → has (out n None (with x (length s.inputs))) o ≡ not (on_set s o x)
+
+-- A valid network that implements the source, with one more input, the control.
+pub record IsNetworkOf (s : Source) (n : Network) : Type 0 where
+  pub valid : IsValid n
+  pub model : n.model ≡ s.model
+  pub implements : Implements n s
+  pub shows : ShowsBoth s n
+
+-- The vector file of a network: the first four vectors of the cascade, none twice, each with the network's fault-free outputs.
+pub record IsFileOf (s : Source) (n : Network) (file : VectorFile) : Type 0 where
+  pub valid : IsValidVectorFile file
+  pub form : file.form ≡ Reddy
+  pub inputs : file.inputs ≡ n.inputs
+  pub outputs : file.outputs ≡ port_names n
+  pub polarity : file.polarity ≡ all_plain (length s.inputs)
+  pub used : Set
+  pub are_used : (j : ℕ) → (has used j ≡ true) ↔ IsUsed s j
+  pub points : map (λ v. v.point) file.vectors ≡ first_vectors file.polarity used
+  pub responses : All (λ v. v.outs ≡ out n None v.point) file.vectors
+
+-- the texts of a network and of its vector file, and their numbers
+pub record IsSynthesised (s : Source) (net_bytes vector_bytes : List ℕ) (summary : Summary) : Type 0 where
+  pub net : Network
+  pub expansions : Terms
+  pub file : VectorFile
+  pub is_network : IsNetworkOf s net
+  pub has_form : HasReddyForm s (all_plain (length s.inputs)) expansions net
+  pub is_file : IsFileOf s net file
+  pub net_text : net_bytes ≡ blif_text net
+  pub vector_text : vector_bytes ≡ vector_text file
+  pub terms : summary.terms ≡ cost expansions
+  pub gates : summary.gates ≡ length net.gates
+  pub vectors : summary.vectors ≡ length file.vectors

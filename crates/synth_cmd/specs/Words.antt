@@ -1,0 +1,20 @@
+-- The command that was read.
+use Rattle.std.specs.Prelude.{◌≢◌, ⊤, ℕ, List}
+use Rattle.synth_cmd.specs.Asked.{Asked}
+use Rattle.synth_cmd.specs.Asked.Asked.{Refused as asked_refused, Synth as asked_synth}
+use Rattle.synth_cmd.specs.declared.words.Command.{Command}
+use Rattle.synth_cmd.specs.declared.words.Command.TheVariants.{Refused, Synth}
+
+abbrev pub command_of : Command → Asked
+command_of Refused = asked_refused
+command_of (Synth source net vectors) = asked_synth source.now net.now vectors.now
+
+-- the names of a command's files differ
+pub record ApartNames (source net vectors : List ℕ) : Type 0 where
+  pub source_net : source ≢ net
+  pub source_vectors : source ≢ vectors
+  pub net_vectors : net ≢ vectors
+
+abbrev pub AreApart : Asked → Type 0
+AreApart asked_refused = ⊤
+AreApart (asked_synth source net vectors) = ApartNames source net vectors

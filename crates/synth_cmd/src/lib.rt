@@ -1,0 +1,33 @@
+//! The command line over any files and any sink: a source read, its network and vectors written, and a report.
+#![tactic(auto)]
+
+mod job;
+mod lines;
+mod synthesis;
+mod tell;
+mod top;
+mod vector_file;
+mod vector_text;
+mod words;
+
+pub use job::Summary;
+pub use top::run;
+pub use vector_file::{Form, VecFile, Vector};
+
+/// The command is done: all texts are written, and the report.
+pub const DONE: u8 = 0;
+
+/// The words ask for no command.
+pub const WORDS: u8 = 2;
+
+/// A read of the source failed.
+pub const READ_FAULT: u8 = 3;
+
+/// A write of a text or of the report failed.
+pub const WRITE_FAULT: u8 = 4;
+
+/// The source's text is refused.
+pub const REFUSED: u8 = 5;
+
+/// Memory is wanting.
+pub const MEMORY: u8 = 8;

@@ -1,0 +1,168 @@
+//! What is made of a source: its network and the network's vectors, as texts.
+ghost use Rattle.std.specs.Prelude.{◌≡◌, ◌<◌, ◌++◌, ◌∷◌, [], if◌then◌else◌, IfOk, OnOk, All, length};
+ghost use Rattle.pla_read.specs.Cover.{has_mark, is_one, source_of};
+ghost use Rattle.synth_cmd.specs.Steps.{IsSmall, cubes_of, file_over, vectors_of};
+ghost use Rattle.synth_cmd.specs.Synthesis.{AreExpansions, IsSynthesised, all_plain, names_of};
+ghost use Rattle.synth_cmd.specs.VectorFile.{IsValidVectorFile};
+
+use crate::job::Summary;
+use crate::vector_file::{Form, VecFile, Vector};
+use crate::vector_text::vector_text;
+use ae_base::{Cube, Memory, Name, Point, Polarity, Seq};
+use ae_net::{Net, NetNames, answer, scratch_for};
+use blif_write::blif_text;
+use cascade::{first_vectors, reddy};
+use expansion::{Expansion, pairs};
+use fn_store::cubes_expansion;
+use pla_read::{Cover, Mark, Row};
+use std::alloc::Global;
+
+/// The texts of a network and of its vectors, and their numbers.
+#[derive(Drop)]
+pub struct Made {
+    pub net_text: Vec<u8>,
+    pub vector_text: Vec<u8>,
+    pub summary: Summary,
+}
+
+fn copies(alloc: Global, names: &[Name]) -> Result<Seq<Name>, Memory>
+    ensures { IfOk result (λ list. list ≡ names.now) }
+{
+    let mut list = Seq::new(alloc);
+    for name in names {
+        list.push(name.copy(alloc)?)?;
+    }
+    Ok(list)
+}
+
+/// The names of a network: a PLA text gives its model none of its own.
+fn net_names(alloc: Global, cover: &Cover) -> Result<NetNames, Memory>
+    requires { IsSmall cover.now }
+    ensures { IfOk result (λ names. names ≡ names_of (source_of cover.now)) }
+{
+    let inputs = copies(alloc, cover.inputs())?;
+    let outputs = copies(alloc, cover.outputs())?;
+    let model = Name::from_bytes(alloc, b"andexor")?.unwrap();
+    Ok(NetNames {
+        model,
+        inputs,
+        outputs,
+    })
+}
+
+fn is_one(mark: Mark) -> bool
+    ensures { result ≡ is_one mark }
+{
+    match mark {
+        Mark::One => true,
+        _ => false,
+    }
+}
+
+/// Whether the row has `One` at the output.
+fn has_one(row: &Row, output: usize) -> bool
+    requires { output < length row.now.outs }
+    ensures { result ≡ has_mark is_one output row.now }
+{
+    is_one(*row.outs.at(output))
+}
+
+fn push_cube(row: &Row, output: usize, cubes: &mut Vec<Cube>) -> Result<(), Memory>
+    requires { output < length row.now.outs }
+    ensures { OnOk result (cubes.new.items ≡ cubes.old.items ++ (if has_mark is_one output row.now then row.now.cube ∷ [] else [])) }
+{
+    if has_one(row, output) {
+        cubes.push(row.cube)?;
+    }
+    Ok(())
+}
+
+/// The cubes of the rows that have `One` at the output.
+fn output_cubes(alloc: Global, rows: &[Row], output: usize) -> Result<Vec<Cube>, Memory>
+    requires { All (λ row. output < length row.outs) rows.now }
+    ensures { IfOk result (λ cubes. cubes.items ≡ cubes_of rows.now output) }
+{
+    let mut cubes = Vec::new(alloc);
+    for row in rows {
+        push_cube(row, output, &mut cubes)?;
+    }
+    Ok(cubes)
+}
+
+/// The expansions of all outputs, each input with its plain literal.
+fn expansions(alloc: Global, cover: &Cover) -> Result<Expansion, Memory>
+    requires { IsSmall cover.now }
+    ensures { IfOk result (λ e. AreExpansions (source_of cover.now) (all_plain (length cover.now.inputs)) e) }
+{
+    let polarity = Polarity::all_plain(cover.inputs().len() as u32);
+    let rows = cover.rows();
+    let mut outs = Seq::new(alloc);
+    for output in 0..cover.outputs().len() {
+        let cubes = output_cubes(alloc, rows, output)?;
+        let terms = cubes_expansion(alloc, polarity, &cubes)?;
+        outs.push(Seq::from_vec(terms))?;
+    }
+    Ok(Expansion { polarity, outs })
+}
+
+/// Each point with the network's fault-free outputs there.
+fn responses(alloc: Global, net: &Net, points: &[Point]) -> Result<Seq<Vector>, Memory>
+    ensures { IfOk result (λ vectors. vectors ≡ vectors_of net.now points.now) }
+{
+    let mut scratch = scratch_for(alloc, net)?;
+    let mut vectors = Seq::new(alloc);
+    for point in points {
+        let outs = answer(net, None, *point, &mut scratch);
+        vectors.push(Vector {
+            point: *point,
+            outs,
+        })?;
+    }
+    Ok(vectors)
+}
+
+/// The vector file of a network over these points.
+fn vector_file(
+    alloc: Global,
+    net: &Net,
+    outputs: &[Name],
+    polarity: Polarity,
+    points: &[Point],
+) -> Result<VecFile, Memory>
+    requires { IsValidVectorFile (file_over net.now outputs.now polarity points.now) }
+    ensures { IfOk result (λ file. file ≡ file_over net.now outputs.now polarity points.now) }
+{
+    let inputs = copies(alloc, net.inputs())?;
+    let outputs = copies(alloc, outputs)?;
+    let vectors = responses(alloc, net, points)?;
+    Ok(VecFile {
+        form: Form::Reddy,
+        inputs,
+        outputs,
+        polarity,
+        vectors,
+    })
+}
+
+/// The network of a source and its first vectors, as texts.
+pub fn synthesise(alloc: Global, cover: &Cover) -> Result<Made, Memory>
+    requires { IsSmall cover.now }
+    ensures { IfOk result (λ made. IsSynthesised (source_of cover.now) made.net_text.items made.vector_text.items made.summary) }
+{
+    let names = net_names(alloc, cover)?;
+    let expansions = expansions(alloc, cover)?;
+    let net = reddy(alloc, &names, &expansions)?;
+    let points = first_vectors(alloc, &expansions)?;
+    let file = vector_file(alloc, &net, cover.outputs(), expansions.polarity(), &points)?;
+    let net_text = blif_text(alloc, &net)?;
+    let vector_text = vector_text(alloc, &file)?;
+    Ok(Made {
+        net_text,
+        vector_text,
+        summary: Summary {
+            terms: pairs(&expansions),
+            gates: net.gates().len() as u64,
+            vectors: file.vectors.len() as u64,
+        },
+    })
+}

@@ -1,0 +1,96 @@
+//! What the report takes at the end of a call.
+ghost use Rattle.std.specs.Prelude.{◌≡◌, ◌≢◌, ◌⊎◌, ◌≤◌, string_bytes, IfOk};
+ghost use Rattle.ae_outside.specs.Counts.{Rose};
+ghost use Rattle.ae_outside.specs.Files.{added, TookFront};
+ghost use Rattle.synth_cmd.specs.Lines.{memory_line, report_lines, status_of, line_of};
+ghost use Rattle.synth_cmd.specs.Outcome.{Told, TellsMemory};
+
+use crate::job::Summary;
+use crate::{DONE, MEMORY, READ_FAULT, REFUSED, WRITE_FAULT, lines};
+use ae_outside::{Sink, WriteErr, put_all};
+use std::alloc::{AllocError, Global};
+
+/// What is told of a file where a command stops at it.
+#[derive(Clone, Copy, Debug, PartialEq, Eq)]
+pub enum Refusal {
+    ReadFault,
+    WriteFault,
+    NarrowForm,
+}
+
+/// Tells that memory is wanting.
+pub fn want_memory<K: Sink>(report: &mut K) -> u8
+    ensures status { result ≡ MEMORY }
+    ensures told { TookFront memory_line (K.taken report.old) (K.taken report.new) }
+    ensures counts { K.faults report.old ≤ K.faults report.new }
+{
+    let _ = put_all(report, b"want of memory\n");
+    MEMORY
+}
+
+/// Tells a line and answers the status, or that of memory. A fault of the report changes no status.
+pub fn tell<K: Sink>(report: &mut K, line: &[u8], status: u8) -> u8
+    requires { status ≢ MEMORY }
+    ensures status { (result ≡ status) ⊎ (result ≡ MEMORY) }
+    ensures told { result ≢ MEMORY → Told line.now (K.taken report.old) (K.taken report.new) (K.faults report.old) (K.faults report.new) }
+    ensures memory { result ≡ MEMORY → TellsMemory line.now (K.taken report.old) (K.taken report.new) }
+    ensures counts { K.faults report.old ≤ K.faults report.new }
+{
+    match put_all(report, line) {
+        Ok(()) => status,
+        Err(WriteErr::Fault) => status,
+        Err(WriteErr::Memory) => want_memory(report),
+    }
+}
+
+fn status(refusal: Refusal) -> u8
+    ensures { result ≡ status_of refusal }
+{
+    match refusal {
+        Refusal::ReadFault => READ_FAULT,
+        Refusal::WriteFault => WRITE_FAULT,
+        Refusal::NarrowForm => REFUSED,
+    }
+}
+
+fn line(alloc: Global, refusal: Refusal, name: &str) -> Result<String, AllocError>
+    ensures { IfOk result (λ line. string_bytes line ≡ line_of refusal name.now) }
+{
+    match refusal {
+        Refusal::ReadFault => lines::read_fault(alloc, name),
+        Refusal::WriteFault => lines::write_fault(alloc, name),
+        Refusal::NarrowForm => lines::refused(alloc, name),
+    }
+}
+
+/// Tells why a command stopped at a file, and answers the refusal's status, or that of memory.
+pub fn refuse<K: Sink>(alloc: Global, report: &mut K, refusal: Refusal, name: &str) -> u8
+    ensures status { (result ≡ status_of refusal) ⊎ (result ≡ MEMORY) }
+    ensures told { result ≢ MEMORY → Told (line_of refusal name.now) (K.taken report.old) (K.taken report.new) (K.faults report.old) (K.faults report.new) }
+    ensures memory { result ≡ MEMORY → TellsMemory (line_of refusal name.now) (K.taken report.old) (K.taken report.new) }
+    ensures counts { K.faults report.old ≤ K.faults report.new }
+{
+    match line(alloc, refusal, name) {
+        Ok(line) => tell(report, line.as_bytes(), status(refusal)),
+        Err(_) => want_memory(report),
+    }
+}
+
+/// Reports a synthesis.
+pub fn finish<K: Sink>(alloc: Global, report: &mut K, summary: Summary) -> u8
+    ensures known { (result ≡ DONE) ⊎ ((result ≡ WRITE_FAULT) ⊎ (result ≡ MEMORY)) }
+    ensures done { result ≡ DONE → K.taken report.new ≡ added (K.taken report.old) (report_lines summary) }
+    ensures fault { result ≡ WRITE_FAULT → Rose (K.faults report.old) (K.faults report.new) }
+    ensures front { result ≡ WRITE_FAULT → TookFront (report_lines summary) (K.taken report.old) (K.taken report.new) }
+    ensures memory { result ≡ MEMORY → TellsMemory (report_lines summary) (K.taken report.old) (K.taken report.new) }
+    ensures counts { K.faults report.old ≤ K.faults report.new }
+{
+    match lines::report(alloc, summary) {
+        Ok(text) => match put_all(report, text.as_bytes()) {
+            Ok(()) => DONE,
+            Err(WriteErr::Fault) => WRITE_FAULT,
+            Err(WriteErr::Memory) => want_memory(report),
+        },
+        Err(_) => want_memory(report),
+    }
+}

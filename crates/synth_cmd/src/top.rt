@@ -1,0 +1,82 @@
+//! The top call, and a function for each command.
+ghost use Rattle.std.specs.Prelude.{◌≡◌, ◌⊎◌, IfSome};
+ghost use Rattle.ae_outside.specs.Counts.{Rose, RoseAt};
+ghost use Rattle.synth_cmd.specs.Asked.{asked, SomeOf, ByCommand, reads_of, writes_of};
+ghost use Rattle.synth_cmd.specs.Asked.Asked.{Refused};
+ghost use Rattle.synth_cmd.specs.Outcome.{HoldsOther, SynthEnds, RefusedEnds, outside};
+
+use crate::job::{Stop, synthesise_files};
+use crate::tell::{Refusal, finish, refuse, tell, want_memory};
+use crate::words::{Command, read_command};
+use crate::{MEMORY, READ_FAULT, REFUSED, WORDS, WRITE_FAULT};
+use ae_outside::{Files, Sink};
+use std::alloc::Global;
+
+fn synth_command<F: Files, K: Sink>(
+    alloc: Global,
+    files: &mut F,
+    report: &mut K,
+    source: &str,
+    net: &str,
+    vectors: &str,
+) -> u8
+    ensures { SynthEnds source.now net.now vectors.now
+        (outside F.held F.read_faults F.write_faults K.taken K.faults files.old report.old)
+        (outside F.held F.read_faults F.write_faults K.taken K.faults files.new report.new)
+        result }
+{
+    match synthesise_files(alloc, files, source, net, vectors) {
+        Ok(summary) => finish(alloc, report, summary),
+        Err(Stop::ReadFault) => refuse(alloc, report, Refusal::ReadFault, source),
+        Err(Stop::NarrowForm) => refuse(alloc, report, Refusal::NarrowForm, source),
+        Err(Stop::NetFault) => refuse(alloc, report, Refusal::WriteFault, net),
+        Err(Stop::VectorsFault) => refuse(alloc, report, Refusal::WriteFault, vectors),
+        Err(Stop::Memory) => want_memory(report),
+    }
+}
+
+fn refuse_words<F: Files, K: Sink>(_files: &F, report: &mut K) -> u8
+    ensures { RefusedEnds
+        (outside F.held F.read_faults F.write_faults K.taken K.faults _files.now report.old)
+        (outside F.held F.read_faults F.write_faults K.taken K.faults _files.now report.new)
+        result }
+{
+    tell(
+        report,
+        b"usage: andexor synth IN NET VEC, grade NET VEC, check NET VEC, demo NUMBER NET VEC\n",
+        WORDS,
+    )
+}
+
+/// Does what the words ask for, the program's own name left out, and answers the status.
+///
+/// `synth IN NET VEC` reads the file IN, and writes the network that implements it to NET and its vectors with their responses to VEC.
+pub fn run<F: Files, K: Sink>(alloc: Global, words: &[String], files: &mut F, report: &mut K) -> u8
+    // Each status has its cause.
+    ensures words_only { result ≡ WORDS → asked words.now ≡ Refused }
+    ensures words_always { asked words.now ≡ Refused → (result ≡ WORDS) ⊎ (result ≡ MEMORY) }
+    ensures read_only { result ≡ READ_FAULT → SomeOf (reads_of (asked words.now)) (λ name. RoseAt name (F.read_faults files.old) (F.read_faults files.new)) }
+    ensures write_only { result ≡ WRITE_FAULT →
+        SomeOf (writes_of (asked words.now)) (λ name. RoseAt name (F.write_faults files.old) (F.write_faults files.new)) ⊎ Rose (K.faults report.old) (K.faults report.new) }
+    ensures refused_only { result ≡ REFUSED → IfSome (F.held files.old) (λ m. SomeOf (reads_of (asked words.now)) (λ name. HoldsOther name m)) }
+
+    // Each command ends as it says.
+    ensures ends { ByCommand (asked words.now)
+        (RefusedEnds
+        (outside F.held F.read_faults F.write_faults K.taken K.faults files.old report.old)
+        (outside F.held F.read_faults F.write_faults K.taken K.faults files.new report.new)
+        result)
+        (λ source net vectors. SynthEnds source net vectors
+        (outside F.held F.read_faults F.write_faults K.taken K.faults files.old report.old)
+        (outside F.held F.read_faults F.write_faults K.taken K.faults files.new report.new)
+        result) }
+{
+    match read_command(words) {
+        Command::Refused => refuse_words(files, report),
+        Command::Synth {
+            source,
+            net,
+            vectors,
+        } => synth_command(alloc, files, report, source, net, vectors),
+    }
+}
