@@ -23,3 +23,11 @@ pub fn run_words(
     let words = words(alloc, text)?;
     Ok(run(alloc, &words, files, report))
 }
+
+/// Whether the name holds exactly these bytes.
+pub fn holds(files: &MemFiles, name: &str, bytes: &[u8]) -> bool {
+    match files.held(name) {
+        Some(held) => held == bytes,
+        None => false,
+    }
+}

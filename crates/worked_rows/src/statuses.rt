@@ -2,10 +2,16 @@
 
 use crate::files::run_words;
 use ae_outside::{MemFiles, MemSink};
+use std::alloc::{AllocError, Global};
 use std::test::Fail;
 use synth_cmd::{DONE, READ_FAULT, REFUSED, WORDS, WRITE_FAULT};
 
-const AND: &[u8] = b".i 2\n.o 1\n11 1\n.e\n";
+static AND: &[u8] = b".i 2\n.o 1\n11 1\n.e\n";
+
+static REFUSAL: &[u8] = b"refused: in.pla: narrow form\n";
+
+static USAGE: &[u8] =
+    b"usage: andexor synth IN NET VEC, grade NET VEC, check NET VEC, demo NUMBER NET VEC\n";
 
 #[test]
 fn synth_succeeds_with_ample_memory(rt: HostRuntime) -> Result<(), Fail> {
@@ -18,31 +24,49 @@ fn synth_succeeds_with_ample_memory(rt: HostRuntime) -> Result<(), Fail> {
     Ok(())
 }
 
+/// Whether neither text was written.
+fn holds_no_text(files: &MemFiles) -> bool {
+    files.held("n.blif").is_none() && files.held("v.vec").is_none()
+}
+
+/// Whether words are refused, and no file is touched: other words than those of a command are.
+fn refuses_words(alloc: Global, text: &str) -> Result<bool, AllocError> {
+    let mut files = MemFiles::new(alloc);
+    let mut report = MemSink::new(alloc);
+    files.put("in.pla", AND).map_err(|_| AllocError)?;
+    let status = run_words(alloc, text, &mut files, &mut report)?;
+    Ok(status == WORDS && report.bytes() == USAGE && holds_no_text(&files))
+}
+
 #[test]
-fn other_words_are_refused(rt: HostRuntime) -> Result<(), Fail> {
+fn words_of_another_number(rt: HostRuntime) -> Result<(), Fail> {
     let alloc = rt.alloc();
-    for text in [
-        "synth",
-        "synth in.pla n.blif",
-        "synth in.pla n.blif v.vec more",
-        "synth in.pla in.pla v.vec",
-        "synth in.pla n.blif in.pla",
-        "synth in.pla n.blif n.blif",
-        "grade n.blif v.vec",
-        "Synth in.pla n.blif v.vec",
-    ] {
-        let mut files = MemFiles::new(alloc);
-        let mut report = MemSink::new(alloc);
-        files.put("in.pla", AND)?;
-        let status = run_words(alloc, text, &mut files, &mut report)?;
-        assert_eq!(rt; status, WORDS);
-        assert_eq!(rt;
-            report.bytes(),
-            b"usage: andexor synth IN NET VEC, grade NET VEC, check NET VEC, demo NUMBER NET VEC\n".as_slice()
-        );
-        assert!(rt; files.held("n.blif").is_none());
-        assert!(rt; files.held("v.vec").is_none());
-    }
+    let refused = refuses_words(alloc, "synth in.pla n.blif")?;
+    assert!(rt; refused);
+    let refused = refuses_words(alloc, "synth in.pla n.blif v.vec more")?;
+    assert!(rt; refused);
+    Ok(())
+}
+
+#[test]
+fn words_of_another_mode(rt: HostRuntime) -> Result<(), Fail> {
+    let alloc = rt.alloc();
+    let refused = refuses_words(alloc, "grade n.blif v.vec")?;
+    assert!(rt; refused);
+    let refused = refuses_words(alloc, "Synth in.pla n.blif v.vec")?;
+    assert!(rt; refused);
+    Ok(())
+}
+
+#[test]
+fn words_with_equal_names(rt: HostRuntime) -> Result<(), Fail> {
+    let alloc = rt.alloc();
+    let refused = refuses_words(alloc, "synth in.pla in.pla v.vec")?;
+    assert!(rt; refused);
+    let refused = refuses_words(alloc, "synth in.pla n.blif in.pla")?;
+    assert!(rt; refused);
+    let refused = refuses_words(alloc, "synth in.pla n.blif n.blif")?;
+    assert!(rt; refused);
     Ok(())
 }
 
@@ -58,32 +82,51 @@ fn a_missing_source_is_a_read_fault(rt: HostRuntime) -> Result<(), Fail> {
     Ok(())
 }
 
+/// Whether a text is refused as not of the narrow form, and nothing is written.
+fn refuses_text(alloc: Global, source: &[u8]) -> Result<bool, AllocError> {
+    let mut files = MemFiles::new(alloc);
+    let mut report = MemSink::new(alloc);
+    files.put("in.pla", source).map_err(|_| AllocError)?;
+    let status = run_words(alloc, "synth in.pla n.blif v.vec", &mut files, &mut report)?;
+    Ok(status == REFUSED && report.bytes() == REFUSAL && holds_no_text(&files))
+}
+
 #[test]
-fn other_texts_are_refused(rt: HostRuntime) -> Result<(), Fail> {
+fn a_text_without_its_end(rt: HostRuntime) -> Result<(), Fail> {
+    let alloc = rt.alloc();
+    let refused = refuses_text(alloc, b"")?;
+    assert!(rt; refused);
+    let refused = refuses_text(alloc, b".i 2\n.o 1\n11 1\n")?;
+    assert!(rt; refused);
+    let refused = refuses_text(alloc, b".i 2\n.o 1\n11 1\n.e")?;
+    assert!(rt; refused);
+    Ok(())
+}
+
+#[test]
+fn a_text_with_a_ninth_input(rt: HostRuntime) -> Result<(), Fail> {
+    let alloc = rt.alloc();
+    let refused = refuses_text(alloc, b".i 9\n.o 1\n111111111 1\n.e\n")?;
+    assert!(rt; refused);
+    Ok(())
+}
+
+#[test]
+fn a_text_with_a_stray_byte(rt: HostRuntime) -> Result<(), Fail> {
+    let alloc = rt.alloc();
+    let refused = refuses_text(alloc, b".i 2\n.o 1\n12 1\n.e\n")?;
+    assert!(rt; refused);
+    let refused = refuses_text(alloc, b".i 2\n.o 1\n11 1\n.e\n\n")?;
+    assert!(rt; refused);
+    Ok(())
+}
+
+#[test]
+fn a_text_longer_than_any(rt: HostRuntime) -> Result<(), Fail> {
     let alloc = rt.alloc();
     let long = vec![in alloc; b'1'; 4622]?;
-    for source in [
-        b"".as_slice(),
-        b".i 2\n.o 1\n11 1\n".as_slice(),
-        b".i 2\n.o 1\n11 1\n.e".as_slice(),
-        b".i 9\n.o 1\n111111111 1\n.e\n".as_slice(),
-        b".i 2\n.o 1\n12 1\n.e\n".as_slice(),
-        b".i 2\n.o 1\n11  1\n.e\n".as_slice(),
-        b".i 2\n.o 1\n11 1\n.e\n\n".as_slice(),
-        long.as_slice(),
-    ] {
-        let mut files = MemFiles::new(alloc);
-        let mut report = MemSink::new(alloc);
-        files.put("in.pla", source)?;
-        let status = run_words(alloc, "synth in.pla n.blif v.vec", &mut files, &mut report)?;
-        assert_eq!(rt; status, REFUSED);
-        assert_eq!(rt;
-            report.bytes(),
-            b"refused: in.pla: narrow form\n".as_slice()
-        );
-        assert!(rt; files.held("n.blif").is_none());
-        assert!(rt; files.held("v.vec").is_none());
-    }
+    let refused = refuses_text(alloc, &long)?;
+    assert!(rt; refused);
     Ok(())
 }
 
