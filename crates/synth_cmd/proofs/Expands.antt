@@ -99,9 +99,6 @@ pub record Expanded (t : Table) (k : ℕ) (outs : List (List Set)) : Type 0 wher
   pub outputs : length outs ≡ k
   pub each : (o : ℕ) (ts : List Set) → slice_get outs o ≡ Some ts → IsExpansion (all_plain (length t.inputs)) (on_set (source_of t) o) ts
 
-pub expanded_none : (t : Table) → Expanded t 0 []
-expanded_none t = record { outputs = refl; each = λ o ts e. absurd (cc e) }
-
 pub expanded_more : (t : Table) (k : ℕ) (outs : List (List Set)) (ts : List Set) → Expanded t k outs → IsExpansion (all_plain (length t.inputs)) (some_holds (cubes_of t.rows k)) ts
     → Expanded t (k + 1) (outs ++ ts ∷ [])
 expanded_more t k outs ts had is = record {

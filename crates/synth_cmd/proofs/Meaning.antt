@@ -2,15 +2,16 @@
 use Rattle.std.proofs.Common.{◌≡◌, ◌≢◌, ◌<◌, ◌≤◌, ℕ, zero, suc, Bool, true, false, not, ◌&&◌, ◌||◌, cond, inl, inr, List, [], ◌∷◌, ◌++◌, length, map, refl, sym, ap, ap₂, ◌∙◌, eqb, eq-eqb, ne_eqb, arith}
 use Rattle.std.specs.Prelude.{All, filter, Some, slice_get}
 use Rattle.std.specs.List.{list_any, list_all, AllByRecursion}
-use Rattle.std.proofs.lemmas.Bool.{cases_eq, cases_lt, and_parts, or_cases, false≢true, ltb-true}
+use Rattle.std.proofs.lemmas.Bool.{cases_eq, cases_lt, and_parts, or_cases, false≢true}
 use Rattle.std.proofs.lemmas.List.Elements.{recursion_from_All}
 use Rattle.ae_base.specs.Mask.{Set, differ, has, first, inside, with, members}
 use Rattle.ae_base.specs.Cube.{Product, Signs, holds}
 use Rattle.ae_base.specs.Terms.{IsPoint, literal, product, exor_of, value}
 use Rattle.ae_base.specs.Source.{Source, Specified, is_on, on_set}
 use Rattle.ae_base.specs.Source.Specified.{On, Off, Free}
-use Rattle.ae_base.proofs.Sets.{has-with, has-first, inside-has}
+use Rattle.ae_base.proofs.Sets.{has-with}
 use Rattle.ae_base.proofs.Members.{members-has}
+use Rattle.fn_store.proofs.Products.{inside-below}
 use Rattle.pla_read.specs.declared.parts.Kind.{Kind}
 use Rattle.pla_read.specs.declared.parts.Kind.TheVariants.{F, Fd, Fr, Fdr}
 use Rattle.pla_read.specs.declared.parts.Row.{Row}
@@ -58,14 +59,11 @@ list_all_same f g (j ∷ ms) h =
     later true b e = refl
     later false b e = e
 
-below : (n : ℕ) (t : Set) → inside t (first n) ≡ true → (j : ℕ) → has t j ≡ true → j < n
-below n t h j m = ltb-true j n (sym (has-first n j) ∙ inside-has t (first n) h j m)
-
 pub product-with : (p : Signs) (t x : Set) → inside t (first p.n) ≡ true → product p t (with x p.n) ≡ product p t x
 unfolding product
 product-with p t x h = list_all_same _ _ (members t) (λ j m.
     let there : has t j ≡ true = sym (members-has t j) ∙ m in
-    let l : j < p.n = below p.n t h j there in
+    let l : j < p.n = inside-below p.n t h j there in
     ap (λ b. cond (has p.plain j) b (not b)) (has-with x p.n j ∙ ap (λ b. b || has x j) (ne_eqb j p.n (λ e. absurd (omega (arith, l, e))))))
 
 pub value-with : (p : Signs) (ts : List Set) (x : Set) → AllByRecursion (λ t. inside t (first p.n) ≡ true) ts → value p ts (with x p.n) ≡ value p ts x
@@ -77,7 +75,7 @@ pub control_low : (n : ℕ) (x : Set) → IsPoint n x → has x n ≡ false
 control_low n x h = by_case (has x n) refl
   where
     by_case : (b : Bool) → has x n ≡ b → b ≡ false
-    by_case true e = absurd (omega (arith, below n x h n e))
+    by_case true e = absurd (omega (arith, inside-below n x h n e))
     by_case false e = refl
 
 pub control_high : (n : ℕ) (x : Set) → has (with x n) n ≡ true

@@ -1,6 +1,6 @@
 -- A network that shows the values of a source's expansions implements the source.
-use Rattle.std.proofs.Common.{◌≡◌, ◌≢◌, ◌<◌, ◌≤◌, ◌-◌, ◌+◌, ◌↔◌, ℕ, zero, suc, Bool, true, false, not, ◌&&◌, ◌||◌, List, [], ◌∷◌, ◌++◌, length, map, get_or, refl, sym, ap, ap₂, ◌∙◌, eqb, arith, subst, inl, inr, ◌⊎◌}
-use Rattle.std.specs.Prelude.{All, AllPairs, Option, Some, None, slice_get, slice_index}
+use Rattle.std.proofs.Common.{◌≡◌, ◌≢◌, ◌<◌, ◌≤◌, ◌-◌, ◌+◌, ◌↔◌, ℕ, zero, suc, Bool, true, false, not, ◌&&◌, ◌||◌, List, [], ◌∷◌, ◌++◌, length, map, get_or, refl, sym, ap, ◌∙◌, eqb, arith, subst, inl, inr, ◌⊎◌}
+use Rattle.std.specs.Prelude.{All, AllPairs, Option, Some, None, slice_get}
 use Rattle.std.specs.List.{list_any}
 use Rattle.std.proofs.lemmas.Bool.{or_cases, false≢true, and_parts, and_from, ltb-true, lt-ltb, cases_lt, cases_eq}
 use Rattle.std.proofs.lemmas.List.{get_or_append_left, get_or-append_right, length-append, length-map}
@@ -14,12 +14,6 @@ use Rattle.ae_net.specs.Valid.{IsValid, IsDistinct}
 use Rattle.ae_net.specs.Implements.{Meets, port_names}
 
 -- ---- lists by their places
-
-pub map_is : (f : ℕ → List ℕ) (xs : List ℕ) (ys : List (List ℕ)) → length xs ≡ length ys → ((o : ℕ) (y : List ℕ) → slice_get ys o ≡ Some y → f (slice_index xs o) ≡ y) → map f xs ≡ ys
-map_is f [] [] l h = refl
-map_is f [] (y ∷ ys) l h = absurd (omega (arith, l))
-map_is f (x ∷ xs) [] l h = absurd (omega (arith, l))
-map_is f (x ∷ xs) (y ∷ ys) l h = ap₂ (λ a list. a ∷ list) (h 0 y refl) (map_is f xs ys (omega (arith, l)) (λ o z e. h (suc o) z e))
 
 -- where an element stands that passes the test
 pub record Stands {X : Type 0} (p : X → Bool) (xs : List X) : Type 0 where
