@@ -15,7 +15,8 @@ mod text;
 pub use cube::{Cube, Point, Polarity, Term};
 pub use laws::{cube_laws, member_laws, order_laws, set_laws};
 pub use limits::{
-    GATES, NAME_BYTES, NET_LINES, PINS, SOURCE_LINES, SOURCE_NAME_BYTES, WIDTH, WRITTEN_LINES,
+    GATES, NAME_BYTES, NET_LINES, PINS, SOURCE_LINES, SOURCE_NAME_BYTES, TEXT_BYTES, WIDTH,
+    WRITTEN_LINES,
 };
 pub use mask::Mask;
 pub use memory::Memory;

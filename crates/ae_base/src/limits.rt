@@ -23,3 +23,6 @@ pub const NAME_BYTES: usize = 511;
 
 /// The most bytes of a name in a source text.
 pub const SOURCE_NAME_BYTES: usize = 255;
+
+/// The most bytes of a text that is read.
+pub const TEXT_BYTES: usize = 16_777_216;

@@ -9,13 +9,13 @@ use Rattle.std.proofs.lemmas.List.Folds.{list_any_more}
 use Rattle.ae_base.specs.Mask.{Set, differ, has, empty, first, with, inside}
 use Rattle.ae_base.specs.Cube.{Signs, Product, IsOver, holds}
 use Rattle.ae_base.specs.Terms.{IsInOrder, literal, product, exor_of, value}
-use Rattle.ae_base.proofs.Sets.{has-empty}
+use Rattle.ae_base.proofs.Sets.{has-empty, inside-below, inside-from}
 use Rattle.ae_base.proofs.Products.{holds-has, has-holds}
 use Rattle.fn_store.specs.Davio.{IsExpansion}
 use Rattle.fn_store.specs.Cubes.{some_holds}
 use Rattle.fn_store.specs.Scratch.{Means, is_at, are_all}
 use Rattle.fn_store.proofs.Lists.{same_truth, from_Ordered, and-differ}
-use Rattle.fn_store.proofs.Products.{inside-below, inside-from, inside-put, product-with, product-empty}
+use Rattle.fn_store.proofs.Products.{inside-put, product-with, product-empty}
 use Rattle.fn_store.proofs.Expansions.{only}
 
 pub three-ok : {T E : Type 0} (r : Result T E) (P Q R S : T → Type 0) → IfOk r P → IfOk r Q → IfOk r R → ((x : T) → P x → Q x → R x → S x) → IfOk r S

@@ -4,22 +4,11 @@ use Rattle.std.proofs.lemmas.Bool.{cases_eq, cases_lt, cases_Bool, false≢true,
 use Rattle.ae_base.specs.Mask.{Set, differ, has, empty, first, with, inside, members}
 use Rattle.ae_base.specs.Cube.{Signs}
 use Rattle.ae_base.specs.Terms.{literal, product}
-use Rattle.ae_base.proofs.Sets.{same_set, has-empty, has-first, has-with, inside-has, has-inside}
+use Rattle.ae_base.proofs.Sets.{same_set, has-empty, has-first, has-with, inside-has, has-inside, inside-below, inside-above, inside-from}
 use Rattle.ae_base.proofs.Members.{members-has}
 use Rattle.fn_store.specs.Davio.{put, low, high, coefficient_below}
 use Rattle.fn_store.proofs.Lists.{same_truth, all_at, all_from_members, differ-same}
 use Rattle.fn_store.proofs.Coefficients.{SameFrom, put-other, coefficient_agree, coefficient-none, literal-low, literal-high}
-
--- ---- sets of numbers below n
-
-pub inside-below : (n : ℕ) (t : Set) → inside t (first n) ≡ true → (k : ℕ) → has t k ≡ true → k < n
-inside-below n t h k m = ltb-true k n (sym (has-first n k) ∙ inside-has t (first n) h k m)
-
-pub inside-above : (n : ℕ) (t : Set) → inside t (first n) ≡ true → (k : ℕ) → n ≤ k → has t k ≡ false
-inside-above n t h k l = elim (cases_Bool (has t k)) [ inl e ↦ absurd (omega (arith, l, inside-below n t h k e)) | inr e ↦ e ]
-
-pub inside-from : (n : ℕ) (t : Set) → ((k : ℕ) → n ≤ k → has t k ≡ false) → inside t (first n) ≡ true
-inside-from n t h = has-inside t (first n) (λ k m. has-first n k ∙ elim (cases_lt k n) [ inl l ↦ lt-ltb k n l | inr l ↦ absurd (false≢true (sym (h k l) ∙ m)) ])
 
 pub inside-put : (n j : ℕ) (v : Bool) (x : Set) → inside x (first n) ≡ true → j < n → inside (put j v x) (first n) ≡ true
 inside-put n j v x h l = inside-from n (put j v x) (λ k m. put-other j k v x (λ e. absurd (omega (arith, e))) ∙ inside-above n x h k m)

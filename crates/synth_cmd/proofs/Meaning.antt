@@ -9,9 +9,8 @@ use Rattle.ae_base.specs.Cube.{Product, Signs, holds}
 use Rattle.ae_base.specs.Terms.{IsPoint, literal, product, exor_of, value}
 use Rattle.ae_base.specs.Source.{Source, Specified, is_on, on_set}
 use Rattle.ae_base.specs.Source.Specified.{On, Off, Free}
-use Rattle.ae_base.proofs.Sets.{has-with}
+use Rattle.ae_base.proofs.Sets.{has-with, inside-below}
 use Rattle.ae_base.proofs.Members.{members-has}
-use Rattle.fn_store.proofs.Products.{inside-below}
 use Rattle.pla_read.specs.declared.parts.Kind.{Kind}
 use Rattle.pla_read.specs.declared.parts.Kind.TheVariants.{F, Fd, Fr, Fdr}
 use Rattle.pla_read.specs.declared.parts.Row.{Row}
