@@ -8,11 +8,10 @@ use Rattle.std.proofs.lemmas.Bool.{cases_eq, cases_Bool, false≢true, or_cases,
 use Rattle.std.proofs.lemmas.List.Folds.{list_any-append}
 use Rattle.ae_base.specs.Mask.{Set, has, empty, first, with, without, inside, cmp_terms}
 use Rattle.ae_base.specs.Cube.{Signs}
-use Rattle.ae_base.proofs.Sets.{same_set, has-empty, has-with, has-without}
+use Rattle.ae_base.proofs.Sets.{same_set, has-empty, has-with, has-without, inside-above}
 use Rattle.ae_base.proofs.Order.{cmp_terms_total, cmp_equal, less_trans}
 use Rattle.fn_store.specs.Davio.{coefficient, IsExpansion}
 use Rattle.fn_store.proofs.Lists.{After, Ordered, from_Ordered}
-use Rattle.fn_store.proofs.Products.{inside-above}
 
 -- ---- a list put in order, each term once
 

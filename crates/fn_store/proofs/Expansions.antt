@@ -7,11 +7,11 @@ use Rattle.std.proofs.lemmas.List.Elements.{recursion_from_All, All-from_recursi
 use Rattle.ae_base.specs.Mask.{Set, differ, has, empty, first, with, inside}
 use Rattle.ae_base.specs.Cube.{Signs}
 use Rattle.ae_base.specs.Terms.{IsPoint, IsInOrder, literal, product, value}
-use Rattle.ae_base.proofs.Sets.{same_set, has-empty, has-with}
+use Rattle.ae_base.proofs.Sets.{same_set, has-empty, has-with, inside-above, inside-from}
 use Rattle.fn_store.specs.Davio.{put, low, high, coefficient_below, coefficient, IsExpansion}
 use Rattle.fn_store.proofs.Lists.{differ-same, exor_of_agree, exor_of-member, Ordered-from, same_lists}
 use Rattle.fn_store.proofs.Coefficients.{SameFrom, put-same, put-other, coefficient_terms, coefficient_agree, coefficient-differ, coefficient-exor_of, low-is, high-is}
-use Rattle.fn_store.proofs.Products.{inside-above, inside-from, coefficient-product}
+use Rattle.fn_store.proofs.Products.{coefficient-product}
 
 -- ---- a function whose coefficients are all 0
 

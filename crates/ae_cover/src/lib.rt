@@ -1,0 +1,9 @@
+//! Covers: rows of cubes that say what is specified for each output, and their clashes.
+#![tactic(auto)]
+
+mod clash;
+mod cover;
+mod parts;
+
+pub use cover::{Cover, PLA_ROWS};
+pub use parts::{Clash, Kind, Mark, Row};
