@@ -9,4 +9,4 @@ mod tests;
 
 pub use cubes::cubes_expansion;
 pub use laws::expansion_law;
-pub use terms::{exor, times_literal};
+pub use terms::{LIST_TERMS, exor, times_literal};

@@ -8,6 +8,10 @@ ghost use Rattle.fn_store.specs.Scratch.{IsReduced, IsToggled};
 use ae_base::{Memory, Term, WIDTH};
 use std::alloc::Global;
 
+/// A list of more terms than this, before equal ones cancel, ends with want of memory, so that a function of many terms never takes
+/// the whole machine.
+pub const LIST_TERMS: usize = 8_388_608;
+
 /// The symmetric difference: the terms that stand in one of the two lists alone, in term order. A test of one term says by `same`
 /// whether that term stands there. The value at a point is the EXOR of the two values. Where memory runs out, `Memory`.
 pub fn exor(alloc: Global, a: &[Term], b: &[Term]) -> Result<Vec<Term>, Memory>
@@ -45,6 +49,9 @@ fn with_each(alloc: Global, terms: &[Term], j: u32) -> Result<Vec<Term>, Memory>
 fn in_term_order(alloc: Global, terms: Vec<Term>) -> Result<Vec<Term>, Memory>
     ensures { IfOk result (λ ts. IsReduced terms.items ts.items) }
 {
+    if terms.len() > LIST_TERMS {
+        return Err(Memory);
+    }
     let mut sorted = terms;
     sorted.sort_unstable();
     let mut kept = Vec::new(alloc);

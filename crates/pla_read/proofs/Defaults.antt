@@ -1,5 +1,5 @@
 -- The default names.
-use Rattle.std.proofs.Common.{◌≡◌, ◌≢◌, ℕ, zero, suc, ◌+◌, ◌-◌, ◌%◌, ◌^◌, ◌<◌, ◌≤◌, Bool, true, false, not, ◌&&◌, eqb, leb, List, [], ◌∷◌, ◌++◌, length, get_or, All, refl, ap, ◌∙◌, inl, inr, ◌⊎◌, arith, mod-lt}
+use Rattle.std.proofs.Common.{◌≡◌, ◌≢◌, ℕ, zero, suc, ◌+◌, ◌-◌, ◌%◌, ◌^◌, ◌<◌, ◌≤◌, Bool, true, false, not, ◌&&◌, eqb, leb, List, [], ◌∷◌, ◌++◌, length, get_or, All, Result, Ok, Err, IfOk, refl, sym, ap, ◌∙◌, subst, arith, mod-lt}
 use Rattle.std.specs.List.{list_all, AllPairs}
 use Rattle.std.specs.Fmt.{decimal}
 use Rattle.std.proofs.lemmas.Bool.{le-leb, ne_eqb}
@@ -7,8 +7,9 @@ use Rattle.std.proofs.lemmas.List.{get_or_at, length_push, append-nil, append_as
 use Rattle.std.proofs.lemmas.List.Elements.{All-nil, All-push, All-append}
 use Rattle.std.proofs.lemmas.List.Quantifiers.{all_pairs_push}
 use Rattle.std.proofs.lemmas.Fmt.{decimal_by_steps, length-decimal-le, decimal_injective}
-use Rattle.ae_base.specs.Name.{is_allowed, is_name}
-use Rattle.pla_read.specs.Narrow.{default_names}
+use Rattle.ae_base.specs.Name.{is_allowed, is_name, is_source_name}
+use Rattle.pla_read.specs.Pla.{default_names}
+use Rattle.pla_read.specs.Sound.{AreLabels}
 
 -- ---- they are names
 
@@ -60,16 +61,20 @@ named letter n (d ∷ ds) first h short =
 pub default_is_name : (letter n : ℕ) → is_allowed letter ≡ true → n < 2 ^ 64 → is_name (letter ∷ decimal n) ≡ true
 default_is_name letter n first small = named letter n (decimal n) first (ends_decimal n small) (length-decimal-le 20 n (omega arith) (omega arith) (omega arith))
 
-pub all_named : (letter n : ℕ) → is_allowed letter ≡ true → n < 2 ^ 64 → All (λ name. is_name name ≡ true) (default_names letter n)
+short : (letter n : ℕ) → n < 2 ^ 64 → leb (length (letter ∷ decimal n)) 255 ≡ true
+short letter n small = le-leb _ _ (omega (arith, length-decimal-le 20 n (omega arith) (omega arith) (omega arith)))
+
+all_named : (letter n : ℕ) → is_allowed letter ≡ true → n < 2 ^ 64 → All (λ name. is_source_name name ≡ true) (default_names letter n)
 all_named letter zero first small = All-nil _
 all_named letter (suc n) first small =
-    All-push (λ name. is_name name ≡ true) (default_names letter n) (letter ∷ decimal (suc n)) (all_named letter n first (omega arith)) (default_is_name letter (suc n) first small)
+    All-push (λ name. is_source_name name ≡ true) (default_names letter n) (letter ∷ decimal (suc n)) (all_named letter n first (omega arith))
+    (and_true (is_name (letter ∷ decimal (suc n))) (leb (length (letter ∷ decimal (suc n))) 255) (default_is_name letter (suc n) first small) (short letter (suc n) small))
 
 -- ---- they differ
 
-pub length-default : (letter n : ℕ) → length (default_names letter n) ≡ n
-length-default letter zero = refl
-length-default letter (suc n) = length_push (default_names letter n) _ ∙ omega (arith, length-default letter n)
+pub default_count : (letter n : ℕ) → length (default_names letter n) ≡ n
+default_count letter zero = refl
+default_count letter (suc n) = length_push (default_names letter n) _ ∙ omega (arith, default_count letter n)
 
 earlier : (letter k n : ℕ) → k < n → n < 2 ^ 64 → All (λ name. name ≢ letter ∷ decimal n) (default_names letter k)
 earlier letter zero n lt small = All-nil _
@@ -77,22 +82,15 @@ earlier letter (suc k) n lt small =
     All-push (λ name. name ≢ letter ∷ decimal n) (default_names letter k) (letter ∷ decimal (suc k)) (earlier letter k n (omega arith) small)
     (λ e. let same : decimal (suc k) ≡ decimal n = cc in omega (arith, lt, decimal_injective (suc k) n (omega arith) small same))
 
-other_letter : (letter other k n : ℕ) → letter < other ⊎ other < letter → All (λ name. name ≢ other ∷ decimal n) (default_names letter k)
-other_letter letter other zero n apart = All-nil _
-other_letter letter other (suc k) n apart =
-    All-push (λ name. name ≢ other ∷ decimal n) (default_names letter k) (letter ∷ decimal (suc k)) (other_letter letter other k n apart)
-    (λ e. let same : letter ≡ other = cc in elim apart [ inl lt ↦ omega (arith, lt, same) | inr lt ↦ omega (arith, lt, same) ])
-
 distinct_one : (letter n : ℕ) → n < 2 ^ 64 → AllPairs (λ name other. name ≢ other) (default_names letter n)
 distinct_one letter zero small = λ i j d lt le. absurd (omega (arith, le))
 distinct_one letter (suc n) small =
     all_pairs_push (λ name other. name ≢ other) (default_names letter n) (letter ∷ decimal (suc n)) (distinct_one letter n (omega arith)) (earlier letter n (suc n) (omega arith) small)
 
--- the names of inputs and of outputs
-pub all_distinct : (letter other n m : ℕ) → letter < other ⊎ other < letter → n < 2 ^ 64 → m < 2 ^ 64 → AllPairs (λ name other. name ≢ other) (default_names letter n ++ default_names other m)
-all_distinct letter other n zero apart small few = rw append-nil (distinct_one letter n small)
-all_distinct letter other n (suc m) apart small few =
-    let before = default_names letter n ++ default_names other m in
-    let name : List ℕ = other ∷ decimal (suc m) in
-    let all : All (λ x. x ≢ name) before = All-append (λ x. x ≢ name) (default_names letter n) (default_names other m) (other_letter letter other n (suc m) apart) (earlier other m (suc m) (omega arith) few) in
-    rw (← append_assoc (default_names letter n) (default_names other m) (name ∷ [])) (all_pairs_push (λ x y. x ≢ y) before name (all_distinct letter other n m apart small (omega arith)) all)
+default_labels : (letter n : ℕ) → is_allowed letter ≡ true → n < 2 ^ 64 → AreLabels (default_names letter n)
+default_labels letter n first small = record { named = all_named letter n first small; distinct = distinct_one letter n small }
+
+-- the default names, where memory suffices for them
+pub labels_if_ok : {E : Type 0} (found : Result (List (List ℕ)) E) (letter n : ℕ) → is_allowed letter ≡ true → n < 2 ^ 64 → IfOk found (λ names. names ≡ default_names letter n) → IfOk found AreLabels
+labels_if_ok (Ok names) letter n first small e = subst AreLabels (sym e) (default_labels letter n first small)
+labels_if_ok (Err want) letter n first small e = tt

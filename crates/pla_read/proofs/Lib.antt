@@ -1,5 +1,6 @@
-pub mod Texts
 pub mod Defaults
-pub mod Rows
+pub mod Labels
 pub mod Reading
-pub mod Examples
+pub mod Rows
+pub mod Steps
+pub mod Whole

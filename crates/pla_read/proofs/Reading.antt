@@ -1,110 +1,94 @@
--- Reading the rows of a text one by one.
-use Rattle.std.proofs.Common.{◌≡◌, ◌≢◌, ℕ, ◌<◌, ◌≤◌, Bool, true, false, not, List, [], ◌∷◌, ◌++◌, length, All, codes, refl, sym, ap, ap₂, ◌∙◌, subst, arith}
-use Rattle.std.specs.Str.{bytes_eq}
-use Rattle.std.proofs.lemmas.Slice.Eq.{bytes_eq-Decides}
-use Rattle.std.proofs.lemmas.List.{length-map, map-append}
-use Rattle.std.proofs.lemmas.List.Elements.{All-nil, All-head}
-use Rattle.pla_read.specs.declared.narrow.TheConstants.{NARROW_ROWS}
-use Rattle.pla_read.specs.declared.parts.Row.{Row}
-use Rattle.pla_read.specs.Cover.{Table}
-use Rattle.pla_read.specs.Narrow.{Line, Form, IsLine, IsNarrow, row_of, narrow_text, cover_of, NarrowSays, SaysNothing, default_names}
-use Rattle.pla_read.specs.declared.parts.Kind.TheVariants.{Fd}
-use Rattle.pla_read.specs.Parts.{number_then, rows_then, ending, HasNumber, HasLine, HasLines, AreRows, SayRows}
-use Rattle.pla_read.proofs.Texts.{Left, left, more_lines, same_number, narrow_parts}
+-- Reading line by line.
+use Rattle.std.proofs.Common.{◌≡◌, ℕ, ◌+◌, ◌<◌, ◌≤◌, Bool, true, false, cond, List, [], ◌∷◌, ◌++◌, length, get_or, take, drop, map, Some, None, refl, sym, ap, ◌∙◌}
+use Rattle.std.proofs.lemmas.List.{append-nil, append_assoc, drop_more, take_more, drop_all, map-append}
+use Rattle.ae_lex.specs.declared.text.Line.{Line}
+use Rattle.pla_read.specs.Words.{Word}
+use Rattle.pla_read.specs.Pla.{Seen, Statement, Heads, Holds, Said, said, is_end, until_end, last_read, faults, first_of, first_fault, seen}
+use Rattle.pla_read.specs.Step.{with_line}
+use Rattle.pla_read.specs.declared.fault.PlaFault.{PlaFault}
+use Rattle.pla_read.specs.declared.header.Header.TheVariants as header
+use Rattle.pla_read.proofs.Steps.{seen_push}
 
-pub no_rows : (n m : ℕ) (bytes : List ℕ) → SayRows n m bytes [] bytes
-no_rows n m bytes = record { lines = []; has = record { are_lines = All-nil _; text = refl }; rows_are = refl }
+-- what the first k lines say, and the others
+abbrev pub before : List ℕ → List Line → ℕ → List Statement
+before bytes lines k = map (λ line. (said bytes line).says) (take k lines)
 
-pub more_rows : (n m : ℕ) (bytes : List ℕ) (rows : List Row) (rest : List ℕ) (line : Line) (after : List ℕ) (row : Row) → SayRows n m bytes rows rest → HasLine n m rest line after → row ≡ row_of line
-    → SayRows n m bytes (rows ++ row ∷ []) after
-more_rows n m bytes rows rest line after row say next is =
+abbrev pub rest : List ℕ → List Line → ℕ → List Said
+rest bytes lines k = map (said bytes) (drop k lines)
+
+abbrev pub says : List Said → List Statement
+says lines = map (λ line. line.says) lines
+
+pub before_more : (bytes : List ℕ) (lines : List Line) (k : ℕ) (line : Line) → k < length lines → line ≡ get_or lines k line → before bytes lines (k + 1) ≡ before bytes lines k ++ (said bytes line).says ∷ []
+before_more bytes lines k line lt e =
+    ap (map (λ (l : Line). (said bytes l).says)) (take_more lines k line lt) ∙ map-append (λ (l : Line). (said bytes l).says) (take k lines) (get_or lines k line ∷ [])
+    ∙ ap (λ (l : Line). before bytes lines k ++ (said bytes l).says ∷ []) (sym e)
+
+pub rest_more : (bytes : List ℕ) (lines : List Line) (k : ℕ) (line : Line) → k < length lines → line ≡ get_or lines k line → rest bytes lines k ≡ said bytes line ∷ rest bytes lines (k + 1)
+rest_more bytes lines k line lt e = ap (map (said bytes)) (drop_more lines k line lt) ∙ ap (λ (l : Line). said bytes l ∷ rest bytes lines (k + 1)) (sym e)
+
+pub rest_none : (bytes : List ℕ) (lines : List Line) (k : ℕ) → length lines ≤ k → rest bytes lines k ≡ []
+rest_none bytes lines k le = ap (map (said bytes)) (drop_all k lines le)
+
+-- how far the lines have been read: these stand before, those are left, of all
+pub record IsAt (count : ℕ) (all : List Said) (done : List Statement) (left : List Said) : Type 0 where
+  pub fault : first_fault done (until_end left) ≡ first_fault [] (until_end all)
+  pub last : last_read count left ≡ last_read count all
+  pub lines : done ++ says (until_end left) ≡ says (until_end all)
+
+pub at_start : (last : ℕ) (all : List Said) → IsAt last all [] all
+at_start last all = record { fault = refl; last = refl; lines = refl }
+
+end_is : (line : Statement) → is_end line ≡ true → (words : List Word) × (line ≡ Heads header.End words)
+end_is (Heads header.End words) h = (words, refl)
+end_is (Heads header.Inputs words) h = absurd cc
+end_is (Heads header.Outputs words) h = absurd cc
+end_is (Heads header.InputNames words) h = absurd cc
+end_is (Heads header.OutputNames words) h = absurd cc
+end_is (Heads header.Type words) h = absurd cc
+end_is (Heads header.Products words) h = absurd cc
+end_is (Heads header.Unsupported words) h = absurd cc
+end_is (Heads header.Unknown words) h = absurd cc
+end_is (Holds chars) h = absurd cc
+
+-- a line that is read and is no end
+pub at_more : (last : ℕ) (all : List Said) (done : List Statement) (line : Said) (left : List Said) → IsAt last all done (line ∷ left) → is_end line.says ≡ false
+    → first_of (faults (seen done) line.says) ≡ None → IsAt last all (done ++ line.says ∷ []) left
+at_more last all done line left at goes none =
+    let fault : first_fault done (until_end (line ∷ left)) ≡ first_fault (done ++ line.says ∷ []) (until_end left) = rw goes (rw none refl) in
+    let lasts : last_read last (line ∷ left) ≡ last_read last left = rw goes refl in
+    let lines : done ++ says (until_end (line ∷ left)) ≡ (done ++ line.says ∷ []) ++ says (until_end left) = rw goes (sym (append_assoc done (line.says ∷ []) (says (until_end left)))) in
+    record { fault = sym fault ∙ at.fault; last = sym lasts ∙ at.last; lines = sym lines ∙ at.lines }
+
+-- a faulty line
+fault_cond : (b : Bool) (done : List Statement) (line : Said) (left : List Said) (f : PlaFault) → first_of (faults (seen done) line.says) ≡ Some f
+    → first_fault done (cond b (line ∷ []) (line ∷ left)) ≡ Some (line.number, f)
+fault_cond true done line left f e = rw e refl
+fault_cond false done line left f e = rw e refl
+
+pub at_fault : (last : ℕ) (all : List Said) (done : List Statement) (line : Said) (left : List Said) (f : PlaFault) → IsAt last all done (line ∷ left)
+    → first_of (faults (seen done) line.says) ≡ Some f → first_fault [] (until_end all) ≡ Some (line.number, f)
+at_fault last all done line left f at e = sym at.fault ∙ fault_cond (is_end line.says) done line (until_end left) f e
+
+-- what was read when reading ends
+pub record IsRead (count : ℕ) (all : List Said) (found : Seen) (number : ℕ) : Type 0 where
+  pub fault : first_fault [] (until_end all) ≡ None
+  pub seen : found ≡ seen (says (until_end all))
+  pub last : number ≡ last_read count all
+
+pub at_none : (last : ℕ) (all : List Said) (done : List Statement) → IsAt last all done [] → IsRead last all (seen done) last
+at_none last all done at = record { fault = sym at.fault; seen = ap seen (sym (append-nil done) ∙ at.lines); last = at.last }
+
+pub at_end : (last : ℕ) (all : List Said) (done : List Statement) (line : Said) (left : List Said) → IsAt last all done (line ∷ left) → is_end line.says ≡ true → IsRead last all (seen done) line.number
+at_end last all done line left at ends =
+    let is = end_is line.says ends in
+    let none : first_of (faults (seen done) line.says) ≡ None = rw is.1 refl in
+    let fault : first_fault done (until_end (line ∷ left)) ≡ None = rw ends (rw none refl) in
+    let lines : done ++ says (until_end (line ∷ left)) ≡ done ++ line.says ∷ [] = rw ends refl in
+    let lasts : last_read last (line ∷ left) ≡ line.number = rw ends refl in
+    let same : with_line (seen done) line.says ≡ seen done = rw is.1 refl in
     record {
-      lines = say.lines ++ line ∷ [];
-      has = more_lines n m bytes say.lines rest line after say.has next;
-      rows_are = ap₂ (λ (rs : List Row) (r : Row). rs ++ r ∷ []) say.rows_are is ∙ sym (map-append row_of say.lines (line ∷ []));
+      fault = sym at.fault ∙ fault;
+      seen = sym same ∙ sym (seen_push done line.says none) ∙ ap seen (sym lines ∙ at.lines);
+      last = sym lasts ∙ at.last;
     }
-
--- what is left of the rows that the whole text has
-left_of : (n m : ℕ) (bytes : List ℕ) (rows : List Row) (rest : List ℕ) (lines : List Line) → 0 < n → SayRows n m bytes rows rest → AreRows n m bytes lines → Left n m rest (length rows) (length lines)
-left_of n m bytes rows rest lines some say are =
-    let more = left n m say.lines lines rest some say.has.are_lines are.has.are_lines (sym say.has.text ∙ are.has.text) in
-    record { lines = more.lines; has = more.has; count = omega (arith, more.count, ap length say.rows_are, length-map say.lines row_of) }
-
-none_left : (n m : ℕ) (rest : List ℕ) (lines : List Line) → HasLines n m rest lines ending → rest ≢ ending → 0 < length lines
-none_left n m rest [] has ongoing = absurd (ongoing has.text)
-none_left n m rest (line ∷ lines) has ongoing = omega arith
-
--- there may be no row more
-pub full : (n m : ℕ) (bytes : List ℕ) (rows : List Row) (rest : List ℕ) → 0 < n → SayRows n m bytes rows rest → length rows ≡ NARROW_ROWS → rest ≢ ending → (lines : List Line) → AreRows n m bytes lines → ⊥
-full n m bytes rows rest some say at ongoing lines are =
-    let more = left_of n m bytes rows rest lines some say are in
-    omega (arith, at, are.few, more.count, none_left n m rest more.lines more.has ongoing)
-
-first_line : (n m : ℕ) (rest : List ℕ) (lines : List Line) → HasLines n m rest lines ending → rest ≢ ending → ((line : Line) (after : List ℕ) → HasLine n m rest line after → ⊥) → ⊥
-first_line n m rest [] has ongoing none = ongoing has.text
-first_line n m rest (line ∷ lines) has ongoing none = none line (rows_then lines ending) (record { is_line = All-head (IsLine n m) line lines has.are_lines; text = has.text })
-
--- there is no row more
-pub stuck : (n m : ℕ) (bytes : List ℕ) (rows : List Row) (rest : List ℕ) → 0 < n → SayRows n m bytes rows rest → rest ≢ ending → ((line : Line) (after : List ℕ) → HasLine n m rest line after → ⊥)
-    → (lines : List Line) → AreRows n m bytes lines → ⊥
-stuck n m bytes rows rest some say ongoing none lines are =
-    let more = left_of n m bytes rows rest lines some say are in first_line n m rest more.lines more.has ongoing none
-
--- ---- the whole text
-
-pub no_inputs_line : (bytes : List ℕ) → ((n : ℕ) (rest : List ℕ) → HasNumber (codes ".i ") bytes n rest → ⊥) → SaysNothing bytes
-no_inputs_line bytes none t says =
-    let form = says.form in
-    none form.inputs (number_then (codes ".o ") form.outputs (rows_then form.rows ending)) (record { few = says.is_narrow.inputs; text = says.text ∙ narrow_parts form })
-
--- what a text says after the line of its inputs
-after_inputs : (bytes : List ℕ) (n : ℕ) (rest : List ℕ) (form : Form) → HasNumber (codes ".i ") bytes n rest → IsNarrow form → bytes ≡ narrow_text form
-    → (n ≡ form.inputs) × (rest ≡ number_then (codes ".o ") form.outputs (rows_then form.rows ending))
-after_inputs bytes n rest form has is e =
-    same_number (codes ".i ") n form.inputs rest _ has.few is.inputs (sym has.text ∙ e ∙ narrow_parts form)
-
-pub no_outputs_line : (bytes : List ℕ) (n : ℕ) (rest : List ℕ) → HasNumber (codes ".i ") bytes n rest → ((m : ℕ) (after : List ℕ) → HasNumber (codes ".o ") rest m after → ⊥) → SaysNothing bytes
-no_outputs_line bytes n rest has none t says =
-    let form = says.form in
-    let ins = after_inputs bytes n rest form has says.is_narrow says.text in
-    none form.outputs (rows_then form.rows ending) (record { few = says.is_narrow.outputs; text = ins.1 })
-
-pub no_lines : (bytes : List ℕ) (n : ℕ) (rest : List ℕ) (m : ℕ) (after : List ℕ) → HasNumber (codes ".i ") bytes n rest → HasNumber (codes ".o ") rest m after
-    → ((lines : List Line) → AreRows n m after lines → ⊥) → SaysNothing bytes
-no_lines bytes n rest m after has next none t says =
-    let form = says.form in
-    let ins = after_inputs bytes n rest form has says.is_narrow says.text in
-    let outs = same_number (codes ".o ") m form.outputs after (rows_then form.rows ending) next.few says.is_narrow.outputs (sym next.text ∙ ins.1) in
-    let lines : All (IsLine n m) form.rows = subst (λ (k : ℕ). All (IsLine k m) form.rows) (sym ins.0) (subst (λ (k : ℕ). All (IsLine form.inputs k) form.rows) (sym outs.0) says.is_narrow.rows) in
-    none form.rows (record { few = says.is_narrow.few; has = record { are_lines = lines; text = outs.1 } })
-
-pub says_cover : (bytes : List ℕ) (n : ℕ) (rest : List ℕ) (m : ℕ) (after : List ℕ) (rows : List Row) (ins outs : List (List ℕ)) → HasNumber (codes ".i ") bytes n rest → HasNumber (codes ".o ") rest m after
-    → (length rows ≤ NARROW_ROWS) × SayRows n m after rows ending → ins ≡ default_names 120 n → outs ≡ default_names 102 m
-    → NarrowSays bytes (record { inputs = ins; outputs = outs; kind = Fd; rows = rows })
-unfolding cover_of
-says_cover bytes n rest m after rows ins outs has next say is-ins is-outs =
-    let read = say.1 in
-    let form : Form = record { inputs = n; outputs = m; rows = read.lines } in
-    record {
-      form = form;
-      is_narrow = record { inputs = has.few; outputs = next.few; few = omega (arith, say.0, ap length read.rows_are, length-map read.lines row_of); rows = read.has.are_lines };
-      text = has.text ∙ ap (number_then (codes ".i ") n) (next.text ∙ ap (number_then (codes ".o ") m) read.has.text) ∙ sym (narrow_parts form);
-      cover_is = ap₂ (λ (i o : List (List ℕ)). let t : Table = record { inputs = i; outputs = o; kind = Fd; rows = rows } in t) is-ins is-outs
-          ∙ ap (λ (rs : List Row). let t : Table = record { inputs = default_names 120 n; outputs = default_names 102 m; kind = Fd; rows = rs } in t) read.rows_are;
-    }
-
--- ---- the test for the ending
-
-not_false : (b : Bool) → not b ≡ true → b ≡ false
-not_false true h = absurd cc
-not_false false h = refl
-
-not_true : (b : Bool) → not b ≡ false → b ≡ true
-not_true true h = refl
-not_true false h = absurd cc
-
-pub goes_on : (rest other : List ℕ) → other ≡ ending → not (bytes_eq rest other) ≡ true → rest ≢ ending
-goes_on rest other is test = λ e. let same : bytes_eq rest other ≡ true = (bytes_eq-Decides rest other).1 (e ∙ sym is) in cc (same, not_false (bytes_eq rest other) test)
-
-pub has_ended : (rest other : List ℕ) → other ≡ ending → not (bytes_eq rest other) ≡ false → rest ≡ ending
-has_ended rest other is test = (bytes_eq-Decides rest other).0 (not_true (bytes_eq rest other) test) ∙ is

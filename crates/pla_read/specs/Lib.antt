@@ -1,3 +1,6 @@
-pub mod Cover
-pub mod Narrow
-pub mod Parts
+pub mod Faults
+pub mod Pla
+pub mod Reads
+pub mod Sound
+pub mod Step
+pub mod Words

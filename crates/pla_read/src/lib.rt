@@ -1,17 +1,14 @@
-//! Covers, and the reader of PLA texts.
+//! Reads PLA texts.
 #![tactic(auto)]
 
-mod cover;
-mod cut;
-mod laws;
+mod draft;
+mod fault;
+mod header;
 mod names;
-mod narrow;
-mod parts;
-
-pub use cover::{Cover, PLA_ROWS};
-pub use laws::narrow_laws;
-pub use narrow::{NARROW_BYTES, NARROW_LINES, NARROW_ROWS, read_narrow};
-pub use parts::{Kind, Mark, Row};
-
+mod read;
 #[cfg(test)]
 mod tests;
+mod words;
+
+pub use fault::{PlaErr, PlaFault};
+pub use read::read_pla;

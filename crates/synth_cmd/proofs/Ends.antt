@@ -1,42 +1,55 @@
 -- How `synth` ends after each of its steps.
-use Rattle.std.proofs.Common.{◌≡◌, ◌≢◌, ◌≤◌, ◌⊎◌, inl, inr, ℕ, List, Option, Some, None, IfSome, refl, sym, ◌∙◌, arith}
+use Rattle.std.proofs.Common.{◌≡◌, ◌≢◌, ◌≤◌, ◌⊎◌, inl, inr, ℕ, List, Option, Some, None, IfSome, length, refl, sym, ap, ◌∙◌, subst, arith}
+use Rattle.std.specs.Prelude.{Ok, Err}
 use Rattle.std.specs.FinMap.{get}
 use Rattle.ae_outside.specs.Counts.{CountsAt, Rose, RoseAt}
 use Rattle.ae_outside.specs.Files.{Shelf, added, TookFront}
-use Rattle.pla_read.specs.Cover.{Table}
-use Rattle.synth_cmd.specs.Lines.{report_lines, refused_line, write_fault_line}
-use Rattle.synth_cmd.specs.Outcome.{Outside, HoldsNarrow, HoldsOther, BothWhole, NetInPart, VectorsInPart, CountsAtBoth, ToldFrom, MemoryFrom, Refuses, NetFails, VectorsFail, WriteFails, WantsMemory, NoFault, SynthEnds}
+use Rattle.ae_cover.specs.Cover.{Table, source_of}
+use Rattle.pla_read.specs.declared.fault.PlaFault.{PlaFault}
+use Rattle.pla_read.specs.Pla.{pla_says}
+use Rattle.synth_cmd.specs.Lines.{memory_line, report_lines, write_fault_line, status_of, line_of}
+use Rattle.synth_cmd.specs.Synthesis.{HasTooMany, all_plain}
+use Rattle.synth_cmd.specs.Outcome.{Outside, HoldsCover, HoldsFault, HoldsLong, HoldsTooMany, IsMade, Cause, BothWhole, NetInPart, VectorsInPart, InPart, CountsAtBoth, ToldFrom, MemoryFrom, Refuses, NetFails, VectorsFail, WriteFails, WantsMemory, NoFault, IsRefusal, Answers, SynthEnds}
 use Rattle.synth_cmd.specs.Outcome.WriteFails.{of_net, of_vectors, of_report}
-use Rattle.synth_cmd.specs.Outcome.WantsMemory.{telling_refusal, telling_net_fault, telling_vectors_fault, telling_report}
+use Rattle.synth_cmd.specs.Outcome.WantsMemory.{telling_nothing, telling_refusal, telling_net_fault, telling_vectors_fault, telling_report}
 use Rattle.synth_cmd.specs.declared.job.Summary.{Summary}
-use Rattle.synth_cmd.specs.declared.TheConstants.{DONE, READ_FAULT, WRITE_FAULT, REFUSED, MEMORY}
+use Rattle.synth_cmd.specs.declared.tell.Refusal.{Refusal}
+use Rattle.synth_cmd.specs.declared.tell.Refusal.TheVariants.{ReadFault, TooLong, Text, TooManyTerms}
+use Rattle.synth_cmd.specs.declared.TheConstants.{DONE, READ_FAULT, WRITE_FAULT, REFUSED, TOO_LONG, TOO_MANY_TERMS, MEMORY}
+use Rattle.synth_cmd.proofs.Limits.{not_within}
 
--- ---- what holds of the files where they tell
+-- ---- what the files held
 
-if_all : {X : Type 0} (o : Option X) (P : X → Type 0) → ((x : X) → P x) → IfSome o P
-if_all None P h = tt
-if_all (Some x) P h = h x
+same_bytes : (m : Shelf) (source a b : List ℕ) → get m source ≡ Some a → get m source ≡ Some b → a ≡ b
+same_bytes m source a b p q = let both = sym p ∙ q in cc both
 
--- a name that holds a narrow text holds no other, and is held
-narrow_is_held : (held : Option Shelf) (source : List ℕ) (table : Table) (P : Type 0) → HoldsNarrow source held table → IfSome held (λ m. get m source ≡ None → P)
-narrow_is_held None source table P h = tt
-narrow_is_held (Some m) source table P h = λ e. absurd (let both = sym e ∙ h.is_held in cc both)
+-- a text that says a cover says no other, and has no fault
+same_table : (m : Shelf) (source : List ℕ) (t u : Table) → HoldsCover source (Some m) t → HoldsCover source (Some m) u → t ≡ u
+same_table m source t u a b =
+    let bytes : a.bytes ≡ b.bytes = same_bytes m source a.bytes b.bytes a.is_held b.is_held in
+    let both = sym a.says ∙ (ap pla_says bytes ∙ b.says) in
+    cc both
 
-narrow_not_other : (held : Option Shelf) (source : List ℕ) (table : Table) (P : Type 0) → HoldsNarrow source held table → IfSome held (λ m. HoldsOther source m → P)
-narrow_not_other None source table P h = tt
-narrow_not_other (Some m) source table P h = λ other.
-    let same : other.bytes ≡ h.bytes = let both = sym other.is_held ∙ h.is_held in cc both in
-    absurd (other.says_nothing table (rw same h.says))
+no_fault : (m : Shelf) (source : List ℕ) (t : Table) (line : ℕ) (what : PlaFault) → HoldsCover source (Some m) t → HoldsFault source line what m → ⊥
+no_fault m source t line what a b =
+    let bytes : a.bytes ≡ b.bytes = same_bytes m source a.bytes b.bytes a.is_held b.is_held in
+    let both = sym a.says ∙ (ap pla_says bytes ∙ b.says) in
+    cc both
 
-other_is_held : (held : Option Shelf) (source : List ℕ) (P : Type 0) → IfSome held (HoldsOther source) → IfSome held (λ m. get m source ≡ None → P)
-other_is_held None source P h = tt
-other_is_held (Some m) source P h = λ e. absurd (let both = sym e ∙ h.is_held in cc both)
+short_cover : (m : Shelf) (source : List ℕ) (t : Table) → HoldsCover source (Some m) t → HoldsLong source m → ⊥
+short_cover m source t a b = omega (arith, a.short, b.long, ap length (same_bytes m source a.bytes b.bytes a.is_held b.is_held))
 
-other_not_narrow : (held : Option Shelf) (source : List ℕ) (P : Table → Type 0) → IfSome held (HoldsOther source) → IfSome held (λ m. (table : Table) → HoldsNarrow source (Some m) table → P table)
-other_not_narrow None source P h = tt
-other_not_narrow (Some m) source P h = λ table narrow.
-    let same : h.bytes ≡ narrow.bytes = let both = sym h.is_held ∙ narrow.is_held in cc both in
-    absurd (h.says_nothing table (rw same narrow.says))
+short_fault : (m : Shelf) (source : List ℕ) (line : ℕ) (what : PlaFault) → HoldsFault source line what m → HoldsLong source m → ⊥
+short_fault m source line what a b = omega (arith, a.short, b.long, ap length (same_bytes m source a.bytes b.bytes a.is_held b.is_held))
+
+is_held_not : (m : Shelf) (source bytes : List ℕ) → get m source ≡ Some bytes → get m source ≡ None → ⊥
+is_held_not m source bytes p q = let both = sym p ∙ q in cc both
+
+-- a source that was synthesised keeps the limit
+few_terms : (source : List ℕ) (held : Option Shelf) (net_text vector_text : List ℕ) (summary : Summary) (made : IsMade source held net_text vector_text summary) (output : ℕ) → HasTooMany (source_of made.table) output → ⊥
+few_terms source held net_text vector_text summary made output passes =
+    let is = made.is_synthesised in
+    not_within (source_of made.table) (all_plain (length made.table.inputs)) is.expansions is.has_form.expansions _ output passes is.few_terms
 
 -- the counts of a command's own names
 pub record Counted (source net vectors : List ℕ) (old new : Outside) : Type 0 where
@@ -44,27 +57,104 @@ pub record Counted (source net vectors : List ℕ) (old new : Outside) : Type 0 
   pub writes : CountsAtBoth net vectors old.writes new.writes
   pub faults : old.faults ≤ new.faults
 
--- a status among two is no third
-neither : (status a b k : ℕ) → (status ≡ a) ⊎ (status ≡ b) → a ≢ k → b ≢ k → status ≢ k
-neither status a b k (inl e) na nb is = na (sym e ∙ is)
-neither status a b k (inr e) na nb is = nb (sym e ∙ is)
+-- ---- statuses
+
+not_refusal : (status a : ℕ) → status ≡ a → READ_FAULT ≢ a → REFUSED ≢ a → TOO_LONG ≢ a → TOO_MANY_TERMS ≢ a → IsRefusal status → ⊥
+not_refusal status a e p q r s (inl i) = p (sym i ∙ e)
+not_refusal status a e p q r s (inr (inl i)) = q (sym i ∙ e)
+not_refusal status a e p q r s (inr (inr (inl i))) = r (sym i ∙ e)
+not_refusal status a e p q r s (inr (inr (inr i))) = s (sym i ∙ e)
+
+refusal_status : (status : ℕ) (r : Refusal) → status ≡ status_of r → IsRefusal status
+refusal_status status ReadFault e = inl e
+refusal_status status TooLong e = inr (inr (inl e))
+refusal_status status (Text line what) e = inr (inl e)
+refusal_status status (TooManyTerms output) e = inr (inr (inr e))
+
+-- ---- which status comes where the files tell
+
+module _ (source net vectors : List ℕ) (old new : Outside) (status : ℕ) where
+  -- after a synthesis
+  with_job : (m : Shelf) (table : Table) → HoldsCover source (Some m) table → ((output : ℕ) → HasTooMany (source_of table) output → ⊥)
+      → (NoFault source net vectors old new → (status ≡ DONE) ⊎ (status ≡ MEMORY)) → Answers source net vectors old new status m
+  with_job m table h few complete = record {
+    not_held = λ e. absurd (is_held_not m source h.bytes h.is_held e);
+    too_long = λ long rose. absurd (short_cover m source table h long);
+    faulty = λ line what fault rose. absurd (no_fault m source table line what h fault);
+    too_many = λ output many rose. absurd (few output (rw (same_table m source table many.table h many.says) many.passes));
+    complete = λ other says within none. complete none;
+  }
+
+  -- after a refusal
+  with_cause : (m : Shelf) (r : Refusal) → Cause r source (Some m) old.reads new.reads → (status ≡ status_of r) ⊎ (status ≡ MEMORY) → Answers source net vectors old new status m
+  with_cause m ReadFault cause known = record {
+    not_held = λ e. known;
+    too_long = λ long rose. absurd (rose cause);
+    faulty = λ line what fault rose. absurd (rose cause);
+    too_many = λ output many rose. absurd (rose cause);
+    complete = λ table says within none. absurd (none.no_read cause);
+  }
+  with_cause m TooLong cause known = record {
+    not_held = λ e. absurd (is_held_not m source cause.bytes cause.is_held e);
+    too_long = λ long rose. known;
+    faulty = λ line what fault rose. absurd (short_fault m source line what fault cause);
+    too_many = λ output many rose. absurd (short_cover m source many.table many.says cause);
+    complete = λ table says within none. absurd (short_cover m source table says cause);
+  }
+  with_cause m (Text line what) cause known = record {
+    not_held = λ e. absurd (is_held_not m source cause.bytes cause.is_held e);
+    too_long = λ long rose. absurd (short_fault m source line what cause long);
+    faulty = λ other fault is rose. known;
+    too_many = λ output many rose. absurd (no_fault m source many.table line what many.says cause);
+    complete = λ table says within none. absurd (no_fault m source table line what says cause);
+  }
+  with_cause m (TooManyTerms output) cause known = record {
+    not_held = λ e. absurd (is_held_not m source cause.says.bytes cause.says.is_held e);
+    too_long = λ long rose. absurd (short_cover m source cause.table cause.says long);
+    faulty = λ line what fault rose. absurd (no_fault m source cause.table line what cause.says fault);
+    too_many = λ other many rose. known;
+    complete = λ table says within none. absurd (within output (rw (sym (same_table m source cause.table table cause.says says)) cause.passes));
+  }
+
+  if_job : (held : Option Shelf) (table : Table) → HoldsCover source held table → ((output : ℕ) → HasTooMany (source_of table) output → ⊥)
+      → (NoFault source net vectors old new → (status ≡ DONE) ⊎ (status ≡ MEMORY)) → IfSome held (Answers source net vectors old new status)
+  if_job None table h few complete = tt
+  if_job (Some m) table h few complete = with_job m table h few complete
+
+  if_cause : (held : Option Shelf) (r : Refusal) → Cause r source held old.reads new.reads → (status ≡ status_of r) ⊎ (status ≡ MEMORY) → IfSome held (Answers source net vectors old new status)
+  if_cause None r cause known = tt
+  if_cause (Some m) r cause known = with_cause m r cause known
+
+  -- want of memory answers every question
+  with_memory : status ≡ MEMORY → (m : Shelf) → Answers source net vectors old new status m
+  with_memory is m = record {
+    not_held = λ e. inr is;
+    too_long = λ long rose. inr is;
+    faulty = λ line what fault rose. inr is;
+    too_many = λ output many rose. inr is;
+    complete = λ table says within none. inr is;
+  }
+
+  if_memory : (held : Option Shelf) → status ≡ MEMORY → IfSome held (Answers source net vectors old new status)
+  if_memory None is = tt
+  if_memory (Some m) is = with_memory is m
 
 module _ (source net vectors : List ℕ) (old new : Outside) (status : ℕ) (counted : Counted source net vectors old new) where
-  done_no_other : (status ≡ DONE) ⊎ ((status ≡ WRITE_FAULT) ⊎ (status ≡ MEMORY)) → (k : ℕ) → DONE ≢ k → WRITE_FAULT ≢ k → MEMORY ≢ k → status ≢ k
-  done_no_other (inl e) k a b c is = a (sym e ∙ is)
-  done_no_other (inr f) k a b c is = neither status WRITE_FAULT MEMORY k f b c is
+  -- ---- after both texts are written
+  done_complete : (status ≡ WRITE_FAULT → Rose old.faults new.faults) → (status ≡ DONE) ⊎ ((status ≡ WRITE_FAULT) ⊎ (status ≡ MEMORY)) → NoFault source net vectors old new → (status ≡ DONE) ⊎ (status ≡ MEMORY)
+  done_complete fault (inl e) none = inl e
+  done_complete fault (inr (inl e)) none = absurd (none.no_report (fault e))
+  done_complete fault (inr (inr e)) none = inr e
 
-  done_known : (status ≡ DONE) ⊎ ((status ≡ WRITE_FAULT) ⊎ (status ≡ MEMORY)) → (status ≡ DONE) ⊎ ((status ≡ READ_FAULT) ⊎ ((status ≡ WRITE_FAULT) ⊎ ((status ≡ REFUSED) ⊎ (status ≡ MEMORY))))
+  done_known : (status ≡ DONE) ⊎ ((status ≡ WRITE_FAULT) ⊎ (status ≡ MEMORY)) → (status ≡ DONE) ⊎ (IsRefusal status ⊎ ((status ≡ WRITE_FAULT) ⊎ (status ≡ MEMORY)))
   done_known (inl e) = inl e
-  done_known (inr (inl e)) = inr (inr (inl e))
-  done_known (inr (inr e)) = inr (inr (inr (inr e)))
+  done_known (inr e) = inr (inr e)
 
-  done_complete : (status ≡ WRITE_FAULT → Rose old.faults new.faults) → NoFault source net vectors old new → (status ≡ DONE) ⊎ ((status ≡ WRITE_FAULT) ⊎ (status ≡ MEMORY)) → (status ≡ DONE) ⊎ (status ≡ MEMORY)
-  done_complete fault none (inl e) = inl e
-  done_complete fault none (inr (inl e)) = absurd (none.no_report (fault e))
-  done_complete fault none (inr (inr e)) = inr e
+  done_stops : (status ≡ DONE) ⊎ ((status ≡ WRITE_FAULT) ⊎ (status ≡ MEMORY)) → IsRefusal status → ⊥
+  done_stops (inl e) is = not_refusal status DONE e (omega arith) (omega arith) (omega arith) (omega arith) is
+  done_stops (inr (inl e)) is = not_refusal status WRITE_FAULT e (omega arith) (omega arith) (omega arith) (omega arith) is
+  done_stops (inr (inr e)) is = not_refusal status MEMORY e (omega arith) (omega arith) (omega arith) (omega arith) is
 
-  -- after both texts are written
   pub ends_done : (summary : Summary) → BothWhole source net vectors summary old.held new.held
       → (status ≡ DONE) ⊎ ((status ≡ WRITE_FAULT) ⊎ (status ≡ MEMORY))
       → (status ≡ DONE → new.taken ≡ added old.taken (report_lines summary))
@@ -72,67 +162,82 @@ module _ (source net vectors : List ℕ) (old new : Outside) (status : ℕ) (cou
       → (status ≡ WRITE_FAULT → TookFront (report_lines summary) old.taken new.taken)
       → (status ≡ MEMORY → MemoryFrom (report_lines summary) old new)
       → SynthEnds source net vectors old new status
-  ends_done summary files known done fault front memory = record {
-    known = done_known known;
-    done = λ is. record { summary = summary; files = files; report = done is };
-    read_fault = λ is. absurd (done_no_other known READ_FAULT (omega arith) (omega arith) (omega arith) is);
-    write_fault = λ is. of_report (record { summary = summary; rose = fault is; files = files; front = front is });
-    refused = λ is. absurd (done_no_other known REFUSED (omega arith) (omega arith) (omega arith) is);
-    memory = λ is. telling_report summary files (memory is);
-    not_held = narrow_is_held old.held source files.job.table ((status ≡ READ_FAULT) ⊎ (status ≡ MEMORY)) files.job.says;
-    not_narrow = narrow_not_other old.held source files.job.table (¬ (RoseAt source old.reads new.reads) → (status ≡ REFUSED) ⊎ (status ≡ MEMORY)) files.job.says;
-    complete = if_all old.held (λ m. (table : Table) → HoldsNarrow source (Some m) table → NoFault source net vectors old new → (status ≡ DONE) ⊎ (status ≡ MEMORY)) (λ m table narrow none. done_complete fault none known);
-    reads = counted.reads;
-    writes = counted.writes;
-    faults = counted.faults;
-  }
+  ends_done summary files known done fault front memory =
+      let made = files.job.is_made in
+      record {
+        known = done_known known;
+        done = λ is. record { summary = summary; files = files; report = done is };
+        stops = λ is. absurd (done_stops known is);
+        write_fault = λ is. of_report (record { summary = summary; rose = fault is; files = files; front = front is });
+        memory = λ is. telling_report summary files (memory is);
+        answers = if_job source net vectors old new status old.held made.table made.says (few_terms source old.held _ _ _ made) (done_complete fault known);
+        reads = counted.reads;
+        writes = counted.writes;
+        faults = counted.faults;
+      }
 
-  refused_known : (status ≡ REFUSED) ⊎ (status ≡ MEMORY) → (status ≡ DONE) ⊎ ((status ≡ READ_FAULT) ⊎ ((status ≡ WRITE_FAULT) ⊎ ((status ≡ REFUSED) ⊎ (status ≡ MEMORY))))
-  refused_known (inl e) = inr (inr (inr (inl e)))
-  refused_known (inr e) = inr (inr (inr (inr e)))
+  -- ---- after the source is refused
+  refused_known : (r : Refusal) → (status ≡ status_of r) ⊎ (status ≡ MEMORY) → (status ≡ DONE) ⊎ (IsRefusal status ⊎ ((status ≡ WRITE_FAULT) ⊎ (status ≡ MEMORY)))
+  refused_known r (inl e) = inr (inl (refusal_status status r e))
+  refused_known r (inr e) = inr (inr (inr e))
 
-  -- after the source's text is refused
-  pub ends_refused : Refuses source old new
-      → (status ≡ REFUSED) ⊎ (status ≡ MEMORY)
-      → (status ≢ MEMORY → ToldFrom (refused_line source) old new)
-      → (status ≡ MEMORY → MemoryFrom (refused_line source) old new)
+  refused_not : (r : Refusal) → (status ≡ status_of r) ⊎ (status ≡ MEMORY) → (k : ℕ) → READ_FAULT ≢ k → REFUSED ≢ k → TOO_LONG ≢ k → TOO_MANY_TERMS ≢ k → MEMORY ≢ k → status ≡ k → ⊥
+  refused_not r (inl e) k a b c d m is = not_refusal status k is a b c d (refusal_status status r e)
+  refused_not r (inr e) k a b c d m is = m (sym e ∙ is)
+
+  is_refusal : (r : Refusal) → (status ≡ status_of r) ⊎ (status ≡ MEMORY) → IsRefusal status → status ≡ status_of r
+  is_refusal r (inl e) is = e
+  is_refusal r (inr e) is = absurd (not_refusal status MEMORY e (omega arith) (omega arith) (omega arith) (omega arith) is)
+
+  pub ends_refused : (r : Refusal) → Refuses source r old new
+      → (status ≡ status_of r) ⊎ (status ≡ MEMORY)
+      → (status ≢ MEMORY → ToldFrom (line_of r source) old new)
+      → (status ≡ MEMORY → MemoryFrom (line_of r source) old new)
       → SynthEnds source net vectors old new status
-  ends_refused refuses known told memory = record {
-    known = refused_known known;
-    done = λ is. absurd (neither status REFUSED MEMORY DONE known (omega arith) (omega arith) is);
-    read_fault = λ is. absurd (neither status REFUSED MEMORY READ_FAULT known (omega arith) (omega arith) is);
-    write_fault = λ is. absurd (neither status REFUSED MEMORY WRITE_FAULT known (omega arith) (omega arith) is);
-    refused = λ is. (refuses, told (λ other. absurd (omega (arith, is, other))));
-    memory = λ is. telling_refusal refuses (memory is);
-    not_held = other_is_held old.held source ((status ≡ READ_FAULT) ⊎ (status ≡ MEMORY)) refuses.cause;
-    not_narrow = if_all old.held (λ m. HoldsOther source m → ¬ (RoseAt source old.reads new.reads) → (status ≡ REFUSED) ⊎ (status ≡ MEMORY)) (λ m other rose. known);
-    complete = other_not_narrow old.held source (λ table. NoFault source net vectors old new → (status ≡ DONE) ⊎ (status ≡ MEMORY)) refuses.cause;
+  ends_refused r refuses known told memory = record {
+    known = refused_known r known;
+    done = λ is. absurd (refused_not r known DONE (omega arith) (omega arith) (omega arith) (omega arith) (omega arith) is);
+    stops = λ is. record { refusal = r; is_status = is_refusal r known is; refuses = refuses; told = told (λ e. not_refusal status MEMORY e (omega arith) (omega arith) (omega arith) (omega arith) is) };
+    write_fault = λ is. absurd (refused_not r known WRITE_FAULT (omega arith) (omega arith) (omega arith) (omega arith) (omega arith) is);
+    memory = λ is. telling_refusal r refuses (memory is);
+    answers = if_cause source net vectors old new status old.held r refuses.cause known;
     reads = counted.reads;
     writes = counted.writes;
     faults = counted.faults;
   }
 
-  write_known : (status ≡ WRITE_FAULT) ⊎ (status ≡ MEMORY) → (status ≡ DONE) ⊎ ((status ≡ READ_FAULT) ⊎ ((status ≡ WRITE_FAULT) ⊎ ((status ≡ REFUSED) ⊎ (status ≡ MEMORY))))
-  write_known (inl e) = inr (inr (inl e))
-  write_known (inr e) = inr (inr (inr (inr e)))
+  -- ---- after want of memory
+  pub ends_memory : status ≡ MEMORY → InPart source net vectors old.held new.held → TookFront memory_line old.taken new.taken → SynthEnds source net vectors old new status
+  ends_memory is files front = record {
+    known = inr (inr (inr is));
+    done = λ e. absurd (let no : DONE ≡ MEMORY = sym e ∙ is in omega (arith, no));
+    stops = λ e. absurd (not_refusal status MEMORY is (omega arith) (omega arith) (omega arith) (omega arith) e);
+    write_fault = λ e. absurd (let no : WRITE_FAULT ≡ MEMORY = sym e ∙ is in omega (arith, no));
+    memory = λ e. telling_nothing files front;
+    answers = if_memory source net vectors old new status old.held is;
+    reads = counted.reads;
+    writes = counted.writes;
+    faults = counted.faults;
+  }
 
-  -- after a write of a text failed
-  ends_write : (table : Table) → HoldsNarrow source old.held table
+  -- ---- after a write of a text failed
+  write_not : (status ≡ WRITE_FAULT) ⊎ (status ≡ MEMORY) → (k : ℕ) → WRITE_FAULT ≢ k → MEMORY ≢ k → status ≡ k → ⊥
+  write_not (inl e) k a b is = a (sym e ∙ is)
+  write_not (inr e) k a b is = b (sym e ∙ is)
+
+  ends_write : (net_text vector_text : List ℕ) (summary : Summary) → IsMade source old.held net_text vector_text summary
       → (NoFault source net vectors old new → ⊥)
       → (status ≡ WRITE_FAULT) ⊎ (status ≡ MEMORY)
       → (status ≡ WRITE_FAULT → WriteFails source net vectors old new)
       → (status ≡ MEMORY → WantsMemory source net vectors old new)
       → SynthEnds source net vectors old new status
-  ends_write table says some known fails memory = record {
-    known = write_known known;
-    done = λ is. absurd (neither status WRITE_FAULT MEMORY DONE known (omega arith) (omega arith) is);
-    read_fault = λ is. absurd (neither status WRITE_FAULT MEMORY READ_FAULT known (omega arith) (omega arith) is);
+  ends_write net_text vector_text summary made some known fails memory = record {
+    known = inr (inr known);
+    done = λ is. absurd (write_not known DONE (omega arith) (omega arith) is);
+    stops = λ is. absurd (done_stops (inr known) is);
     write_fault = fails;
-    refused = λ is. absurd (neither status WRITE_FAULT MEMORY REFUSED known (omega arith) (omega arith) is);
     memory = memory;
-    not_held = narrow_is_held old.held source table ((status ≡ READ_FAULT) ⊎ (status ≡ MEMORY)) says;
-    not_narrow = narrow_not_other old.held source table (¬ (RoseAt source old.reads new.reads) → (status ≡ REFUSED) ⊎ (status ≡ MEMORY)) says;
-    complete = if_all old.held (λ m. (other : Table) → HoldsNarrow source (Some m) other → NoFault source net vectors old new → (status ≡ DONE) ⊎ (status ≡ MEMORY)) (λ m other narrow none. absurd (some none));
+    answers = if_job source net vectors old new status old.held made.table made.says (few_terms source old.held net_text vector_text summary made) (λ none. absurd (some none));
     reads = counted.reads;
     writes = counted.writes;
     faults = counted.faults;
@@ -144,7 +249,7 @@ module _ (source net vectors : List ℕ) (old new : Outside) (status : ℕ) (cou
       → (status ≡ MEMORY → MemoryFrom (write_fault_line net) old new)
       → SynthEnds source net vectors old new status
   ends_net_fault fails known told memory =
-      ends_write fails.files.job.table fails.files.job.says (λ none. none.no_net fails.rose) known
+      ends_write _ _ _ fails.files.job.is_made (λ none. none.no_net fails.rose) known
       (λ is. of_net fails (told (λ other. absurd (omega (arith, is, other)))))
       (λ is. telling_net_fault fails (memory is))
 
@@ -154,6 +259,6 @@ module _ (source net vectors : List ℕ) (old new : Outside) (status : ℕ) (cou
       → (status ≡ MEMORY → MemoryFrom (write_fault_line vectors) old new)
       → SynthEnds source net vectors old new status
   ends_vectors_fault fails known told memory =
-      ends_write fails.files.job.table fails.files.job.says (λ none. none.no_vectors fails.rose) known
+      ends_write _ _ _ fails.files.job.is_made (λ none. none.no_vectors fails.rose) known
       (λ is. of_vectors fails (told (λ other. absurd (omega (arith, is, other)))))
       (λ is. telling_vectors_fault fails (memory is))

@@ -19,12 +19,11 @@ use Rattle.fn_store.specs.Cubes.{some_holds}
 use Rattle.fn_store.proofs.Expansions.{means, only, terms_inside}
 use Rattle.expansion.specs.declared.limits.TheConstants.{LISTS, TERMS}
 use Rattle.expansion.specs.Terms.{Terms, IsTerms, cost}
-use Rattle.pla_read.specs.declared.narrow.TheConstants.{NARROW_LINES}
-use Rattle.pla_read.specs.declared.parts.Row.{Row}
-use Rattle.pla_read.specs.Cover.{Table, IsCover, IsRow, has_mark, is_one, source_of}
-use Rattle.fn_store.proofs.Counting.{few as few_terms_of}
-use Rattle.synth_cmd.specs.Steps.{IsSmall, cubes_of}
-use Rattle.synth_cmd.specs.Synthesis.{all_plain, AreExpansions}
+use Rattle.cascade.specs.declared.limits.TheConstants.{REDDY_TERMS}
+use Rattle.ae_cover.specs.declared.parts.Row.{Row}
+use Rattle.ae_cover.specs.Cover.{Table, IsCover, IsRow, has_mark, is_one, source_of}
+use Rattle.synth_cmd.specs.Steps.{cubes_of}
+use Rattle.synth_cmd.specs.Synthesis.{all_plain, AreExpansions, HasTooMany}
 use Rattle.synth_cmd.proofs.Meaning.{on_set-cubes}
 
 -- ---- lists
@@ -39,12 +38,9 @@ one_more [] y z (suc i) e = absurd (cc e)
 one_more (x ∷ xs) y z zero e = inl e
 one_more (x ∷ xs) y z (suc i) e = elim (one_more xs y z i e) [ inl h ↦ inl h | inr h ↦ inr (omega (arith, h.0), h.1) ]
 
-sum_at_most : (m : ℕ) (xs : List (List Set)) → AllByRecursion (λ ts. length ts ≤ m) xs → sum_by length xs ≤ length xs * m
-sum_at_most m [] h = omega arith
-sum_at_most m (ts ∷ xs) (l, h) =
-    let first_more : sum_by length (ts ∷ xs) ≡ length ts + sum_by length xs = sum_by-cons length ts xs in
-    let one_more_time : length (ts ∷ xs) * m ≡ m + length xs * m = grind arith in
-    omega (arith, first_more, one_more_time, l, sum_at_most m xs h)
+pub sum_one_more : (xs : List (List Set)) (y : List Set) → sum_by length (xs ++ y ∷ []) ≡ sum_by length xs + length y
+sum_one_more [] y = sum_by-cons length y [] ∙ omega arith
+sum_one_more (x ∷ xs) y = sum_by-cons length x (xs ++ y ∷ []) ∙ ap (λ n. length x + n) (sum_one_more xs y) ∙ omega (arith, sum_by-cons length x xs)
 
 -- ---- one output
 
@@ -71,37 +67,33 @@ cubes_over t o cover =
 pub plain_signs : (n : ℕ) → n ≤ NET_LINES → IsSigns (all_plain n)
 plain_signs n l = (l, λ j h. ltb-true j n (sym (has-first n j) ∙ h))
 
-pub narrow_cost : (s : Source) (n : ℕ) (e : Terms) → n ≤ NARROW_LINES → length s.outputs ≤ NARROW_LINES → AreExpansions s (all_plain n) e → cost e ≤ 2048
-narrow_cost s n e few few_outputs are =
-    let each : All (λ ts. length ts ≤ 2 ^ 8) e.outs = all_slices (λ ts. length ts ≤ 2 ^ 8) e.outs (λ o ts at.
-    let is = are.each o ts at in
-    let short : length ts ≤ 2 ^ n = few_terms_of (all_plain n) (on_set s o) ts is in
-    let power : 2 ^ n ≤ 2 ^ 8 = pow-le-pow_right {n = 2} (omega arith) {i = n} {j = 8} (omega (arith, few)) in
-    omega (arith, short, power)) in
-    let sum : sum_by length e.outs ≤ length e.outs * 256 = sum_at_most 256 e.outs (recursion_from_All _ e.outs each) in
-    omega (arith, sum, are.outputs, few_outputs)
-
-pub narrow_terms : (s : Source) (n : ℕ) (e : Terms) → n ≤ NARROW_LINES → length s.outputs ≤ NARROW_LINES → AreExpansions s (all_plain n) e → IsTerms e
-narrow_terms s n e few few_outputs are =
+plain_terms : (s : Source) (n : ℕ) (e : Terms) → n ≤ NET_LINES → length s.outputs < LISTS → cost e ≤ REDDY_TERMS → AreExpansions s (all_plain n) e → IsTerms e
+plain_terms s n e few few_outputs cheap are =
     let below : All (λ ts. All (λ t. inside t (first n) ≡ true) ts) e.outs = all_slices (λ ts. All (λ t. inside t (first n) ≡ true) ts) e.outs (λ o ts at. terms_inside (all_plain n) (on_set s o) ts (are.each o ts at)) in
     record {
-      signs = subst IsSigns (sym are.polarity) (plain_signs n (omega (arith, few)));
+      signs = subst IsSigns (sym are.polarity) (plain_signs n few);
       below = subst (λ (p : Signs). All (λ ts. All (λ t. inside t (first p.n) ≡ true) ts) e.outs) (sym are.polarity) below;
       order = all_slices IsInOrder e.outs (λ o ts at. (are.each o ts at).order);
       few_lists = omega (arith, are.outputs, few_outputs);
-      few_terms = omega (arith, narrow_cost s n e few few_outputs are);
+      few_terms = omega (arith, cheap);
     }
+
+-- the expansions of a cover
+pub cover_terms : (t : Table) (e : Terms) → IsCover t → cost e ≤ REDDY_TERMS → AreExpansions (source_of t) (all_plain (length t.inputs)) e → IsTerms e
+cover_terms t e cover cheap are = plain_terms (source_of t) (length t.inputs) e (omega (arith, cover.inputs.1)) (omega (arith, cover.outputs.1)) cheap are
 
 -- ---- output by output
 
--- the expansions of the first outputs
-pub record Expanded (t : Table) (k : ℕ) (outs : List (List Set)) : Type 0 where
+-- the expansions of the first outputs, and the number of their terms
+pub record Expanded (t : Table) (k : ℕ) (outs : List (List Set)) (sum : ℕ) : Type 0 where
   pub outputs : length outs ≡ k
   pub each : (o : ℕ) (ts : List Set) → slice_get outs o ≡ Some ts → IsExpansion (all_plain (length t.inputs)) (on_set (source_of t) o) ts
+  pub sum_is : sum ≡ sum_by length outs
+  pub few : sum ≤ REDDY_TERMS
 
-pub expanded_more : (t : Table) (k : ℕ) (outs : List (List Set)) (ts : List Set) → Expanded t k outs → IsExpansion (all_plain (length t.inputs)) (some_holds (cubes_of t.rows k)) ts
-    → Expanded t (k + 1) (outs ++ ts ∷ [])
-expanded_more t k outs ts had is = record {
+expanded_more : (t : Table) (k : ℕ) (outs : List (List Set)) (sum : ℕ) (ts : List Set) → Expanded t k outs sum → IsExpansion (all_plain (length t.inputs)) (some_holds (cubes_of t.rows k)) ts
+    → sum + length ts ≤ REDDY_TERMS → Expanded t (k + 1) (outs ++ ts ∷ []) (sum + length ts)
+expanded_more t k outs sum ts had is few = record {
   outputs = length-append outs (ts ∷ []) ∙ ap (λ n. n + 1) had.outputs;
   each = λ o us e. elim (one_more outs ts us o e) [
     | inl earlier ↦ had.each o us earlier
@@ -109,9 +101,11 @@ expanded_more t k outs ts had is = record {
         let here : o ≡ k = omega (arith, last.0, had.outputs) in
         rw (here, sym last.1) (output_expansion t (all_plain (length t.inputs)) k ts is)
   ];
+  sum_is = ap (λ n. n + length ts) had.sum_is ∙ sym (sum_one_more outs ts);
+  few = few;
 }
 
-pub signs_are : (p : Signs) (n : ℕ) → p.n ≡ n → p.plain ≡ first n → p ≡ all_plain n
+signs_are : (p : Signs) (n : ℕ) → p.n ≡ n → p.plain ≡ first n → p ≡ all_plain n
 signs_are p n e f = ap₂ (λ (a b : ℕ). let r : Signs = record { n = a; plain = b } in r) e f
 
 -- ---- for the loop over the outputs
@@ -119,16 +113,37 @@ signs_are p n e f = ap₂ (λ (a b : ℕ). let r : Signs = record { n = a; plain
 pub all_over : (t : Table) (o : ℕ) (cubes : List Product) (p : Signs) → IsCover t → cubes ≡ cubes_of t.rows o → p.n ≡ length t.inputs → All (λ c. IsOver p.n c) cubes
 all_over t o cubes p cover cubes_are n_is = rw (cubes_are, n_is) (cubes_over t o cover)
 
-pub expanded_step : (t : Table) (k : ℕ) (outs new : List (List Set)) (ts : List Set) (cubes : List Product) (p : Signs) → Expanded t k outs → cubes ≡ cubes_of t.rows k
-    → p.n ≡ length t.inputs → p.plain ≡ first (length t.inputs) → IsExpansion p (some_holds cubes) ts → new ≡ outs ++ ts ∷ [] → Expanded t (k + 1) new
-expanded_step t k outs new ts cubes p had cubes_are n_is plain_is is new_is =
-    let same : IsExpansion (all_plain (length t.inputs)) (some_holds (cubes_of t.rows k)) ts = rw (signs_are p (length t.inputs) n_is plain_is, cubes_are) at is in
-    rw new_is (expanded_more t k outs ts had same)
+-- the loop at output k: the polarity, the cubes of the output, and its expansion
+module _ (t : Table) (k : ℕ) (outs : List (List Set)) (sum : ℕ) (ts : List Set) (cubes : List Product) (p : Signs)
+    (had : Expanded t k outs sum) (cubes_are : cubes ≡ cubes_of t.rows k) (n_is : p.n ≡ length t.inputs) (plain_is : p.plain ≡ first (length t.inputs)) (is : IsExpansion p (some_holds cubes) ts) where
+  here_is : IsExpansion (all_plain (length t.inputs)) (some_holds (cubes_of t.rows k)) ts
+  here_is = rw (signs_are p (length t.inputs) n_is plain_is, cubes_are) at is
 
-pub are_expansions : (t : Table) (k : ℕ) (outs : List (List Set)) (p : Signs) → k ≡ length t.outputs → p.n ≡ length t.inputs → p.plain ≡ first (length t.inputs) → Expanded t k outs
-    → AreExpansions (source_of t) (all_plain (length t.inputs)) (record { polarity = p; outs = outs })
-are_expansions t k outs p all n_is plain_is had = record { polarity = signs_are p (length t.inputs) n_is plain_is; outputs = had.outputs ∙ all; each = had.each }
+  pub expanded_step : (new : List (List Set)) → sum + length ts ≤ REDDY_TERMS → new ≡ outs ++ ts ∷ [] → Expanded t (k + 1) new (sum + length ts)
+  expanded_step new few new_is = rw new_is (expanded_more t k outs sum ts had here_is few)
 
-pub terms_fit : (t : Table) (k : ℕ) (outs : List (List Set)) (p : Signs) → IsSmall t → k ≡ length t.outputs → p.n ≡ length t.inputs → p.plain ≡ first (length t.inputs) → Expanded t k outs
-    → IsTerms (record { polarity = p; outs = outs })
-terms_fit t k outs p small all n_is plain_is had = narrow_terms (source_of t) (length t.inputs) _ small.inputs small.outputs (are_expansions t k outs p all n_is plain_is had)
+  pub passes_at : k < length t.outputs → REDDY_TERMS < sum + length ts → HasTooMany (source_of t) k
+  passes_at within past = record {
+    is_output = within;
+    before = outs;
+    here = ts;
+    are_before = had.outputs;
+    each = had.each;
+    is_here = output_expansion t (all_plain (length t.inputs)) k ts here_is;
+    within = omega (arith, had.sum_is, had.few);
+    past = omega (arith, had.sum_is, past);
+  }
+
+-- the loop at its end
+module _ (t : Table) (k : ℕ) (outs : List (List Set)) (sum : ℕ) (p : Signs) (all : k ≡ length t.outputs) (n_is : p.n ≡ length t.inputs) (plain_is : p.plain ≡ first (length t.inputs)) (had : Expanded t k outs sum) where
+  abbrev made : Terms
+  made = record { polarity = p; outs = outs }
+
+  pub are_expansions : AreExpansions (source_of t) (all_plain (length t.inputs)) made
+  are_expansions = record { polarity = signs_are p (length t.inputs) n_is plain_is; outputs = had.outputs ∙ all; each = had.each }
+
+  pub is_cheap : cost made ≤ REDDY_TERMS
+  is_cheap = omega (arith, had.sum_is, had.few)
+
+  pub terms_fit : IsCover t → IsTerms made
+  terms_fit cover = cover_terms t made cover is_cheap are_expansions

@@ -1,10 +1,11 @@
 pub mod Ends
 pub mod Expands
-pub mod Written
+pub mod Jobs
+pub mod Limits
 pub mod Meaning
 pub mod Shown
-pub mod Small
 pub mod Sources
 pub mod Synthesised
 pub mod Telling
 pub mod Used
+pub mod Written

@@ -11,10 +11,10 @@ use Rattle.ae_base.specs.Source.{Source, Specified, is_on, on_set}
 use Rattle.ae_base.specs.Source.Specified.{On, Off, Free}
 use Rattle.ae_base.proofs.Sets.{has-with, inside-below}
 use Rattle.ae_base.proofs.Members.{members-has}
-use Rattle.pla_read.specs.declared.parts.Kind.{Kind}
-use Rattle.pla_read.specs.declared.parts.Kind.TheVariants.{F, Fd, Fr, Fdr}
-use Rattle.pla_read.specs.declared.parts.Row.{Row}
-use Rattle.pla_read.specs.Cover.{Table, has_mark, is_one, some_row, not_one, specified, source_of}
+use Rattle.ae_cover.specs.declared.parts.Kind.{Kind}
+use Rattle.ae_cover.specs.declared.parts.Kind.TheVariants.{F, Fd, Fr, Fdr}
+use Rattle.ae_cover.specs.declared.parts.Row.{Row}
+use Rattle.ae_cover.specs.Cover.{Table, has_mark, is_one, some_row, not_one, specified, source_of}
 use Rattle.synth_cmd.specs.Steps.{cubes_of}
 
 -- ---- On-sets of a cover

@@ -2,14 +2,15 @@
 use Rattle.std.proofs.Common.{◌≡◌, ◌<◌, ◌≤◌, ◌+◌, ℕ, zero, suc, Bool, true, false, not, ◌&&◌, cond, inl, inr, ◌⊎◌, eqb, eqb-true, List, [], ◌∷◌, ◌++◌, length, map, drop, get_or, refl, sym, ap, ap₂, ◌∙◌, subst, arith}
 use Rattle.std.specs.Prelude.{All, Some, None, slice_get, filter}
 use Rattle.std.specs.List.{AllByRecursion}
-use Rattle.std.proofs.lemmas.Bool.{and_parts, or_cases, ltb-true, lt-ltb}
+use Rattle.std.proofs.lemmas.Bool.{and_parts, or_cases, leb-true, ltb-true, lt-ltb}
 use Rattle.std.proofs.Math.Seq.{drop-append_seam}
 use Rattle.std.proofs.lemmas.List.{length-append, length-map}
 use Rattle.std.proofs.lemmas.List.Elements.{recursion_from_All, All-from_recursion, All-append, All-map, All-drop, All-weaker}
 use Rattle.std.proofs.lemmas.Option.{slice_get-get_or}
 use Rattle.ae_base.specs.Mask.{Set, has, first, inside, with, where_below}
 use Rattle.ae_base.specs.Cube.{Signs}
-use Rattle.ae_base.specs.Name.{is_name}
+use Rattle.ae_base.specs.declared.limits.TheConstants.{SOURCE_NAME_BYTES}
+use Rattle.ae_base.specs.Name.{is_name, is_source_name}
 use Rattle.ae_base.specs.Terms.{IsPoint, value}
 use Rattle.ae_base.specs.Source.{Source, on_set}
 use Rattle.ae_base.proofs.Sets.{has-first, has-with, has-inside, inside-has, has-where_below}
@@ -27,15 +28,14 @@ use Rattle.cascade.specs.Reddy.{reddy_net}
 use Rattle.cascade.specs.Shows.{Fits, CanBuild}
 use Rattle.cascade.specs.FirstVectors.{first_vectors, literals_at, without_repeats}
 use Rattle.cascade.proofs.Shown as reddy
-use Rattle.pla_read.specs.Cover.{Table, IsCover, source_of}
+use Rattle.ae_cover.specs.Cover.{Table, IsCover, source_of}
 use Rattle.synth_cmd.specs.declared.job.Summary.{Summary}
 use Rattle.synth_cmd.specs.declared.vector_file.Vector.{Vector}
 use Rattle.synth_cmd.specs.VectorFile.{VectorFile, IsValidVectorFile, vector_text}
-use Rattle.synth_cmd.specs.Steps.{IsSmall, vectors_of, file_over}
+use Rattle.synth_cmd.specs.Steps.{vectors_of, file_over}
 use Rattle.synth_cmd.specs.Synthesis.{AreExpansions, ShowsBoth, IsNetworkOf, IsFileOf, IsSynthesised, all_plain, names_of}
 use Rattle.synth_cmd.proofs.Meaning.{value-with, control_low, control_high}
 use Rattle.synth_cmd.proofs.Shown.{meets, listed_distinct}
-use Rattle.synth_cmd.proofs.Expands.{narrow_cost}
 use Rattle.synth_cmd.proofs.Used.{are_used}
 
 -- ---- points
@@ -99,10 +99,14 @@ same_file n m outputs names p q xs ys a b c d = rw (a, b, c, d) refl
 pub fits_of : (t : Table) (e : Terms) → AreExpansions (source_of t) (all_plain (length t.inputs)) e → Fits (names_of (source_of t)) e
 fits_of t e are = record { inputs = ap (λ p. p.n) are.polarity; outputs = are.outputs }
 
-pub cheap_of : (t : Table) (e : Terms) → IsSmall t → AreExpansions (source_of t) (all_plain (length t.inputs)) e → cost e ≤ REDDY_TERMS
-cheap_of t e small are = omega (arith, narrow_cost (source_of t) (length t.inputs) e small.inputs small.outputs are)
+-- what it is to be the name of a source
+are_names : (name : List ℕ) → is_source_name name ≡ true → is_name name ≡ true
+are_names name h = (and_parts _ _ h).0
 
-module _ (t : Table) (e : Terms) (cover : IsCover t) (small : IsSmall t) (terms : IsTerms e) (are : AreExpansions (source_of t) (all_plain (length t.inputs)) e) where
+are_short : (name : List ℕ) → is_source_name name ≡ true → length name ≤ SOURCE_NAME_BYTES
+are_short name h = leb-true _ _ (and_parts _ _ h).1
+
+module _ (t : Table) (e : Terms) (cover : IsCover t) (cheap : cost e ≤ REDDY_TERMS) (terms : IsTerms e) (are : AreExpansions (source_of t) (all_plain (length t.inputs)) e) where
   abbrev s : Source
   s = source_of t
 
@@ -123,7 +127,7 @@ module _ (t : Table) (e : Terms) (cover : IsCover t) (small : IsSmall t) (terms 
     some_output = cover.outputs.0;
     few_outputs = cover.outputs.1;
     distinct = cover.distinct;
-    each = λ i d l. (cover.named i d l, small.names i d l);
+    each = All-weaker (λ name. is_source_name name ≡ true) (λ name. (is_name name ≡ true) × (length name ≤ SOURCE_NAME_BYTES)) (λ name h. (are_names name h, are_short name h)) (s.inputs ++ s.outputs) cover.named;
   }
 
   n_is : e.polarity.n ≡ k
@@ -134,7 +138,7 @@ module _ (t : Table) (e : Terms) (cover : IsCover t) (small : IsSmall t) (terms 
     named = is_names;
     terms = terms;
     fits = fits_of t e are;
-    cheap = cheap_of t e small are;
+    cheap = cheap;
   }
 
   valid : IsValid net
@@ -189,7 +193,7 @@ module _ (t : Table) (e : Terms) (cover : IsCover t) (small : IsSmall t) (terms 
   length-outputs = sym (length-map net.outputs _) ∙ ap length ports
 
   outputs_named : All (λ name. is_name name ≡ true) s.outputs
-  outputs_named = subst (All (λ name. is_name name ≡ true)) (drop-append_seam s.inputs s.outputs) (All-drop (λ name. is_name name ≡ true) (length s.inputs) (s.inputs ++ s.outputs) cover.named)
+  outputs_named = subst (All (λ name. is_name name ≡ true)) (drop-append_seam s.inputs s.outputs) (All-drop (λ name. is_name name ≡ true) (length s.inputs) (s.inputs ++ s.outputs) (All-weaker (λ name. is_source_name name ≡ true) (λ name. is_name name ≡ true) are_names (s.inputs ++ s.outputs) cover.named))
 
   abbrev points : List Set
   points = first_vectors e.polarity (used_inputs e)
@@ -198,9 +202,9 @@ module _ (t : Table) (e : Terms) (cover : IsCover t) (small : IsSmall t) (terms 
   is_valid_file = record {
     some_input = omega (arith, n_is, cover.inputs.0);
     polarity = length-inputs ∙ ap suc (sym n_is);
-    few_inputs = omega (arith, length-inputs, small.inputs);
+    few_inputs = omega (arith, length-inputs, cover.inputs.1);
     some_output = cover.outputs.0;
-    few_outputs = omega (arith, small.outputs);
+    few_outputs = omega (arith, cover.outputs.1);
     named = All-append (λ name. is_name name ≡ true) net.inputs s.outputs valid.inputs_named outputs_named;
     distinct = subst (λ names. IsDistinct (net.inputs ++ names)) ports (listed_distinct net valid);
     points = All-map (λ v. IsPoint (length net.inputs) v.point) _ (first_vectors e.polarity (used_inputs e))
@@ -233,6 +237,7 @@ module _ (t : Table) (e : Terms) (cover : IsCover t) (small : IsSmall t) (terms 
     net_text = net_is;
     vector_text = file_is;
     terms = terms_are;
+    few_terms = cheap;
     gates = gates_are;
     vectors = vectors_are;
   }

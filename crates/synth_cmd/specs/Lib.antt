@@ -1,4 +1,5 @@
 pub mod Asked
+pub mod Expanding
 pub mod Lines
 pub mod Outcome
 pub mod Steps

@@ -1,9 +1,11 @@
 -- The lines of the report. Each ends with byte 10.
-use Rattle.std.specs.Prelude.{ℕ, List, [], ◌∷◌, ◌++◌, codes}
+use Rattle.std.specs.Prelude.{ℕ, suc, List, [], ◌∷◌, ◌++◌, codes}
 use Rattle.std.specs.Fmt.{decimal}
-use Rattle.synth_cmd.specs.declared.TheConstants.{READ_FAULT, WRITE_FAULT, REFUSED}
+use Rattle.synth_cmd.specs.declared.TheConstants.{READ_FAULT, REFUSED, TOO_LONG, TOO_MANY_TERMS}
 use Rattle.synth_cmd.specs.declared.tell.Refusal.{Refusal}
-use Rattle.synth_cmd.specs.declared.tell.Refusal.TheVariants.{ReadFault, WriteFault, NarrowForm}
+use Rattle.synth_cmd.specs.declared.tell.Refusal.TheVariants.{ReadFault, TooLong, Text, TooManyTerms}
+use Rattle.pla_read.specs.declared.fault.PlaFault.{PlaFault}
+use Rattle.pla_read.specs.Faults.{fault_name}
 use Rattle.synth_cmd.specs.declared.job.Summary.{Summary}
 
 abbrev pub usage_line : List ℕ
@@ -15,8 +17,15 @@ read_fault_line name = codes "read fault: " ++ (name ++ codes "\n")
 abbrev pub write_fault_line : List ℕ → List ℕ
 write_fault_line name = codes "write fault: " ++ (name ++ codes "\n")
 
-abbrev pub refused_line : List ℕ → List ℕ
-refused_line name = codes "refused: " ++ (name ++ codes ": narrow form\n")
+abbrev pub refused_line : List ℕ → ℕ → PlaFault → List ℕ
+refused_line name line what = codes "refused: " ++ (name ++ (codes ": line " ++ (decimal line ++ (codes ": " ++ (fault_name what ++ codes "\n")))))
+
+abbrev pub too_long_line : List ℕ → List ℕ
+too_long_line name = codes "too long: " ++ (name ++ codes "\n")
+
+-- outputs are printed from 1 on
+abbrev pub too_many_line : ℕ → List ℕ
+too_many_line output = codes "too many terms: output " ++ (decimal (suc output) ++ codes "\n")
 
 abbrev pub memory_line : List ℕ
 memory_line = codes "want of memory\n"
@@ -28,10 +37,12 @@ report_lines s = codes "terms " ++ (decimal s.terms ++ (codes "\ngates " ++ (dec
 -- the status of a refusal, and the line that tells it
 abbrev pub status_of : Refusal → ℕ
 status_of ReadFault = READ_FAULT
-status_of WriteFault = WRITE_FAULT
-status_of NarrowForm = REFUSED
+status_of TooLong = TOO_LONG
+status_of (Text line what) = REFUSED
+status_of (TooManyTerms output) = TOO_MANY_TERMS
 
 abbrev pub line_of : Refusal → List ℕ → List ℕ
 line_of ReadFault name = read_fault_line name
-line_of WriteFault name = write_fault_line name
-line_of NarrowForm name = refused_line name
+line_of TooLong name = too_long_line name
+line_of (Text line what) name = refused_line name line what
+line_of (TooManyTerms output) name = too_many_line output

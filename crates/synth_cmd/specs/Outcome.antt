@@ -1,14 +1,18 @@
 -- How a call ends: what the files hold, what the report took, and the counts of faults.
-use Rattle.std.specs.Prelude.{◌≡◌, ◌≢◌, ◌⊎◌, ◌<◌, ◌≤◌, ◌++◌, ℕ, List, Option, length, take, Some, None, IfSome}
+use Rattle.std.specs.Prelude.{◌≡◌, ◌≢◌, ◌⊎◌, ◌<◌, ◌≤◌, ◌++◌, ℕ, List, Option, Result, Ok, Err, length, take, Some, None, IfSome}
 use Rattle.std.specs.FinMap.{get}
 use Rattle.ae_outside.specs.Counts.{Tally, count, Rose, RoseAt, CountsAt}
 use Rattle.ae_outside.specs.Files.{Shelf, written, added, IsWrittenInPart, TookFront}
-use Rattle.pla_read.specs.Cover.{Table, source_of}
-use Rattle.pla_read.specs.Narrow.{NarrowSays, SaysNothing}
-use Rattle.synth_cmd.specs.Lines.{write_fault_line, usage_line, memory_line, report_lines, read_fault_line, refused_line}
-use Rattle.synth_cmd.specs.Synthesis.{IsSynthesised}
+use Rattle.ae_base.specs.declared.limits.TheConstants.{TEXT_BYTES}
+use Rattle.ae_cover.specs.Cover.{Table, source_of}
+use Rattle.pla_read.specs.declared.fault.PlaFault.{PlaFault}
+use Rattle.pla_read.specs.Pla.{pla_says}
+use Rattle.synth_cmd.specs.Lines.{write_fault_line, usage_line, memory_line, report_lines, status_of, line_of}
+use Rattle.synth_cmd.specs.Synthesis.{HasTooMany, IsSynthesised}
+use Rattle.synth_cmd.specs.declared.tell.Refusal.{Refusal}
+use Rattle.synth_cmd.specs.declared.tell.Refusal.TheVariants.{ReadFault, TooLong, Text, TooManyTerms}
 use Rattle.synth_cmd.specs.declared.job.Summary.{Summary}
-use Rattle.synth_cmd.specs.declared.TheConstants.{DONE, WORDS, READ_FAULT, WRITE_FAULT, REFUSED, MEMORY}
+use Rattle.synth_cmd.specs.declared.TheConstants.{DONE, WORDS, READ_FAULT, WRITE_FAULT, REFUSED, TOO_LONG, TOO_MANY_TERMS, MEMORY}
 
 -- ---- the report
 
@@ -25,26 +29,58 @@ pub record TellsMemory (text : List ℕ) (old new : Option (List ℕ)) : Type 0 
 
 -- ---- the files
 
--- The name holds a narrow text that says this cover.
-pub record HoldsNarrow (source : List ℕ) (held : Option Shelf) (table : Table) : Type 0 where
+-- The name holds a text, no longer than one may be, that says this cover.
+pub record HoldsCover (source : List ℕ) (held : Option Shelf) (table : Table) : Type 0 where
   pub bytes : List ℕ
   pub is_held : IfSome held (λ m. get m source ≡ Some bytes)
-  pub says : NarrowSays bytes table
+  pub short : length bytes ≤ TEXT_BYTES
+  pub says : pla_says bytes ≡ Ok table
 
--- the cover that a source's text says, and the texts that were made of it
-pub record Job (source : List ℕ) (held : Option Shelf) : Type 0 where
+-- These texts were made of the cover that the name's text says.
+pub record IsMade (source : List ℕ) (held : Option Shelf) (net_text vector_text : List ℕ) (summary : Summary) : Type 0 where
   pub table : Table
-  pub says : HoldsNarrow source held table
+  pub says : HoldsCover source held table
+  pub is_synthesised : IsSynthesised (source_of table) net_text vector_text summary
+
+-- the texts that were made of a source
+pub record Job (source : List ℕ) (held : Option Shelf) : Type 0 where
   pub net_text : List ℕ
   pub vector_text : List ℕ
   pub summary : Summary
-  pub is_synthesised : IsSynthesised (source_of table) net_text vector_text summary
+  pub is_made : IsMade source held net_text vector_text summary
 
--- The name holds bytes that are not of the narrow form.
-pub record HoldsOther (source : List ℕ) (m : Shelf) : Type 0 where
+-- The name holds a text, no longer than one may be, whose first fault is this one.
+pub record HoldsFault (source : List ℕ) (line : ℕ) (what : PlaFault) (m : Shelf) : Type 0 where
   pub bytes : List ℕ
   pub is_held : get m source ≡ Some bytes
-  pub says_nothing : SaysNothing bytes
+  pub short : length bytes ≤ TEXT_BYTES
+  pub says : pla_says bytes ≡ Err (line, what)
+
+-- The name holds more bytes than a text may have.
+pub record HoldsLong (source : List ℕ) (m : Shelf) : Type 0 where
+  pub bytes : List ℕ
+  pub is_held : get m source ≡ Some bytes
+  pub long : TEXT_BYTES < length bytes
+
+-- The name holds a text that says a cover whose expansions have too many terms, first at this output.
+pub record HoldsTooMany (source : List ℕ) (output : ℕ) (m : Shelf) : Type 0 where
+  pub table : Table
+  pub says : HoldsCover source (Some m) table
+  pub passes : HasTooMany (source_of table) output
+
+-- with some first fault, with too many terms at some output
+abbrev pub HoldsSomeFault : List ℕ → Shelf → Type 0
+HoldsSomeFault source m = (line : ℕ) × (what : PlaFault) × HoldsFault source line what m
+
+abbrev pub HoldsSomeTooMany : List ℕ → Shelf → Type 0
+HoldsSomeTooMany source m = (output : ℕ) × HoldsTooMany source output m
+
+-- the cause of a refusal, by what the files held and by the counts of their reads before and now
+abbrev pub Cause : Refusal → List ℕ → Option Shelf → Tally → Tally → Type 0
+Cause ReadFault source held before now = RoseAt source before now
+Cause TooLong source held before now = IfSome held (HoldsLong source)
+Cause (Text line what) source held before now = IfSome held (HoldsFault source line what)
+Cause (TooManyTerms output) source held before now = IfSome held (HoldsTooMany source output)
 
 -- NET is as before or holds a front of its text; all else is as before.
 pub record NetInPart (source net : List ℕ) (old new : Option Shelf) : Type 0 where
@@ -98,14 +134,9 @@ pub record Done (source net vectors : List ℕ) (old new : Outside) : Type 0 whe
   pub files : BothWhole source net vectors summary old.held new.held
   pub report : new.taken ≡ added old.taken (report_lines summary)
 
--- a read of the source failed
-pub record ReadFails (source : List ℕ) (old new : Outside) : Type 0 where
-  pub rose : RoseAt source old.reads new.reads
-  pub stays : new.held ≡ old.held
-
--- the source holds no narrow text
-pub record Refuses (source : List ℕ) (old new : Outside) : Type 0 where
-  pub cause : IfSome old.held (HoldsOther source)
+-- the source is refused, and the files are as before
+pub record Refuses (source : List ℕ) (refusal : Refusal) (old new : Outside) : Type 0 where
+  pub cause : Cause refusal source old.held old.reads new.reads
   pub stays : new.held ≡ old.held
 
 -- a write of NET failed
@@ -135,8 +166,7 @@ pub data WriteFails (source net vectors : List ℕ) (old new : Outside) : Type 0
 -- stands, or of the report, and then a front of the line for want of memory.
 pub data WantsMemory (source net vectors : List ℕ) (old new : Outside) : Type 0 where
   telling_nothing : InPart source net vectors old.held new.held → TookFront memory_line old.taken new.taken → WantsMemory source net vectors old new
-  telling_read_fault : ReadFails source old new → MemoryFrom (read_fault_line source) old new → WantsMemory source net vectors old new
-  telling_refusal : Refuses source old new → MemoryFrom (refused_line source) old new → WantsMemory source net vectors old new
+  telling_refusal : (refusal : Refusal) → Refuses source refusal old new → MemoryFrom (line_of refusal source) old new → WantsMemory source net vectors old new
   telling_net_fault : NetFails source net old new → MemoryFrom (write_fault_line net) old new → WantsMemory source net vectors old new
   telling_vectors_fault : VectorsFail source net vectors old new → MemoryFrom (write_fault_line vectors) old new → WantsMemory source net vectors old new
   telling_report : (summary : Summary) → BothWhole source net vectors summary old.held new.held → MemoryFrom (report_lines summary) old new → WantsMemory source net vectors old new
@@ -148,20 +178,37 @@ pub record NoFault (source net vectors : List ℕ) (old new : Outside) : Type 0 
   pub no_vectors : ¬ (RoseAt vectors old.writes new.writes)
   pub no_report : ¬ (Rose old.faults new.faults)
 
+-- the statuses of a refused source
+abbrev pub IsRefusal : ℕ → Type 0
+IsRefusal status = (status ≡ READ_FAULT) ⊎ ((status ≡ REFUSED) ⊎ ((status ≡ TOO_LONG) ⊎ (status ≡ TOO_MANY_TERMS)))
+
+-- The source is refused with this status, and the report took the refusal's line.
+pub record Stops (source : List ℕ) (old new : Outside) (status : ℕ) : Type 0 where
+  pub refusal : Refusal
+  pub is_status : status ≡ status_of refusal
+  pub refuses : Refuses source refusal old new
+  pub told : ToldFrom (line_of refusal source) old new
+
+-- Which status comes where the files tell what the source holds, unless memory is wanting.
+pub record Answers (source net vectors : List ℕ) (old new : Outside) (status : ℕ) (m : Shelf) : Type 0 where
+  -- A source that isn't held is a read fault.
+  pub not_held : get m source ≡ None → (status ≡ READ_FAULT) ⊎ (status ≡ MEMORY)
+  -- Where no read of it failed, a source that is too long, faulty or of too many terms is refused as such.
+  pub too_long : HoldsLong source m → ¬ (RoseAt source old.reads new.reads) → (status ≡ TOO_LONG) ⊎ (status ≡ MEMORY)
+  pub faulty : (line : ℕ) (what : PlaFault) → HoldsFault source line what m → ¬ (RoseAt source old.reads new.reads) → (status ≡ REFUSED) ⊎ (status ≡ MEMORY)
+  pub too_many : (output : ℕ) → HoldsTooMany source output m → ¬ (RoseAt source old.reads new.reads) → (status ≡ TOO_MANY_TERMS) ⊎ (status ≡ MEMORY)
+  -- Every other source is done where no count rose.
+  pub complete : (table : Table) → HoldsCover source (Some m) table → ((output : ℕ) → ¬ (HasTooMany (source_of table) output)) → NoFault source net vectors old new
+      → (status ≡ DONE) ⊎ (status ≡ MEMORY)
+
 -- how `synth IN NET VEC` ends
 pub record SynthEnds (source net vectors : List ℕ) (old new : Outside) (status : ℕ) : Type 0 where
-  pub known : (status ≡ DONE) ⊎ ((status ≡ READ_FAULT) ⊎ ((status ≡ WRITE_FAULT) ⊎ ((status ≡ REFUSED) ⊎ (status ≡ MEMORY))))
+  pub known : (status ≡ DONE) ⊎ (IsRefusal status ⊎ ((status ≡ WRITE_FAULT) ⊎ (status ≡ MEMORY)))
   pub done : status ≡ DONE → Done source net vectors old new
-  pub read_fault : status ≡ READ_FAULT → ReadFails source old new × ToldFrom (read_fault_line source) old new
+  pub stops : IsRefusal status → Stops source old new status
   pub write_fault : status ≡ WRITE_FAULT → WriteFails source net vectors old new
-  pub refused : status ≡ REFUSED → Refuses source old new × ToldFrom (refused_line source) old new
   pub memory : status ≡ MEMORY → WantsMemory source net vectors old new
-  -- A source that isn't held is a read fault.
-  pub not_held : IfSome old.held (λ m. get m source ≡ None → (status ≡ READ_FAULT) ⊎ (status ≡ MEMORY))
-  -- A source that holds no narrow text is refused where no read of it failed.
-  pub not_narrow : IfSome old.held (λ m. HoldsOther source m → ¬ (RoseAt source old.reads new.reads) → (status ≡ REFUSED) ⊎ (status ≡ MEMORY))
-  -- A source that holds a narrow text is done where no count rose.
-  pub complete : IfSome old.held (λ m. (table : Table) → HoldsNarrow source (Some m) table → NoFault source net vectors old new → (status ≡ DONE) ⊎ (status ≡ MEMORY))
+  pub answers : IfSome old.held (Answers source net vectors old new status)
   pub reads : CountsAt source old.reads new.reads
   pub writes : CountsAtBoth net vectors old.writes new.writes
   pub faults : old.faults ≤ new.faults

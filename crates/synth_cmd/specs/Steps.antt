@@ -1,22 +1,14 @@
 -- What the steps of a synthesis work on.
-use Rattle.std.specs.Prelude.{◌≤◌, ℕ, None, List, ◌++◌, length, map, filter, All}
-use Rattle.ae_base.specs.declared.limits.TheConstants.{SOURCE_NAME_BYTES}
+use Rattle.std.specs.Prelude.{ℕ, None, List, map, filter}
 use Rattle.ae_base.specs.Mask.{Set}
 use Rattle.ae_base.specs.Cube.{Product, Signs}
 use Rattle.ae_net.specs.Network.{Network}
 use Rattle.ae_net.specs.Run.{out}
-use Rattle.pla_read.specs.declared.narrow.TheConstants.{NARROW_LINES}
-use Rattle.pla_read.specs.declared.parts.Row.{Row}
-use Rattle.pla_read.specs.Cover.{Table, has_mark, is_one}
+use Rattle.ae_cover.specs.declared.parts.Row.{Row}
+use Rattle.ae_cover.specs.Cover.{has_mark, is_one}
 use Rattle.synth_cmd.specs.declared.vector_file.Form.TheVariants.{Reddy}
 use Rattle.synth_cmd.specs.declared.vector_file.Vector.{Vector}
 use Rattle.synth_cmd.specs.VectorFile.{VectorFile}
-
--- as few inputs and outputs as the narrow form has, with short names
-pub record IsSmall (t : Table) : Type 0 where
-  pub inputs : length t.inputs ≤ NARROW_LINES
-  pub outputs : length t.outputs ≤ NARROW_LINES
-  pub names : All (λ name. length name ≤ SOURCE_NAME_BYTES) (t.inputs ++ t.outputs)
 
 -- the cubes of the rows that have One at output o
 abbrev pub cubes_of : List Row → ℕ → List Product

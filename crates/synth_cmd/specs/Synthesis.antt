@@ -1,5 +1,6 @@
 -- What a synthesis makes of a source: a network that implements it, and the network's vectors with its responses.
-use Rattle.std.specs.Prelude.{◌≡◌, ◌↔◌, ℕ, ◌<◌, Bool, true, not, Some, None, List, [], ◌∷◌, ◌++◌, length, map, slice_get, All}
+use Rattle.std.specs.Prelude.{◌≡◌, ◌↔◌, ℕ, ◌<◌, ◌≤◌, ◌+◌, Bool, true, not, Some, None, List, [], ◌∷◌, ◌++◌, length, map, slice_get, All}
+use Rattle.std.specs.List.{sum_by}
 use Rattle.ae_base.specs.Mask.{Set, has, with, first}
 use Rattle.ae_base.specs.Cube.{Signs}
 use Rattle.ae_base.specs.Terms.{IsPoint}
@@ -12,6 +13,7 @@ use Rattle.ae_net.specs.Blif.{blif_text}
 use Rattle.ae_net.specs.Names.{Names}
 use Rattle.expansion.specs.Terms.{Terms, cost}
 use Rattle.fn_store.specs.Davio.{IsExpansion}
+use Rattle.cascade.specs.declared.limits.TheConstants.{REDDY_TERMS}
 use Rattle.cascade.specs.Reddy.{reddy_net}
 use Rattle.cascade.specs.FirstVectors.{first_vectors}
 use Rattle.synth_cmd.specs.declared.job.Summary.{Summary}
@@ -30,6 +32,21 @@ pub record AreExpansions (s : Source) (p : Signs) (e : Terms) : Type 0 where
   pub polarity : e.polarity ≡ p
   pub outputs : length e.outs ≡ length s.outputs
   pub each : (o : ℕ) (ts : List Set) → slice_get e.outs o ≡ Some ts → IsExpansion p (on_set s o) ts
+
+-- The running sum of the numbers of terms passes the limit at this output, and at none before it.
+pub record PassesAt (s : Source) (p : Signs) (limit output : ℕ) : Type 0 where
+  pub is_output : output < length s.outputs
+  pub before : List (List Set)
+  pub here : List Set
+  pub are_before : length before ≡ output
+  pub each : (o : ℕ) (ts : List Set) → slice_get before o ≡ Some ts → IsExpansion p (on_set s o) ts
+  pub is_here : IsExpansion p (on_set s output) here
+  pub within : sum_by length before ≤ limit
+  pub past : limit < sum_by length before + length here
+
+-- the expansions with their plain literals have too many terms for a Reddy network, first at this output
+abbrev pub HasTooMany : Source → ℕ → Type 0
+HasTooMany s output = PassesAt s (all_plain (length s.inputs)) REDDY_TERMS output
 
 -- The network has Reddy form for the source at the polarity: it is the cascade over these expansions.
 pub record HasReddyForm (s : Source) (p : Signs) (e : Terms) (n : Network) : Type 0 where
@@ -72,5 +89,6 @@ pub record IsSynthesised (s : Source) (net_bytes vector_bytes : List ℕ) (summa
   pub net_text : net_bytes ≡ blif_text net
   pub vector_text : vector_bytes ≡ vector_text file
   pub terms : summary.terms ≡ cost expansions
+  pub few_terms : cost expansions ≤ REDDY_TERMS
   pub gates : summary.gates ≡ length net.gates
   pub vectors : summary.vectors ≡ length file.vectors

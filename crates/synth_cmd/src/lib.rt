@@ -26,8 +26,14 @@ pub const READ_FAULT: u8 = 3;
 /// A write of a text or of the report failed.
 pub const WRITE_FAULT: u8 = 4;
 
-/// The source's text is refused.
+/// The source's text has a fault.
 pub const REFUSED: u8 = 5;
+
+/// The source is longer than a text may be.
+pub const TOO_LONG: u8 = 6;
+
+/// The source's expansions have too many terms.
+pub const TOO_MANY_TERMS: u8 = 7;
 
 /// Memory is wanting.
 pub const MEMORY: u8 = 8;

@@ -3,6 +3,7 @@ ghost use Rattle.std.specs.Prelude.{◌≡◌, IfOk, string_bytes};
 ghost use Rattle.synth_cmd.specs.Lines as spec;
 
 use crate::job::Summary;
+use pla_read::PlaFault;
 use std::alloc::{AllocError, Global};
 
 /// Tells that a read of the file failed.
@@ -19,11 +20,31 @@ pub fn write_fault(alloc: Global, name: &str) -> Result<String, AllocError>
     format!(in alloc; "write fault: {name}\n")
 }
 
-/// Tells that the file's text is not of the narrow form.
-pub fn refused(alloc: Global, name: &str) -> Result<String, AllocError>
-    ensures { IfOk result (λ line. string_bytes line ≡ spec.refused_line name.now) }
+/// Tells the first fault of the file's text, with its line.
+pub fn refused(
+    alloc: Global,
+    name: &str,
+    line: u32,
+    what: PlaFault,
+) -> Result<String, AllocError>
+    ensures { IfOk result (λ text. string_bytes text ≡ spec.refused_line name.now line what) }
 {
-    format!(in alloc; "refused: {name}: narrow form\n")
+    format!(in alloc; "refused: {name}: line {line}: {what}\n")
+}
+
+/// Tells that the file is too long.
+pub fn too_long(alloc: Global, name: &str) -> Result<String, AllocError>
+    ensures { IfOk result (λ line. string_bytes line ≡ spec.too_long_line name.now) }
+{
+    format!(in alloc; "too long: {name}\n")
+}
+
+/// Tells the first output at which there are too many terms. Outputs are counted from 0, and printed from 1 on.
+pub fn too_many_terms(alloc: Global, output: u32) -> Result<String, AllocError>
+    ensures { IfOk result (λ line. string_bytes line ≡ spec.too_many_line output) }
+{
+    let number = output as u64 + 1;
+    format!(in alloc; "too many terms: output {number}\n")
 }
 
 /// The report of a synthesis.

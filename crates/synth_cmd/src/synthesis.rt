@@ -1,21 +1,41 @@
 //! What is made of a source: its network and the network's vectors, as texts.
-ghost use Rattle.std.specs.Prelude.{◌≡◌, ◌<◌, ◌++◌, ◌∷◌, [], if◌then◌else◌, IfOk, OnOk, All, length};
-ghost use Rattle.pla_read.specs.Cover.{has_mark, is_one, source_of};
-ghost use Rattle.synth_cmd.specs.Steps.{IsSmall, cubes_of, file_over, vectors_of};
-ghost use Rattle.synth_cmd.specs.Synthesis.{AreExpansions, IsSynthesised, all_plain, names_of};
+ghost use Rattle.std.specs.Prelude.{◌≡◌, ◌<◌, ◌++◌, ◌∷◌, [], ℕ, if◌then◌else◌, IfOk, IsErrOf, OnOk, All, length};
+ghost use Rattle.ae_cover.specs.Cover.{has_mark, is_one, source_of};
+ghost use Rattle.synth_cmd.specs.declared.synthesis.ExpandErr.TheVariants as expand_err;
+ghost use Rattle.synth_cmd.specs.Expanding.{Expands};
+ghost use Rattle.synth_cmd.specs.Steps.{cubes_of, file_over, vectors_of};
+ghost use Rattle.synth_cmd.specs.Synthesis.{HasTooMany, IsSynthesised, names_of};
 ghost use Rattle.synth_cmd.specs.VectorFile.{IsValidVectorFile};
 
 use crate::job::Summary;
 use crate::vector_file::{Form, VecFile, Vector};
 use crate::vector_text::vector_text;
 use ae_base::{Cube, Memory, Name, Point, Polarity, Seq};
+use ae_cover::{Cover, Mark, Row};
 use ae_net::{Net, NetNames, answer, scratch_for};
 use blif_write::blif_text;
-use cascade::{first_vectors, reddy};
+use cascade::{REDDY_TERMS, first_vectors, reddy};
 use expansion::{Expansion, pairs};
 use fn_store::cubes_expansion;
-use pla_read::{Cover, Mark, Row};
+
 use std::alloc::Global;
+
+/// Why a source is not synthesised.
+#[derive(Clone, Copy, Debug, PartialEq, Eq)]
+pub enum ExpandErr {
+    /// The running sum of the expansions' terms passes the limit, first at this output. Outputs are counted from 0.
+    TooManyTerms { output: u32 },
+    /// Memory is wanting.
+    Memory,
+}
+
+impl From<Memory> for ExpandErr {
+    ghost from_gives = { λ _ r. r ≡ expand_err.Memory };
+
+    fn from(_: Memory) -> Self {
+        ExpandErr::Memory
+    }
+}
 
 /// The texts of a network and of its vectors, and their numbers.
 #[derive(Drop)]
@@ -37,7 +57,6 @@ fn copies(alloc: Global, names: &[Name]) -> Result<Seq<Name>, Memory>
 
 /// The names of a network: a PLA text gives its model none of its own.
 fn net_names(alloc: Global, cover: &Cover) -> Result<NetNames, Memory>
-    requires { IsSmall cover.now }
     ensures { IfOk result (λ names. names ≡ names_of (source_of cover.now)) }
 {
     let inputs = copies(alloc, cover.inputs())?;
@@ -90,16 +109,22 @@ fn output_cubes(alloc: Global, rows: &[Row], output: usize) -> Result<Vec<Cube>,
 }
 
 /// The expansions of all outputs, each input with its plain literal.
-fn expansions(alloc: Global, cover: &Cover) -> Result<Expansion, Memory>
-    requires { IsSmall cover.now }
-    ensures { IfOk result (λ e. AreExpansions (source_of cover.now) (all_plain (length cover.now.inputs)) e) }
+fn expansions(alloc: Global, cover: &Cover) -> Result<Expansion, ExpandErr>
+    ensures { Expands (source_of cover.now) result }
 {
     let polarity = Polarity::all_plain(cover.inputs().len() as u32);
     let rows = cover.rows();
     let mut outs = Seq::new(alloc);
+    let mut sum = 0;
     for output in 0..cover.outputs().len() {
         let cubes = output_cubes(alloc, rows, output)?;
         let terms = cubes_expansion(alloc, polarity, &cubes)?;
+        if terms.len() as u64 > REDDY_TERMS - sum {
+            return Err(ExpandErr::TooManyTerms {
+                output: output as u32,
+            });
+        }
+        sum += terms.len() as u64;
         outs.push(Seq::from_vec(terms))?;
     }
     Ok(Expansion { polarity, outs })
@@ -145,9 +170,9 @@ fn vector_file(
 }
 
 /// The network of a source and its first vectors, as texts.
-pub fn synthesise(alloc: Global, cover: &Cover) -> Result<Made, Memory>
-    requires { IsSmall cover.now }
-    ensures { IfOk result (λ made. IsSynthesised (source_of cover.now) made.net_text.items made.vector_text.items made.summary) }
+pub fn synthesise(alloc: Global, cover: &Cover) -> Result<Made, ExpandErr>
+    ensures made { IfOk result (λ made. IsSynthesised (source_of cover.now) made.net_text.items made.vector_text.items made.summary) }
+    ensures too_many { (output : ℕ) → IsErrOf result (expand_err.TooManyTerms output) → HasTooMany (source_of cover.now) output }
 {
     let names = net_names(alloc, cover)?;
     let expansions = expansions(alloc, cover)?;

@@ -2,20 +2,26 @@
 ghost use Rattle.std.specs.Prelude.{◌≡◌, ◌≢◌, ◌⊎◌, ◌≤◌, string_bytes, IfOk};
 ghost use Rattle.ae_outside.specs.Counts.{Rose};
 ghost use Rattle.ae_outside.specs.Files.{added, TookFront};
-ghost use Rattle.synth_cmd.specs.Lines.{memory_line, report_lines, status_of, line_of};
+ghost use Rattle.synth_cmd.specs.Lines.{memory_line, report_lines, status_of, line_of, write_fault_line};
 ghost use Rattle.synth_cmd.specs.Outcome.{Told, TellsMemory};
 
 use crate::job::Summary;
-use crate::{DONE, MEMORY, READ_FAULT, REFUSED, WRITE_FAULT, lines};
+use crate::{DONE, MEMORY, READ_FAULT, REFUSED, TOO_LONG, TOO_MANY_TERMS, WRITE_FAULT, lines};
 use ae_outside::{Sink, WriteErr, put_all};
+use pla_read::PlaFault;
 use std::alloc::{AllocError, Global};
 
-/// What is told of a file where a command stops at it.
+/// Why a source is refused.
 #[derive(Clone, Copy, Debug, PartialEq, Eq)]
 pub enum Refusal {
+    /// A read of it failed.
     ReadFault,
-    WriteFault,
-    NarrowForm,
+    /// It has more bytes than a text may have.
+    TooLong,
+    /// Its text has this first fault.
+    Text { line: u32, what: PlaFault },
+    /// Its expansions have too many terms, first at this output.
+    TooManyTerms { output: u32 },
 }
 
 /// Tells that memory is wanting.
@@ -48,8 +54,9 @@ fn status(refusal: Refusal) -> u8
 {
     match refusal {
         Refusal::ReadFault => READ_FAULT,
-        Refusal::WriteFault => WRITE_FAULT,
-        Refusal::NarrowForm => REFUSED,
+        Refusal::TooLong => TOO_LONG,
+        Refusal::Text { .. } => REFUSED,
+        Refusal::TooManyTerms { .. } => TOO_MANY_TERMS,
     }
 }
 
@@ -58,12 +65,13 @@ fn line(alloc: Global, refusal: Refusal, name: &str) -> Result<String, AllocErro
 {
     match refusal {
         Refusal::ReadFault => lines::read_fault(alloc, name),
-        Refusal::WriteFault => lines::write_fault(alloc, name),
-        Refusal::NarrowForm => lines::refused(alloc, name),
+        Refusal::TooLong => lines::too_long(alloc, name),
+        Refusal::Text { line, what } => lines::refused(alloc, name, line, what),
+        Refusal::TooManyTerms { output } => lines::too_many_terms(alloc, output),
     }
 }
 
-/// Tells why a command stopped at a file, and answers the refusal's status, or that of memory.
+/// Tells why a source is refused, and answers the refusal's status, or that of memory.
 pub fn refuse<K: Sink>(alloc: Global, report: &mut K, refusal: Refusal, name: &str) -> u8
     ensures status { (result ≡ status_of refusal) ⊎ (result ≡ MEMORY) }
     ensures told { result ≢ MEMORY → Told (line_of refusal name.now) (K.taken report.old) (K.taken report.new) (K.faults report.old) (K.faults report.new) }
@@ -72,6 +80,19 @@ pub fn refuse<K: Sink>(alloc: Global, report: &mut K, refusal: Refusal, name: &s
 {
     match line(alloc, refusal, name) {
         Ok(line) => tell(report, line.as_bytes(), status(refusal)),
+        Err(_) => want_memory(report),
+    }
+}
+
+/// Tells that a write of the file failed, and answers the status of a write fault, or that of memory.
+pub fn tell_write_fault<K: Sink>(alloc: Global, report: &mut K, name: &str) -> u8
+    ensures status { (result ≡ WRITE_FAULT) ⊎ (result ≡ MEMORY) }
+    ensures told { result ≢ MEMORY → Told (write_fault_line name.now) (K.taken report.old) (K.taken report.new) (K.faults report.old) (K.faults report.new) }
+    ensures memory { result ≡ MEMORY → TellsMemory (write_fault_line name.now) (K.taken report.old) (K.taken report.new) }
+    ensures counts { K.faults report.old ≤ K.faults report.new }
+{
+    match lines::write_fault(alloc, name) {
+        Ok(line) => tell(report, line.as_bytes(), WRITE_FAULT),
         Err(_) => want_memory(report),
     }
 }

@@ -3,12 +3,12 @@ ghost use Rattle.std.specs.Prelude.{◌≡◌, ◌⊎◌, IfSome};
 ghost use Rattle.ae_outside.specs.Counts.{Rose, RoseAt};
 ghost use Rattle.synth_cmd.specs.Asked.{asked, SomeOf, ByCommand, reads_of, writes_of};
 ghost use Rattle.synth_cmd.specs.Asked.Asked.{Refused};
-ghost use Rattle.synth_cmd.specs.Outcome.{HoldsOther, SynthEnds, RefusedEnds, outside};
+ghost use Rattle.synth_cmd.specs.Outcome.{HoldsLong, HoldsSomeFault, HoldsSomeTooMany, SynthEnds, RefusedEnds, outside};
 
 use crate::job::{Stop, synthesise_files};
-use crate::tell::{Refusal, finish, refuse, tell, want_memory};
+use crate::tell::{finish, refuse, tell, tell_write_fault, want_memory};
 use crate::words::{Command, read_command};
-use crate::{MEMORY, READ_FAULT, REFUSED, WORDS, WRITE_FAULT};
+use crate::{MEMORY, READ_FAULT, REFUSED, TOO_LONG, TOO_MANY_TERMS, WORDS, WRITE_FAULT};
 use ae_outside::{Files, Sink};
 use std::alloc::Global;
 
@@ -27,10 +27,9 @@ fn synth_command<F: Files, K: Sink>(
 {
     match synthesise_files(alloc, files, source, net, vectors) {
         Ok(summary) => finish(alloc, report, summary),
-        Err(Stop::ReadFault) => refuse(alloc, report, Refusal::ReadFault, source),
-        Err(Stop::NarrowForm) => refuse(alloc, report, Refusal::NarrowForm, source),
-        Err(Stop::NetFault) => refuse(alloc, report, Refusal::WriteFault, net),
-        Err(Stop::VectorsFault) => refuse(alloc, report, Refusal::WriteFault, vectors),
+        Err(Stop::Refused(refusal)) => refuse(alloc, report, refusal, source),
+        Err(Stop::NetFault) => tell_write_fault(alloc, report, net),
+        Err(Stop::VectorsFault) => tell_write_fault(alloc, report, vectors),
         Err(Stop::Memory) => want_memory(report),
     }
 }
@@ -58,7 +57,9 @@ pub fn run<F: Files, K: Sink>(alloc: Global, words: &[String], files: &mut F, re
     ensures read_only { result ≡ READ_FAULT → SomeOf (reads_of (asked words.now)) (λ name. RoseAt name (F.read_faults files.old) (F.read_faults files.new)) }
     ensures write_only { result ≡ WRITE_FAULT →
         SomeOf (writes_of (asked words.now)) (λ name. RoseAt name (F.write_faults files.old) (F.write_faults files.new)) ⊎ Rose (K.faults report.old) (K.faults report.new) }
-    ensures refused_only { result ≡ REFUSED → IfSome (F.held files.old) (λ m. SomeOf (reads_of (asked words.now)) (λ name. HoldsOther name m)) }
+    ensures refused_only { result ≡ REFUSED → IfSome (F.held files.old) (λ m. SomeOf (reads_of (asked words.now)) (λ name. HoldsSomeFault name m)) }
+    ensures long_only { result ≡ TOO_LONG → IfSome (F.held files.old) (λ m. SomeOf (reads_of (asked words.now)) (λ name. HoldsLong name m)) }
+    ensures terms_only { result ≡ TOO_MANY_TERMS → IfSome (F.held files.old) (λ m. SomeOf (reads_of (asked words.now)) (λ name. HoldsSomeTooMany name m)) }
 
     // Each command ends as it says.
     ensures ends { ByCommand (asked words.now)

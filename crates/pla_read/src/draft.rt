@@ -1,0 +1,220 @@
+//! The cover so far: what the lines that were read say.
+ghost use Rattle.std.specs.Prelude.{◌≡◌, ◌||◌, []};
+ghost use Rattle.pla_read.specs.declared.header.Header.TheVariants as header;
+ghost use Rattle.pla_read.specs.Pla as spec;
+ghost use Rattle.pla_read.specs.Step.{texts, Takes};
+
+use crate::fault::{LineErr, PlaFault};
+use crate::header::{Header, header_of};
+use crate::words::{
+    are_inputs, are_outputs, has_twins, join, read_kind, read_names, read_number, row_of,
+};
+use ae_base::{Name, SOURCE_LINES, Seq};
+use ae_cover::{Kind, PLA_ROWS, Row};
+use std::alloc::Global;
+use std::marker::Model;
+
+/// What the lines so far say, none of which has a fault.
+#[derive(Drop, Debug)]
+pub struct Draft {
+    pub inputs: Option<u32>,
+    pub outputs: Option<u32>,
+    pub input_names: Option<Seq<Name>>,
+    pub output_names: Option<Seq<Name>>,
+    pub kind: Option<Kind>,
+    pub rows: Seq<Row>,
+}
+
+impl Model for Draft {
+    ghost use Rattle.pla_read.specs.Pla.{Seen};
+    ghost use Rattle.pla_read.specs.Sound.{IsSound};
+
+    ghost Value = { Seen };
+
+    ghost view = { λ s. record { inputs = s.inputs; outputs = s.outputs; input_names = s.input_names; output_names = s.output_names; kind = s.kind; rows = s.rows } };
+
+    ghost invariant = { λ s. IsSound (record { inputs = s.inputs; outputs = s.outputs; input_names = s.input_names; output_names = s.output_names; kind = s.kind; rows = s.rows }) };
+}
+
+impl Draft {
+    /// Nothing is said yet.
+    #[tactic(auto, unfolding(crate::specs::Pla::seen))]
+    pub fn new(alloc: Global) -> Draft
+        ensures { result ≡ spec.seen [] }
+    {
+        Draft {
+            inputs: None,
+            outputs: None,
+            input_names: None,
+            output_names: None,
+            kind: None,
+            rows: Seq::new(alloc),
+        }
+    }
+
+    fn has_rows(&self) -> bool
+        ensures { result ≡ spec.has_rows self.now }
+    {
+        !self.rows.is_empty()
+    }
+
+    /// The number of inputs.
+    fn read_inputs(&mut self, words: &[&[u8]]) -> Result<(), LineErr>
+        ensures { Takes self.old (spec.Heads header.Inputs (texts words.now)) result self.new }
+    {
+        if self.inputs.is_some() {
+            return Err(LineErr::Fault(PlaFault::Late));
+        }
+        if self.has_rows() {
+            return Err(LineErr::Fault(PlaFault::Late));
+        }
+        let Some(n) = read_number(words) else {
+            return Err(LineErr::Fault(PlaFault::BadNumber));
+        };
+        if n > SOURCE_LINES {
+            return Err(LineErr::Fault(PlaFault::TooManyInputs));
+        }
+        self.inputs = Some(n);
+        Ok(())
+    }
+
+    /// The number of outputs.
+    fn read_outputs(&mut self, words: &[&[u8]]) -> Result<(), LineErr>
+        ensures { Takes self.old (spec.Heads header.Outputs (texts words.now)) result self.new }
+    {
+        if self.outputs.is_some() {
+            return Err(LineErr::Fault(PlaFault::Late));
+        }
+        if self.has_rows() {
+            return Err(LineErr::Fault(PlaFault::Late));
+        }
+        let Some(n) = read_number(words) else {
+            return Err(LineErr::Fault(PlaFault::BadNumber));
+        };
+        if n > SOURCE_LINES {
+            return Err(LineErr::Fault(PlaFault::TooManyOutputs));
+        }
+        self.outputs = Some(n);
+        Ok(())
+    }
+
+    /// The kind.
+    fn read_kind(&mut self, words: &[&[u8]]) -> Result<(), LineErr>
+        ensures { Takes self.old (spec.Heads header.Type (texts words.now)) result self.new }
+    {
+        if self.kind.is_some() {
+            return Err(LineErr::Fault(PlaFault::Late));
+        }
+        if self.has_rows() {
+            return Err(LineErr::Fault(PlaFault::Late));
+        }
+        let Some(kind) = read_kind(words) else {
+            return Err(LineErr::Fault(PlaFault::BadType));
+        };
+        self.kind = Some(kind);
+        Ok(())
+    }
+
+    /// The names of the inputs.
+    fn read_input_names(&mut self, alloc: Global, words: &[&[u8]]) -> Result<(), LineErr>
+        ensures { Takes self.old (spec.Heads header.InputNames (texts words.now)) result self.new }
+    {
+        if self.input_names.is_some() {
+            return Err(LineErr::Fault(PlaFault::Late));
+        }
+        if self.has_rows() {
+            return Err(LineErr::Fault(PlaFault::Late));
+        }
+        let Some(n) = self.inputs else {
+            return Err(LineErr::Fault(PlaFault::NoI));
+        };
+        let Some(names) = read_names(alloc, n, words)? else {
+            return Err(LineErr::Fault(PlaFault::BadNames));
+        };
+        if has_twins(names.as_slice()) {
+            return Err(LineErr::Fault(PlaFault::NameTwice));
+        }
+        self.input_names = Some(names);
+        Ok(())
+    }
+
+    /// The names of the outputs.
+    fn read_output_names(&mut self, alloc: Global, words: &[&[u8]]) -> Result<(), LineErr>
+        ensures { Takes self.old (spec.Heads header.OutputNames (texts words.now)) result self.new }
+    {
+        if self.output_names.is_some() {
+            return Err(LineErr::Fault(PlaFault::Late));
+        }
+        if self.has_rows() {
+            return Err(LineErr::Fault(PlaFault::Late));
+        }
+        let Some(m) = self.outputs else {
+            return Err(LineErr::Fault(PlaFault::NoO));
+        };
+        let Some(names) = read_names(alloc, m, words)? else {
+            return Err(LineErr::Fault(PlaFault::BadNames));
+        };
+        if has_twins(names.as_slice()) {
+            return Err(LineErr::Fault(PlaFault::NameTwice));
+        }
+        self.output_names = Some(names);
+        Ok(())
+    }
+
+    /// The characters of a row.
+    fn read_row(&mut self, alloc: Global, chars: &[u8]) -> Result<(), LineErr>
+        ensures { Takes self.old (spec.Holds chars.now) result self.new }
+    {
+        let Some(n) = self.inputs else {
+            return Err(LineErr::Fault(PlaFault::NoI));
+        };
+        let Some(m) = self.outputs else {
+            return Err(LineErr::Fault(PlaFault::NoO));
+        };
+        if chars.len() != (n + m) as usize {
+            return Err(LineErr::Fault(PlaFault::BadWidth));
+        }
+        let (front, back) = chars.split_at(n as usize);
+        if !are_inputs(front) {
+            return Err(LineErr::Fault(PlaFault::BadChar));
+        }
+        if !are_outputs(back) {
+            return Err(LineErr::Fault(PlaFault::BadChar));
+        }
+        if self.rows.len() >= PLA_ROWS {
+            return Err(LineErr::Fault(PlaFault::TooManyRows));
+        }
+        self.rows.push(row_of(alloc, n, chars)?)?;
+        Ok(())
+    }
+
+    /// Reads the words of one more line. After an error the draft is of no further use.
+    #[tactic(auto, unfolding(crate::specs::Pla::statement))]
+    pub fn read(&mut self, alloc: Global, words: &[&[u8]]) -> Result<(), LineErr>
+        ensures { Takes self.old (spec.statement (texts words.now)) result self.new }
+    {
+        match words {
+            [[b'.', ..], args @ ..] => self.read_header(alloc, header_of(words[0]), args),
+            _ => {
+                let chars = join(alloc, words)?;
+                self.read_row(alloc, chars.as_slice())
+            }
+        }
+    }
+
+    /// A header and the words after it.
+    fn read_header(&mut self, alloc: Global, header: Header, args: &[&[u8]]) -> Result<(), LineErr>
+        ensures { Takes self.old (spec.Heads header (texts args.now)) result self.new }
+    {
+        match header {
+            Header::Inputs => self.read_inputs(args),
+            Header::Outputs => self.read_outputs(args),
+            Header::InputNames => self.read_input_names(alloc, args),
+            Header::OutputNames => self.read_output_names(alloc, args),
+            Header::Type => self.read_kind(args),
+            Header::Products | Header::End => Ok(()),
+            Header::Unsupported => Err(LineErr::Fault(PlaFault::Unsupported)),
+            Header::Unknown => Err(LineErr::Fault(PlaFault::Unknown)),
+        }
+    }
+}

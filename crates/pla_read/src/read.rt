@@ -1,0 +1,132 @@
+//! Reads a PLA text.
+ghost use Rattle.std.specs.Prelude.{◌≡◌, ◌≤◌, length, map, All, IfOk};
+ghost use Rattle.ae_lex.specs.Lines.{IsInside};
+ghost use Rattle.pla_read.specs.Pla as spec;
+ghost use Rattle.pla_read.specs.Reads.{Gives};
+ghost use Rattle.pla_read.specs.Step.{texts, Reads};
+
+use crate::names::names_or;
+use crate::draft::Draft;
+use crate::fault::{LineErr, PlaErr, PlaFault};
+use crate::header::{Header, header_of};
+use crate::words::share;
+use ae_base::{Memory, TEXT_BYTES};
+use ae_cover::{Cover, Kind};
+use ae_lex::{Line, Style, lines};
+use std::alloc::Global;
+
+/// The words of a line.
+fn words_of<'a>(alloc: Global, bytes: &'a [u8], line: &Line) -> Result<Vec<&'a [u8]>, Memory>
+    requires { All (IsInside bytes.now) line.now.words }
+    ensures { IfOk result (λ words. texts words.items ≡ map (spec.word bytes.now) line.now.words) }
+{
+    let mut words = Vec::new(alloc);
+    for span in line.words.as_slice() {
+        words.push(&bytes[span.start as usize..span.end as usize])?;
+    }
+    Ok(words)
+}
+
+/// Whether nothing is read after a line of these words.
+#[tactic(auto, unfolding(crate::specs::Pla::statement))]
+fn is_end(words: &[&[u8]]) -> bool
+    ensures { result ≡ spec.is_end (spec.statement (texts words.now)) }
+{
+    match words {
+        [[b'.', ..], ..] => header_of(words[0]) == Header::End,
+        _ => false,
+    }
+}
+
+/// Reads the lines of a text with so many lines up to an end. It answers what they say, and the number of the last line
+/// that was read.
+fn read_lines(
+    alloc: Global,
+    bytes: &[u8],
+    lines: &[Line],
+    last: u32,
+) -> Result<(Draft, u32), PlaErr>
+    requires { All (λ line. All (IsInside bytes.now) line.words) lines.now }
+    ensures { Reads last (map (spec.said bytes.now) lines.now) result }
+{
+    let mut draft = Draft::new(alloc);
+    for line in lines {
+        let words = words_of(alloc, bytes, line)?;
+        if is_end(&words) {
+            return Ok((draft, line.number));
+        }
+        match draft.read(alloc, &words) {
+            Ok(()) => {}
+            Err(LineErr::Memory) => return Err(PlaErr::Memory),
+            Err(LineErr::Fault(what)) => {
+                return Err(PlaErr::At {
+                    line: line.number,
+                    what,
+                });
+            }
+        }
+    }
+    Ok((draft, last))
+}
+
+/// The cover of a draft, or the first fault of the whole text.
+#[tactic(auto, unfolding(crate::specs::Pla::table_of))]
+fn finish(alloc: Global, draft: Draft, last: u32) -> Result<Cover, PlaErr>
+    ensures { Gives (spec.judged (spec.at_line last (spec.first_of (spec.whole_faults draft))) (spec.table_of draft)) result }
+{
+    let Draft {
+        inputs,
+        outputs,
+        input_names,
+        output_names,
+        kind,
+        rows,
+    } = draft;
+    let Some(n) = inputs else {
+        return Err(PlaErr::At {
+            line: last,
+            what: PlaFault::NoI,
+        });
+    };
+    let Some(m) = outputs else {
+        return Err(PlaErr::At {
+            line: last,
+            what: PlaFault::NoO,
+        });
+    };
+    let inputs = names_or(alloc, input_names, b'x', n)?;
+    let outputs = names_or(alloc, output_names, b'f', m)?;
+    if share(inputs.as_slice(), outputs.as_slice()) {
+        return Err(PlaErr::At {
+            line: last,
+            what: PlaFault::NameTwice,
+        });
+    }
+    let cover = Cover {
+        inputs,
+        outputs,
+        kind: kind.unwrap_or(Kind::Fd),
+        rows,
+    };
+    if cover.first_clash().is_some() {
+        return Err(PlaErr::At {
+            line: last,
+            what: PlaFault::Clash,
+        });
+    }
+    Ok(cover)
+}
+
+/// The cover that a PLA text says. The text has at most `TEXT_BYTES` bytes.
+///
+/// `At` carries exactly the first fault: that of the first faulty line, and only where no line that is read has one, the
+/// first of the whole text with the number of the last line that is read. `Memory` comes only for want of memory.
+#[tactic(auto, unfolding(crate::specs::Pla::pla_says, crate::specs::Pla::lines_say))]
+pub fn read_pla(alloc: Global, bytes: &[u8]) -> Result<Cover, PlaErr>
+    requires { length bytes.now ≤ TEXT_BYTES }
+    ensures { Gives (spec.pla_says bytes.now) result }
+{
+    let found = lines(alloc, bytes, Style::Pla)?;
+    let (draft, last) = read_lines(alloc, bytes, found.list.as_slice(), found.last)?;
+    finish(alloc, draft, last)
+}
