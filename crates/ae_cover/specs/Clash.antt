@@ -1,13 +1,48 @@
--- The first clash of a cover.
-use Rattle.std.specs.Prelude.{ℕ, zero, suc, Bool, true, false, ◌&&◌, ◌==◌, if◌then◌else◌, List, length, slice_get, Option, Some, None}
+-- Clashes of a cover, and the first one.
+use Rattle.std.specs.Prelude.{◌≡◌, ℕ, zero, suc, ◌<◌, ◌⊎◌, Bool, true, false, ◌&&◌, ◌==◌, if◌then◌else◌, List, length, slice_get, Option, Some, None}
 use Rattle.std.specs.Option.{option_or, option_map_or}
-use Rattle.ae_base.specs.Mask.{len, both}
-use Rattle.ae_base.specs.Cube.{Product}
+use Rattle.ae_base.specs.Mask.{Set, len, both}
+use Rattle.ae_base.specs.Cube.{Product, holds}
+use Rattle.ae_base.specs.Terms.{IsPoint}
 use Rattle.ae_cover.specs.declared.parts.Kind.{Kind}
 use Rattle.ae_cover.specs.declared.parts.Kind.TheVariants.{F, Fd, Fr, Fdr}
+use Rattle.ae_cover.specs.declared.parts.Mark.TheVariants.{One, Zero}
 use Rattle.ae_cover.specs.declared.parts.Row.{Row}
 use Rattle.ae_cover.specs.declared.parts.Clash.{Clash}
 use Rattle.ae_cover.specs.Cover.{Table, has_mark, is_one, is_zero}
+
+-- ---- what a clash is
+
+-- Zero means Off in covers of this kind
+abbrev pub zero_is_off : Kind → Bool
+zero_is_off F = false
+zero_is_off Fd = false
+zero_is_off Fr = true
+zero_is_off Fdr = true
+
+-- Zero means Off, and at some point that both rows hold the one row has One for the output and the other has Zero.
+pub record IsClash (t : Table) (c : Clash) : Type 0 where
+  pub kind : zero_is_off t.kind ≡ true
+  pub is_output : c.output < length t.outputs
+  pub on : Row
+  pub off : Row
+  pub on_row : slice_get t.rows c.on_row ≡ Some on
+  pub off_row : slice_get t.rows c.off_row ≡ Some off
+  pub one : slice_get on.outs c.output ≡ Some One
+  pub zero : slice_get off.outs c.output ≡ Some Zero
+  pub point : Set
+  pub is_point : IsPoint (length t.inputs) point
+  pub on_holds : holds on.cube point ≡ true
+  pub off_holds : holds off.cube point ≡ true
+
+-- by the output, then by the row with One, then by the row with Zero
+abbrev pub IsBefore : Clash → Clash → Type 0
+IsBefore c d =
+    (c.output < d.output)
+    ⊎ ((c.output ≡ d.output) × (c.on_row < d.on_row))
+    ⊎ ((c.output ≡ d.output) × (c.on_row ≡ d.on_row) × (c.off_row < d.off_row))
+
+-- ---- the first clash, as an equation
 
 -- some point is in both cubes
 unfoldable pub meet : Product → Product → Bool

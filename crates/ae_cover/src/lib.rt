@@ -3,7 +3,12 @@
 
 mod clash;
 mod cover;
+mod laws;
 mod parts;
 
 pub use cover::{Cover, PLA_ROWS};
+pub use laws::clash_laws;
 pub use parts::{Clash, Kind, Mark, Row};
+
+#[cfg(test)]
+mod tests;

@@ -1,0 +1,298 @@
+-- The first clash is a clash, and none is before it.
+use Rattle.std.proofs.Common.{◌≡◌, ℕ, zero, suc, ◌<◌, ◌⊎◌, Bool, true, false, ◌&&◌, ◌||◌, cond, List, length, Option, Some, None, refl, sym, ap, subst, ◌∙◌, inl, inr, eqb, eq-eqb, eqb-true, lt-ltb, arith}
+use Rattle.std.specs.Prelude.{slice_get, All}
+use Rattle.std.specs.Option.{option_or, option_map_or}
+use Rattle.std.proofs.lemmas.Bool.{and_from, and_parts, cases_eq, cases_Bool, false≢true, or_cases as bool_or_cases, or_left, or_right}
+use Rattle.std.proofs.lemmas.Option.{slice_get_within, get_or_from_slice_get}
+use Rattle.std.proofs.lemmas.List.Elements.{All-get_or}
+use Rattle.ae_base.specs.Mask.{Set, has, len, both, either, first}
+use Rattle.ae_base.specs.Cube.{Product, IsProduct, holds}
+use Rattle.ae_base.specs.Terms.{IsPoint}
+use Rattle.ae_base.proofs.Sets.{has-both, has-either, has-inside, has-first}
+use Rattle.ae_base.proofs.Members.{len-zero, len-none}
+use Rattle.ae_base.proofs.Products.{holds-has, has-holds}
+use Rattle.ae_cover.specs.declared.parts.Kind.{Kind}
+use Rattle.ae_cover.specs.declared.parts.Kind.TheVariants.{F, Fd, Fr, Fdr}
+use Rattle.ae_cover.specs.declared.parts.Mark.{Mark}
+use Rattle.ae_cover.specs.declared.parts.Mark.TheVariants.{One, Zero, Dash, Void}
+use Rattle.ae_cover.specs.declared.parts.Row.{Row}
+use Rattle.ae_cover.specs.declared.parts.Clash.{Clash}
+use Rattle.ae_cover.specs.Cover.{Table, IsRow, IsCover, is_one, is_zero, has_mark}
+use Rattle.ae_cover.specs.Clash.{IsClash, IsBefore, zero_is_off, meet, first_below, clash, clash_of, clash_at, least_clash, of_kind, first_clash}
+
+-- ---- the first answer below n
+
+-- f answers x at this place, and nothing below it
+pub record AnswersAt {X : Type 0} (n : ℕ) (f : ℕ → Option X) (x : X) : Type 0 where
+  pub at : ℕ
+  pub below : at < n
+  pub is : f at ≡ Some x
+  pub none : (j : ℕ) → j < at → f j ≡ None
+
+or_none : {X : Type 0} (o p : Option X) → option_or o p ≡ None → (o ≡ None) × (p ≡ None)
+or_none None p e = (refl, e)
+or_none (Some x) p e = absurd cc
+
+or_some : {X : Type 0} (o p : Option X) (x : X) → option_or o p ≡ Some x → (o ≡ Some x) ⊎ ((o ≡ None) × (p ≡ Some x))
+or_some None p x e = inr (refl, e)
+or_some (Some y) p x e = inl e
+
+pub none_below : {X : Type 0} (n : ℕ) (f : ℕ → Option X) → first_below n f ≡ None → (k : ℕ) → k < n → f k ≡ None
+none_below zero f e k lt = absurd (omega arith)
+none_below (suc n) f e k lt =
+    let parts = or_none (first_below n f) (f n) e in
+    elim (cases_eq k n) [
+      | inl same ↦ ap f same ∙ parts.1
+      | inr other ↦ none_below n f parts.0 k (omega arith)
+    ]
+
+further : {X : Type 0} (n : ℕ) (f : ℕ → Option X) (x : X) → AnswersAt n f x → AnswersAt (suc n) f x
+further n f x a = let below : a.at < n = a.below in record { at = a.at; below = omega arith; is = a.is; none = a.none }
+
+pub first_answer : {X : Type 0} (n : ℕ) (f : ℕ → Option X) (x : X) → first_below n f ≡ Some x → AnswersAt n f x
+first_answer zero f x e = absurd cc
+first_answer (suc n) f x e =
+    elim (or_some (first_below n f) (f n) x e) [
+      | inl a ↦ further n f x (first_answer n f x a)
+      | inr b ↦ record { at = n; below = omega arith; is = b.1; none = none_below n f b.0 }
+    ]
+
+-- what is answered for an element that is there
+mapped : {X Y : Type 0} (g : X → Option Y) (o : Option X) (y : Y) → option_map_or g o None ≡ Some y → (x : X) × (o ≡ Some x) × (g x ≡ Some y)
+mapped g None y e = absurd cc
+mapped g (Some x) y e = (x, refl, e)
+
+-- ---- a common point of two cubes
+
+no_or : (a b : Bool) → a ≡ false → b ≡ false → (a || b) ≡ false
+no_or true b h k = absurd (false≢true (sym h))
+no_or false b h k = k
+
+no_left : (a b : Bool) → (a && b) ≡ false → b ≡ true → a ≡ false
+no_left true b h e = absurd (false≢true (sym h ∙ e))
+no_left false b h e = refl
+
+no_right : (a b : Bool) → (a && b) ≡ false → a ≡ true → b ≡ false
+no_right true b h e = h
+no_right false b h e = absurd (false≢true e)
+
+none_both : (a b : Bool) → (a ≡ true → b ≡ true → ⊥) → (a && b) ≡ false
+none_both true true h = absurd (h refl refl)
+none_both true false h = refl
+none_both false b h = refl
+
+-- an input with a complemented literal has no plain one
+not_plain : (c : Product) (j : ℕ) → IsProduct c → has c.neg j ≡ true → has c.pos j ≡ false
+not_plain c j p h = elim (cases_Bool (has c.pos j)) [ inl e ↦ absurd (false≢true (sym (p j e) ∙ h)) | inr e ↦ e ]
+
+-- the point at which the inputs with a plain literal in one of the two are 1, and no others
+pub common : Product → Product → Set
+common c d = either c.pos d.pos
+
+pub left_holds : (c d : Product) → IsProduct c → meet c d ≡ true → holds c (common c d) ≡ true
+unfolding meet common
+left_holds c d p h =
+    let parts = and_parts (eqb (len (both c.pos d.neg)) 0) _ h in
+    let apart : (j : ℕ) → has (both c.neg d.pos) j ≡ false = len-zero (both c.neg d.pos) (eqb-true _ _ parts.1) in
+    has-holds c (common c d) (
+      λ j e. has-either c.pos d.pos j ∙ or_left _ _ e,
+      λ j e. has-either c.pos d.pos j ∙ no_or _ _ (not_plain c j p e) (no_right _ _ (sym (has-both c.neg d.pos j) ∙ apart j) e),
+    )
+
+pub right_holds : (c d : Product) → IsProduct d → meet c d ≡ true → holds d (common c d) ≡ true
+unfolding meet common
+right_holds c d p h =
+    let parts = and_parts (eqb (len (both c.pos d.neg)) 0) _ h in
+    let apart : (j : ℕ) → has (both c.pos d.neg) j ≡ false = len-zero (both c.pos d.neg) (eqb-true _ _ parts.0) in
+    has-holds d (common c d) (
+      λ j e. has-either c.pos d.pos j ∙ or_right _ _ e,
+      λ j e. has-either c.pos d.pos j ∙ no_or _ _ (no_left _ _ (sym (has-both c.pos d.neg j) ∙ apart j) e) (not_plain d j p e),
+    )
+
+pub common_is_point : (n : ℕ) (c d : Product) → ((j : ℕ) → has c.pos j ≡ true → j < n) → ((j : ℕ) → has d.pos j ≡ true → j < n) → IsPoint n (common c d)
+unfolding common
+common_is_point n c d hc hd =
+    has-inside (common c d) (first n) (λ j e.
+    has-first n j
+    ∙ lt-ltb j n (elim (bool_or_cases (has c.pos j) (has d.pos j) (sym (has-either c.pos d.pos j) ∙ e)) [ inl a ↦ hc j a | inr b ↦ hd j b ]))
+
+pub meets : (c d : Product) (x : Set) → holds c x ≡ true → holds d x ≡ true → meet c d ≡ true
+unfolding meet
+meets c d x hc hd =
+    let left = holds-has c x hc in
+    let right = holds-has d x hd in
+    and_from _ _
+    (eq-eqb _ _ (len-none (both c.pos d.neg) (λ j. has-both c.pos d.neg j ∙ none_both _ _ (λ a b. false≢true (sym (right.1 j b) ∙ left.0 j a)))))
+    (eq-eqb _ _ (len-none (both c.neg d.pos) (λ j. has-both c.neg d.pos j ∙ none_both _ _ (λ a b. false≢true (sym (left.1 j a) ∙ right.0 j b)))))
+
+-- ---- marks
+
+one_there : (o : Option Mark) → option_map_or is_one o false ≡ true → o ≡ Some One
+one_there None e = absurd (false≢true e)
+one_there (Some One) e = refl
+one_there (Some Zero) e = absurd (false≢true e)
+one_there (Some Dash) e = absurd (false≢true e)
+one_there (Some Void) e = absurd (false≢true e)
+
+zero_there : (o : Option Mark) → option_map_or is_zero o false ≡ true → o ≡ Some Zero
+zero_there None e = absurd (false≢true e)
+zero_there (Some One) e = absurd (false≢true e)
+zero_there (Some Zero) e = refl
+zero_there (Some Dash) e = absurd (false≢true e)
+zero_there (Some Void) e = absurd (false≢true e)
+
+-- ---- the first clash
+
+-- the answer for a row as the one with Zero
+off_answer : List Row → ℕ → ℕ → Row → ℕ → Option Clash
+off_answer rows output on_row on off_row = option_map_or (clash output on_row off_row on) (slice_get rows off_row) None
+
+-- the answer for a row as the one with One
+on_answer : List Row → ℕ → ℕ → Option Clash
+on_answer rows output on_row = option_map_or (clash_of rows output on_row) (slice_get rows on_row) None
+
+-- two rows disagree at the output, and nothing was answered before
+record IsLeast (m : ℕ) (rows : List Row) (c : Clash) : Type 0 where
+  is_output : c.output < m
+  on : Row
+  off : Row
+  on_row : slice_get rows c.on_row ≡ Some on
+  off_row : slice_get rows c.off_row ≡ Some off
+  one : has_mark is_one c.output on ≡ true
+  zero : has_mark is_zero c.output off ≡ true
+  meet_is : meet on.cube off.cube ≡ true
+  no_output : (o : ℕ) → o < c.output → clash_at rows o ≡ None
+  no_on : (i : ℕ) → i < c.on_row → on_answer rows c.output i ≡ None
+  no_off : (j : ℕ) → j < c.off_row → off_answer rows c.output c.on_row on j ≡ None
+
+chosen : {X : Type 0} (b : Bool) (x y : X) → cond b (Some x) None ≡ Some y → (b ≡ true) × (x ≡ y)
+chosen true x y e = (refl, cc)
+chosen false x y e = absurd cc
+
+least : (m : ℕ) (rows : List Row) (c : Clash) → least_clash m rows ≡ Some c → IsLeast m rows c
+unfolding off_answer on_answer
+least m rows c e =
+    let outputs = first_answer m (clash_at rows) c e in
+    let ons = first_answer (length rows) (on_answer rows outputs.at) c outputs.is in
+    let on = mapped (clash_of rows outputs.at ons.at) (slice_get rows ons.at) c ons.is in
+    let offs = first_answer (length rows) (off_answer rows outputs.at ons.at on.0) c on.2 in
+    let off = mapped (clash outputs.at ons.at offs.at on.0) (slice_get rows offs.at) c offs.is in
+    let found : Clash = record { output = outputs.at; on_row = ons.at; off_row = offs.at } in
+    let pair = chosen (has_mark is_one outputs.at on.0 && has_mark is_zero outputs.at off.0 && meet on.0.cube off.0.cube) found c off.2 in
+    let tests = and_parts (has_mark is_one outputs.at on.0 && has_mark is_zero outputs.at off.0) (meet on.0.cube off.0.cube) pair.0 in
+    let marks = and_parts (has_mark is_one outputs.at on.0) (has_mark is_zero outputs.at off.0) tests.0 in
+    let P : Clash → Type 0 = λ d. IsLeast m rows d in
+    subst P pair.1 (record {
+      is_output = outputs.below;
+      on = on.0;
+      off = off.0;
+      on_row = on.1;
+      off_row = off.1;
+      one = marks.0;
+      zero = marks.1;
+      meet_is = tests.1;
+      no_output = outputs.none;
+      no_on = ons.none;
+      no_off = offs.none;
+    })
+
+-- ---- clashes are answered
+
+cell : (t : Table) (d : Clash) (h : IsClash t d) → clash d.output d.on_row d.off_row h.on h.off ≡ Some d
+cell t d h = rw (h.one, h.zero, meets h.on.cube h.off.cube h.point h.on_holds h.off_holds) refl
+
+not_off : (t : Table) (d : Clash) (h : IsClash t d) → off_answer t.rows d.output d.on_row h.on d.off_row ≡ None → ⊥
+unfolding off_answer
+not_off t d h e = let some = cell t d h in let none : clash d.output d.on_row d.off_row h.on h.off ≡ None = rw h.off_row at e in absurd cc
+
+not_on : (t : Table) (d : Clash) (h : IsClash t d) → on_answer t.rows d.output d.on_row ≡ None → ⊥
+unfolding off_answer on_answer
+not_on t d h e =
+    let none : clash_of t.rows d.output d.on_row h.on ≡ None = rw h.on_row at e in
+    not_off t d h (none_below (length t.rows) (off_answer t.rows d.output d.on_row h.on) none d.off_row (slice_get_within t.rows d.off_row h.off h.off_row))
+
+not_output : (t : Table) (d : Clash) (h : IsClash t d) → clash_at t.rows d.output ≡ None → ⊥
+unfolding on_answer
+not_output t d h e =
+    not_on t d h (none_below (length t.rows) (on_answer t.rows d.output) e d.on_row (slice_get_within t.rows d.on_row h.on h.on_row))
+
+pub not_least : (t : Table) (d : Clash) → IsClash t d → least_clash (length t.outputs) t.rows ≡ None → ⊥
+not_least t d h e = not_output t d h (none_below (length t.outputs) (clash_at t.rows) e d.output h.is_output)
+
+-- ---- the laws
+
+row_at : (n m : ℕ) (rows : List Row) (i : ℕ) (row : Row) → All (IsRow n m) rows → slice_get rows i ≡ Some row → IsRow n m row
+row_at n m rows i row all e =
+    let P : Row → Type 0 = IsRow n m in
+    subst P (get_or_from_slice_get rows i row row e) (All-get_or (IsRow n m) rows i row (slice_get_within rows i row e) all)
+
+of_kind_found : (k : Kind) (o : Option Clash) (c : Clash) → of_kind k o ≡ Some c → (zero_is_off k ≡ true) × (o ≡ Some c)
+of_kind_found F o c e = absurd cc
+of_kind_found Fd o c e = absurd cc
+of_kind_found Fr o c e = (refl, e)
+of_kind_found Fdr o c e = (refl, e)
+
+of_kind_none : (k : Kind) (o : Option Clash) → zero_is_off k ≡ true → of_kind k o ≡ None → o ≡ None
+of_kind_none F o h e = absurd (false≢true h)
+of_kind_none Fd o h e = absurd (false≢true h)
+of_kind_none Fr o h e = e
+of_kind_none Fdr o h e = e
+
+of_kind_unmarked : (k : Kind) (o : Option Clash) → zero_is_off k ≡ false → of_kind k o ≡ None
+of_kind_unmarked F o h = refl
+of_kind_unmarked Fd o h = refl
+of_kind_unmarked Fr o h = absurd (false≢true (sym h))
+of_kind_unmarked Fdr o h = absurd (false≢true (sym h))
+
+is_clash : (t : Table) (c : Clash) → IsCover t → zero_is_off t.kind ≡ true → IsLeast (length t.outputs) t.rows c → IsClash t c
+is_clash t c h k l =
+    let on = row_at _ _ t.rows c.on_row l.on h.rows l.on_row in
+    let off = row_at _ _ t.rows c.off_row l.off h.rows l.off_row in
+    record {
+      kind = k;
+      is_output = l.is_output;
+      on = l.on;
+      off = l.off;
+      on_row = l.on_row;
+      off_row = l.off_row;
+      one = one_there _ l.one;
+      zero = zero_there _ l.zero;
+      point = common l.on.cube l.off.cube;
+      is_point = common_is_point _ l.on.cube l.off.cube on.pos off.pos;
+      on_holds = left_holds l.on.cube l.off.cube on.is_product l.meet_is;
+      off_holds = right_holds l.on.cube l.off.cube off.is_product l.meet_is;
+    }
+
+same_off : (t : Table) (c d : Clash) (l : IsLeast (length t.outputs) t.rows c) (h : IsClash t d) → d.output ≡ c.output → d.on_row ≡ c.on_row → off_answer t.rows d.output d.on_row h.on d.off_row ≡ off_answer t.rows c.output c.on_row l.on d.off_row
+same_off t c d l h o i =
+    let there = h.on_row in
+    let least_there = l.on_row in
+    let rows : slice_get t.rows d.on_row ≡ slice_get t.rows c.on_row = ap (slice_get t.rows) i in
+    let same : h.on ≡ l.on = cc in
+    cc
+
+none_before : (t : Table) (c d : Clash) → IsLeast (length t.outputs) t.rows c → IsClash t d → IsBefore d c → ⊥
+none_before t c d l h before =
+    elim before [
+      | inl o ↦ not_output t d h (l.no_output d.output o)
+      | inr (inl i) ↦ not_on t d h (ap (λ o. on_answer t.rows o d.on_row) i.0 ∙ l.no_on d.on_row i.1)
+      | inr (inr j) ↦ not_off t d h (same_off t c d l h j.0 j.1 ∙ l.no_off d.off_row j.2)
+    ]
+
+pub found_is : (t : Table) (c : Clash) → IsCover t → first_clash t ≡ Some c → IsClash t c
+unfolding first_clash
+found_is t c h e =
+    let found = of_kind_found t.kind (least_clash (length t.outputs) t.rows) c e in
+    is_clash t c h found.0 (least (length t.outputs) t.rows c found.1)
+
+pub none_is_before : (t : Table) (c d : Clash) → first_clash t ≡ Some c → IsClash t d → IsBefore d c → ⊥
+unfolding first_clash
+none_is_before t c d e = none_before t c d (least (length t.outputs) t.rows c (of_kind_found t.kind (least_clash (length t.outputs) t.rows) c e).1)
+
+pub none_is : (t : Table) (d : Clash) → first_clash t ≡ None → IsClash t d → ⊥
+unfolding first_clash
+none_is t d e h = not_least t d h (of_kind_none t.kind (least_clash (length t.outputs) t.rows) h.kind e)
+
+pub unmarked : (t : Table) → zero_is_off t.kind ≡ false → first_clash t ≡ None
+unfolding first_clash
+unmarked t h = of_kind_unmarked t.kind (least_clash (length t.outputs) t.rows) h
