@@ -1,8 +1,7 @@
 -- What a BLIF text says: a network, or the first fault with the number of its line.
-use Rattle.std.specs.Prelude.{ℕ, ◌==◌, Bool, false, not, if◌then◌else◌, Option, Some, None, Result, Ok, Err, List, [], ◌∷◌, ◌++◌, length, map, slice_index, slice_index_or, bytes_eq, codes}
+use Rattle.std.specs.Prelude.{ℕ, ◌==◌, Bool, true, false, not, if◌then◌else◌, Option, Some, None, Result, Ok, Err, List, [], ◌∷◌, ◌++◌, length, map, slice_index, slice_index_or, bytes_eq, codes}
 use Rattle.std.specs.List.{list_any, flat_map, position_or_len}
 use Rattle.std.specs.Option.{option_or}
-use Rattle.std.specs.Prelude.{true}
 use Rattle.ae_base.specs.Mask.{where_below}
 use Rattle.ae_base.specs.Cube.{Product}
 use Rattle.ae_lex.specs.declared.text.Style.TheVariants.{Blif}
