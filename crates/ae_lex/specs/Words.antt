@@ -1,6 +1,7 @@
 -- The lines of a text in words.
-use Rattle.std.specs.Prelude.{ℕ, suc, ◌==◌, Bool, not, if◌then◌else◌, List, [], ◌∷◌, ◌++◌, length, map, filter, slice_range}
-use Rattle.std.specs.List.{onto_first, slice_split}
+use Rattle.std.specs.Prelude.{◌≡◌, ℕ, suc, ◌<◌, ◌-◌, ◌==◌, Bool, true, not, ◌&&◌, if◌then◌else◌, List, [], ◌∷◌, ◌++◌, length, map, filter, slice_index, slice_range, All}
+use Rattle.std.specs.List.{list_all, onto_first, slice_split}
+use Rattle.ae_base.specs.Name.{is_allowed}
 use Rattle.ae_lex.specs.declared.text.Style.{Style}
 use Rattle.ae_lex.specs.declared.text.Span.{Span}
 use Rattle.ae_lex.specs.declared.text.Line.{Line}
@@ -52,6 +53,15 @@ abbrev pub cut_line : List ℕ → Line → WordLine
 cut_line bytes line = record { number = line.number; words = map (cut bytes) line.words }
 
 -- ---- a text that is written line by line
+
+-- a word that is read as it is written: it has bytes, none of them a blank or '#', and the last is no backslash
+abbrev pub is_plain : List ℕ → Bool
+is_plain word = not (length word == 0) && not (slice_index word (length word - 1) == 92) && list_all is_allowed word
+
+-- some such words
+pub record IsPlainLine (ws : List (List ℕ)) : Type 0 where
+  pub some : 0 < length ws
+  pub each : All (λ word. is_plain word ≡ true) ws
 
 -- lines of these words, numbered from a number on
 abbrev pub numbered : ℕ → List (List (List ℕ)) → List WordLine
