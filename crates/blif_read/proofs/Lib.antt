@@ -1,1 +1,4 @@
 pub mod Examples
+pub mod WrittenLines
+pub mod WrittenNames
+pub mod WrittenPlacing
