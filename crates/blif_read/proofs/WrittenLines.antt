@@ -1,6 +1,6 @@
 -- Lines of which none is faulty, and what they say together.
-use Rattle.std.proofs.Common.{◌≡◌, ◌≢◌, ℕ, zero, suc, ◌+◌, ◌-◌, ◌<◌, ◌≤◌, Bool, true, false, not, cond, ◌||◌, ◌&&◌, eqb, leb, ltb, Option, Some, None, Result, Ok, Err, List, [], ◌∷◌, ◌++◌, length, map, get_or, take, refl, sym, ap, subst, ◌∙◌, arith}
-use Rattle.std.specs.Prelude.{bytes_eq, codes}
+use Rattle.std.proofs.Common.{◌≡◌, ℕ, suc, ◌+◌, ◌-◌, ◌<◌, ◌≤◌, Bool, true, false, not, eqb, leb, ltb, Option, Some, None, Ok, List, [], ◌∷◌, ◌++◌, length, map, get_or, take, refl, sym, ap, subst, ◌∙◌, arith}
+use Rattle.std.specs.Prelude.{bytes_eq}
 use Rattle.std.specs.List.{flat_map, list_any, list_all, AllByRecursion}
 use Rattle.std.specs.Option.{option_map, option_or}
 use Rattle.std.proofs.lemmas.Bool.{cond-false, or_from, or_parts, and_from, le-ltb, lt-leb, ne_eqb, eq-eqb}
@@ -9,13 +9,12 @@ use Rattle.std.proofs.lemmas.List.Concat.{flat_map-append}
 use Rattle.std.proofs.lemmas.List.Folds.{list_any-append, list_all-append}
 use Rattle.ae_base.specs.declared.limits.TheConstants.{PINS, GATES}
 use Rattle.ae_lex.specs.Words.{WordLine, numbered}
-use Rattle.ae_net.specs.Network.{Network}
 use Rattle.blif_read.specs.declared.fault.NetLimits.{NetLimits}
 use Rattle.blif_read.specs.declared.fault.BlifFault.{BlifFault}
 use Rattle.blif_read.specs.Words.{most_lines, is_name_under, is_among}
 use Rattle.blif_read.specs.Statement.{Said, said, gate_name, pin_names, row_end, is_row}
-use Rattle.blif_read.specs.Statement.Said.{Model, Inputs, Outputs, Names, End, Unsupported, Unknown, Row}
-use Rattle.blif_read.specs.Earlier.{input_words, output_words, driven_words, model_words, inputs_of, outputs_of, driven_of, is_end, Cover, with_row, cover_after, open_cover}
+use Rattle.blif_read.specs.Statement.Said.{Names, Row}
+use Rattle.blif_read.specs.Earlier.{input_words, output_words, driven_words, inputs_of, outputs_of, driven_of, is_end, Cover, cover_after, open_cover}
 use Rattle.blif_read.specs.Faults.{input_fault, output_fault, word_fault, names_fault, mixes, row_fault, fault_before_end, fault_after_end, line_fault, first_fault}
 use Rattle.blif_read.specs.Placing.{Unplaced, placed}
 use Rattle.blif_read.specs.Says.{covers, reads_unknown, shows_unknown, first_line, net_of, model_of, lines_say}

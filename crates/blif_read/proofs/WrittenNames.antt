@@ -1,5 +1,5 @@
 -- Names in a list: where they stand, and that none stands twice.
-use Rattle.std.proofs.Common.{◌≡◌, ◌≢◌, ℕ, zero, suc, ◌+◌, ◌<◌, Bool, true, false, not, cond, List, [], ◌∷◌, ◌++◌, length, map, get_or, refl, sym, ap, ap₂, subst, ◌∙◌, arith}
+use Rattle.std.proofs.Common.{◌≡◌, ◌≢◌, ℕ, zero, suc, ◌+◌, ◌<◌, true, false, not, cond, List, [], ◌∷◌, ◌++◌, length, map, get_or, refl, sym, ap, ap₂, subst, ◌∙◌, arith}
 use Rattle.std.specs.Prelude.{bytes_eq}
 use Rattle.std.specs.List.{AllByRecursion}
 use Rattle.std.proofs.lemmas.Bool.{false_from_ne_true, or_from, or_left, or_right}
@@ -32,10 +32,11 @@ among_at (v ∷ ws) (suc s) h = or_right (bytes_eq (get_or ws s []) v) (is_among
 
 pub fresh : (had ws : List (List ℕ)) → IsDistinct (had ++ ws) → AreFresh had ws
 fresh had [] h = tt
-fresh had (w ∷ ws) h =
-    (not_among w had (λ k lt e. h k (length had) [] lt (omega (arith, length-append had (w ∷ ws)))
-        (get_or_append_left had (w ∷ ws) [] k lt ∙ e ∙ sym (get_or_at had w ws [] (length had) refl))),
-     fresh (had ++ w ∷ []) ws (subst (λ (xs : List (List ℕ)). IsDistinct xs) (sym (append_assoc had (w ∷ []) ws)) h))
+fresh had (w ∷ ws) h = (
+  not_among w had (λ k lt e. h k (length had) [] lt (omega (arith, length-append had (w ∷ ws)))
+      (get_or_append_left had (w ∷ ws) [] k lt ∙ e ∙ sym (get_or_at had w ws [] (length had) refl))),
+  fresh (had ++ w ∷ []) ws (subst (λ (xs : List (List ℕ)). IsDistinct xs) (sym (append_assoc had (w ∷ []) ws)) h),
+)
 
 pub fresh_split : (had xs ys : List (List ℕ)) → AreFresh had (xs ++ ys) → AreFresh had xs × AreFresh (had ++ xs) ys
 fresh_split had [] ys h = (tt, subst (λ (b : List (List ℕ)). AreFresh b ys) (sym (append-nil had)) h)
@@ -67,4 +68,4 @@ signals_apart names ss h b apart i j d lt lj =
     let j-in : j < length ss = omega (arith, length-map ss (name_of names), lj) in
     let i-in : i < length ss = omega (arith, j-in, lt) in
     λ e. names_apart names (get_or ss i 0) (get_or ss j 0) h (b i 0 i-in) (b j 0 j-in) (apart i j 0 lt j-in)
-        (sym (get_or-map (name_of names) ss i 0 d i-in) ∙ e ∙ get_or-map (name_of names) ss j 0 d j-in)
+    (sym (get_or-map (name_of names) ss i 0 d i-in) ∙ e ∙ get_or-map (name_of names) ss j 0 d j-in)

@@ -1,7 +1,7 @@
 -- Gates that stand in an order are placed in that order.
-use Rattle.std.proofs.Common.{◌≡◌, ℕ, zero, suc, Bool, true, false, not, cond, ◌||◌, ◌&&◌, Option, Some, None, Result, Ok, Err, List, [], ◌∷◌, ◌++◌, length, map, refl, sym, ap, subst, ◌∙◌}
+use Rattle.std.proofs.Common.{◌≡◌, ℕ, suc, Bool, true, false, not, Option, Some, None, Ok, List, [], ◌∷◌, ◌++◌, length, refl, sym, ap, subst, ◌∙◌}
 use Rattle.std.specs.Prelude.{bytes_eq}
-use Rattle.std.specs.List.{find, list_any, AllByRecursion}
+use Rattle.std.specs.List.{find, AllByRecursion}
 use Rattle.std.proofs.lemmas.Bool.{cond-true, cond-false, and_left, and_from, or_left, or_right, or_parts}
 use Rattle.std.proofs.lemmas.List.{append_assoc, append-nil, map-append}
 use Rattle.std.proofs.lemmas.List.Folds.{list_any-append}
@@ -24,9 +24,10 @@ find_no p (x ∷ xs) h = cond-false (p x) (Some x) (find p xs) h.0 ∙ find_no p
 
 still_among : (xs more : List Unplaced) (names : List (List ℕ)) → names ≡ outs more ++ outs xs → AllByRecursion (λ x. is_among x.out names ≡ true) xs
 still_among [] more names e = tt
-still_among (x ∷ xs) more names e =
-    (ap (is_among x.out) e ∙ list_any-append (bytes_eq x.out) (outs more) (outs (x ∷ xs)) ∙ or_right (is_among x.out (outs more)) (is_among x.out (outs (x ∷ xs))) (or_left (bytes_eq x.out x.out) (is_among x.out (outs xs)) (bytes_same x.out)),
-     still_among xs (more ++ x ∷ []) names (e ∙ sym (append_assoc (outs more) (x.out ∷ []) (outs xs)) ∙ ap (λ (ws : List (List ℕ)). ws ++ outs xs) (sym (map-append (λ (c : Unplaced). c.out) more (x ∷ [])))))
+still_among (x ∷ xs) more names e = (
+  ap (is_among x.out) e ∙ list_any-append (bytes_eq x.out) (outs more) (outs (x ∷ xs)) ∙ or_right (is_among x.out (outs more)) (is_among x.out (outs (x ∷ xs))) (or_left (bytes_eq x.out x.out) (is_among x.out (outs xs)) (bytes_same x.out)),
+  still_among xs (more ++ x ∷ []) names (e ∙ sym (append_assoc (outs more) (x.out ∷ []) (outs xs)) ∙ ap (λ (ws : List (List ℕ)). ws ++ outs xs) (sym (map-append (λ (c : Unplaced). c.out) more (x ∷ [])))),
+)
 
 gone : (inputs : List (List ℕ)) (done xs : List Unplaced) → AllByRecursion (λ x. is_among x.out (outs done) ≡ true) xs → AllByRecursion (λ x. can_go inputs done x ≡ false) xs
 gone inputs done [] h = tt

@@ -1,25 +1,25 @@
 -- The text of a network says the network.
-use Rattle.std.proofs.Common.{◌≡◌, ℕ, zero, suc, ◌+◌, ◌<◌, ◌≤◌, Bool, true, false, not, cond, ◌||◌, Option, Some, None, Result, Ok, Err, List, [], ◌∷◌, ◌++◌, length, map, get_or, refl, sym, ap, ap₂, subst, ◌∙◌, arith}
+use Rattle.std.proofs.Common.{◌≡◌, ℕ, suc, ◌+◌, ◌<◌, ◌≤◌, true, false, None, Ok, List, [], ◌∷◌, ◌++◌, length, map, get_or, refl, sym, ap, ap₂, subst, ◌∙◌, arith}
 use Rattle.std.specs.Prelude.{All}
 use Rattle.std.specs.List.{flat_map, list_any, AllByRecursion}
 use Rattle.std.proofs.lemmas.List.{append_assoc, append-nil, length-append, length-map, get_or_append_left}
-use Rattle.std.proofs.lemmas.List.Elements.{All-from_recursion, recursion_from_All}
+use Rattle.std.proofs.lemmas.List.Elements.{recursion_from_All}
 use Rattle.ae_base.specs.Name.{is_name}
 use Rattle.ae_lex.specs.Words.{numbered, last_line, word_lines}
 use Rattle.ae_lex.specs.declared.text.Style.TheVariants.{Blif}
 use Rattle.ae_lex.proofs.Written.{lines_written}
 use Rattle.ae_net.proofs.Distinct.{each-append}
 use Rattle.ae_net.specs.declared.net.Gate.{Gate}
-use Rattle.ae_net.specs.Network.{Network, signals}
+use Rattle.ae_net.specs.Network.{Network}
 use Rattle.ae_net.specs.Valid.{IsValid, IsDistinct}
 use Rattle.ae_net.specs.Blif.{signal_names, name_of, net_lines, blif_text}
 use Rattle.blif_read.specs.declared.fault.NetLimits.TheVariants.{Written}
 use Rattle.blif_read.specs.Words.{is_among}
 use Rattle.blif_read.specs.Limits.{KeepsLimits}
-use Rattle.blif_read.specs.Statement.{Said, said}
-use Rattle.blif_read.specs.Statement.Said.{Model, Inputs, Outputs, Names, End, Row}
+use Rattle.blif_read.specs.Statement.{Said}
+use Rattle.blif_read.specs.Statement.Said.{Model, Inputs, Outputs, Names, End}
 use Rattle.blif_read.specs.Earlier.{input_words, output_words, driven_words}
-use Rattle.blif_read.specs.Faults.{word_fault, input_fault, output_fault, line_fault, first_fault}
+use Rattle.blif_read.specs.Faults.{word_fault, output_fault, line_fault, first_fault}
 use Rattle.blif_read.specs.Placing.{outs, placed}
 use Rattle.blif_read.specs.Says.{some_unknown, reads_unknown, shows_unknown, place_of, gate_of, net_of, lines_say, blif_says}
 use Rattle.blif_read.proofs.WrittenNames.{AreFresh, not_among, fresh, fresh_split, names_apart, places_back, signals_apart}
@@ -57,8 +57,8 @@ IsInner m n s = (m ≤ s) × (s < n)
 no_input : (inputs outs : List (List ℕ)) (s : ℕ) → IsDistinct (inputs ++ outs) → IsInner (length inputs) (length (inputs ++ outs)) s → is_among (get_or (inputs ++ outs) s []) inputs ≡ false
 no_input inputs outs s apart h =
     not_among (get_or (inputs ++ outs) s []) inputs (λ k lt e.
-        let long : length (inputs ++ outs) ≡ length inputs + length outs = length-append inputs outs in
-        names_apart (inputs ++ outs) k s apart (omega (arith, long, lt)) h.1 (λ same. omega (arith, same, lt, h.0)) (get_or_append_left inputs outs [] k lt ∙ e))
+    let long : length (inputs ++ outs) ≡ length inputs + length outs = length-append inputs outs in
+    names_apart (inputs ++ outs) k s apart (omega (arith, long, lt)) h.1 (λ same. omega (arith, same, lt, h.0)) (get_or_append_left inputs outs [] k lt ∙ e))
 
 no_inputs : (inputs outs : List (List ℕ)) (ss : List ℕ) → IsDistinct (inputs ++ outs) → AllByRecursion (IsInner (length inputs) (length (inputs ++ outs))) ss → AllByRecursion (λ w. is_among w inputs ≡ false) (map (name_of (inputs ++ outs)) ss)
 no_inputs inputs outs [] apart h = tt
@@ -108,8 +108,8 @@ net_fine n v l k =
     let two : line_fault Written (Model (n.model ∷ []) ∷ []) (Inputs n.inputs) ≡ None = not_ended Written (Model (n.model ∷ []) ∷ []) (Inputs n.inputs) refl ∙ inputs_fine Written [] n.inputs k.inputs k.input_apart (omega (arith, l.few_inputs)) in
     let short : length outs ≡ length n.outputs = length-map n.outputs (name_of names) in
     let three : line_fault Written before (Outputs outs) ≡ None = not_ended Written before (Outputs outs) refl
-        ∙ ap (λ (i : List (List ℕ)). word_fault (output_fault Written i) [] outs) (append-nil n.inputs)
-        ∙ outputs_fine Written n.inputs [] outs k.output_names k.output_others k.output_apart (omega (arith, short, l.few_outputs)) in
+    ∙ ap (λ (i : List (List ℕ)). word_fault (output_fault Written i) [] outs) (append-nil n.inputs)
+    ∙ outputs_fine Written n.inputs [] outs k.output_names k.output_others k.output_apart (omega (arith, short, l.few_outputs)) in
     (one, (two, (three, gates_fine names (head_said n) n.inputs outs [] n.gates (head_stands n) k.fit (omega (arith, v.few_gates)) (subst (λ (b : List (List ℕ)). AreFresh b (map (λ gate. gate.out) n.gates)) (sym (append-nil n.inputs)) k.gate_apart))))
 
 -- ---- what the lines say together
@@ -139,7 +139,7 @@ net_lines_say n last v k =
     let shows : list_any (shows_unknown names) (net_said n) ≡ false = rw (none_unknown names n.outputs k.outputs) (any_gates (shows_unknown names) names n.gates refl (λ r. refl) (none_shown names n.gates)) in
     let some : 0 < length shown = omega (arith, length-map n.outputs (name_of names), v.some_output) in
     let order : placed n.inputs cs ≡ Ok cs =
-        placed_in_order n.inputs cs (in_order names n.inputs (length n.inputs) 4 n.gates k.gates refl refl) (subst (λ (ws : List (List ℕ)). AreFresh n.inputs ws) (sym (outs_unplaced names 4 n.gates)) k.gate_apart) in
+    placed_in_order n.inputs cs (in_order names n.inputs (length n.inputs) 4 n.gates k.gates refl refl) (subst (λ (ws : List (List ℕ)). AreFresh n.inputs ws) (sym (outs_unplaced names 4 n.gates)) k.gate_apart) in
     whole last (numbered 1 (net_lines n)) (net_said n) n.model n.inputs shown outs cs
     (said_numbered 1 (net_lines n) ∙ said_net n)
     (at_end input_words (head_said n) gates n.inputs refl st.inputs_are)

@@ -1,5 +1,5 @@
 -- No line of a written gate is faulty.
-use Rattle.std.proofs.Common.{◌≡◌, ℕ, zero, suc, ◌+◌, ◌<◌, ◌≤◌, Bool, true, false, ◌||◌, Option, Some, None, List, [], ◌∷◌, ◌++◌, length, map, refl, sym, ap, subst, ◌∙◌, arith}
+use Rattle.std.proofs.Common.{◌≡◌, ℕ, suc, ◌+◌, ◌<◌, ◌≤◌, Bool, false, Option, Some, None, List, [], ◌∷◌, ◌++◌, length, map, refl, sym, ap, subst, ◌∙◌, arith}
 use Rattle.std.specs.List.{flat_map, list_any, AllByRecursion}
 use Rattle.std.proofs.lemmas.Bool.{or_from}
 use Rattle.std.proofs.lemmas.List.{append_assoc, append-nil, length-append, length-map}
@@ -27,12 +27,13 @@ rows_fine : (before : List Said) (k : ℕ) (on : Bool) (ws rows : List (List ℕ
     → open_cover None before ≡ Some (record { words = ws; rows = rows }) → AreFine Written before (map (row_said k on) rest)
 rows_fine before k on ws rows [] ended e h o = tt
 rows_fine before k on ws rows (row ∷ rest) ended e h o =
-    let r = row_chars k on row in
-    (not_ended Written before (Row r) ended ∙ ap (λ (c : Option Cover). row_fault c r) o ∙ row_fine k (digit on) r ws rows e (is_row-row_chars k on row) (row_end-row_chars k on row) h,
-     rows_fine (before ++ Row r ∷ []) k on ws (rows ++ r ∷ []) rest
-        (list_any-append is_end before (Row r ∷ []) ∙ or_from (list_any is_end before) false ended refl) e
-        (end_more (digit on) rows r h (row_end-row_chars k on row))
-        (open-append None before (Row r) ∙ ap (λ (c : Option Cover). cover_after c (Row r)) o))
+    let r = row_chars k on row in (
+      not_ended Written before (Row r) ended ∙ ap (λ (c : Option Cover). row_fault c r) o ∙ row_fine k (digit on) r ws rows e (is_row-row_chars k on row) (row_end-row_chars k on row) h,
+      rows_fine (before ++ Row r ∷ []) k on ws (rows ++ r ∷ []) rest
+          (list_any-append is_end before (Row r ∷ []) ∙ or_from (list_any is_end before) false ended refl) e
+          (end_more (digit on) rows r h (row_end-row_chars k on row))
+          (open-append None before (Row r) ∙ ap (λ (c : Option Cover). cover_after c (Row r)) o),
+    )
 
 stands_rows : (before : List Said) (k : ℕ) (on : Bool) (rest : List Product) (i o d : List (List ℕ)) → Stands before i o d → Stands (before ++ map (row_said k on) rest) i o d
 stands_rows before k on [] i o d h = subst (λ (b : List Said). Stands b i o d) (sym (append-nil before)) h
@@ -62,7 +63,7 @@ gate_fine names before i o d gate h fit room fresh =
     let k = length gate.pins in
     let few : length (map (name_of names) gate.pins) ≤ PINS = omega (arith, length-map gate.pins (name_of names), fit.few) in
     let this : line_fault Written before (Names ws) ≡ None = not_ended Written before (Names ws) h.on ∙ ap (λ (x : List (List ℕ)). names_fault Written x (driven_of before) ws) h.inputs_are ∙ ap (λ (x : List (List ℕ)). names_fault Written i x ws) h.driven_are
-        ∙ names_fine Written i d (map (name_of names) gate.pins) gate.out fit.pins fit.out few room fresh in
+    ∙ names_fine Written i d (map (name_of names) gate.pins) gate.out fit.pins fit.out few room fresh in
     let long : length ws ≡ suc k = omega (arith, length-append (map (name_of names) gate.pins) (gate.out ∷ []), length-map gate.pins (name_of names)) in
     (this, rows_fine (before ++ Names ws ∷ []) k gate.on ws [] gate.rows (stands_words names before i o d gate h).on long tt (open-append None before (Names ws)))
 
@@ -73,6 +74,6 @@ gates_fine names before i o d [] h fit few fresh = (not_ended Written before End
 gates_fine names before i o d (gate ∷ gates) h fit few fresh =
     let first = gate_fine names before i o d gate h fit.0 (omega (arith, few)) fresh.0 in
     let rest = gates_fine names (before ++ gate_said names gate) i o (d ++ gate.out ∷ []) gates (stands_gate names before i o d gate h) fit.1 (omega (arith, length-append d (gate.out ∷ []), few))
-        (subst (λ (x : List (List ℕ)). AreFresh x (map (λ gate. gate.out) gates)) (append_assoc i d (gate.out ∷ [])) fresh.1) in
+    (subst (λ (x : List (List ℕ)). AreFresh x (map (λ gate. gate.out) gates)) (append_assoc i d (gate.out ∷ [])) fresh.1) in
     subst (λ (ss : List Said). AreFine Written before ss) (sym (append_assoc (gate_said names gate) (flat_map (gate_said names) gates) (End ∷ [])))
     (fine_append Written before (gate_said names gate) (flat_map (gate_said names) gates ++ End ∷ []) first rest)

@@ -1,5 +1,5 @@
 -- The gates that are read are the gates that were written, in their order.
-use Rattle.std.proofs.Common.{◌≡◌, ℕ, zero, suc, ◌+◌, ◌<◌, ◌≤◌, Bool, true, false, not, ◌||◌, List, [], ◌∷◌, ◌++◌, length, map, get_or, refl, sym, ap, ap₂, subst, ◌∙◌, arith}
+use Rattle.std.proofs.Common.{◌≡◌, ℕ, zero, suc, ◌+◌, ◌<◌, ◌≤◌, Bool, true, false, not, List, [], ◌∷◌, ◌++◌, length, map, get_or, refl, sym, ap, ap₂, subst, ◌∙◌, arith}
 use Rattle.std.specs.Prelude.{Some, slice_get, All}
 use Rattle.std.specs.List.{list_all, AllByRecursion}
 use Rattle.std.proofs.lemmas.Bool.{or_from, and_from}
@@ -12,7 +12,7 @@ use Rattle.ae_net.specs.declared.net.Gate.{Gate}
 use Rattle.ae_net.specs.Blif.{name_of}
 use Rattle.ae_net.specs.Valid.{IsGate, IsDistinct}
 use Rattle.blif_read.specs.Words.{is_among}
-use Rattle.blif_read.specs.Placing.{Unplaced, outs}
+use Rattle.blif_read.specs.Placing.{outs}
 use Rattle.blif_read.specs.Says.{some_unknown, row_cube, is_on, gate_of}
 use Rattle.blif_read.proofs.WrittenNames.{among_at, places_back}
 use Rattle.blif_read.proofs.WrittenPlacing.{IsInOrder}
@@ -30,9 +30,10 @@ AreValid s (gate ∷ gates) = IsGate s gate × AreValid (suc s) gates
 pub valid_gates : (s : ℕ) (gates : List Gate) → ((i : ℕ) (gate : Gate) → slice_get gates i ≡ Some gate → IsGate (s + i) gate) → AreValid s gates
 valid_gates s [] h = tt
 valid_gates s (gate ∷ gates) h =
-    let here : s + 0 ≡ s = omega arith in
-    (subst (λ (t : ℕ). IsGate t gate) here (h 0 gate refl),
-     valid_gates (suc s) gates (λ i g e. let there : s + suc i ≡ suc s + i = omega arith in subst (λ (t : ℕ). IsGate t g) there (h (suc i) g e)))
+    let here : s + 0 ≡ s = omega arith in (
+      subst (λ (t : ℕ). IsGate t gate) here (h 0 gate refl),
+      valid_gates (suc s) gates (λ i g e. let there : s + suc i ≡ suc s + i = omega arith in subst (λ (t : ℕ). IsGate t g) there (h (suc i) g e)),
+    )
 
 abbrev pub AllBelow : ℕ → List ℕ → Type 0
 AllBelow n ss = AllByRecursion (λ s. s < n) ss
@@ -60,9 +61,10 @@ none_unknown names (s ∷ ss) b = or_from _ _ (ap not (among_at names s b.0)) (n
 
 pub gates_fit : (names : List (List ℕ)) (s : ℕ) (gates : List Gate) → AreNames names → AreValid s gates → s + length gates ≤ length names → AllByRecursion (IsFit names) gates
 gates_fit names s [] named valid few = tt
-gates_fit names s (gate ∷ gates) named valid few =
-    (record { pins = all_named names gate.pins named (below (length names) s gate.pins (omega (arith, few)) valid.0.earlier); out = valid.0.named; few = valid.0.few_pins },
-     gates_fit names (suc s) gates named valid.1 (omega (arith, few)))
+gates_fit names s (gate ∷ gates) named valid few = (
+  record { pins = all_named names gate.pins named (below (length names) s gate.pins (omega (arith, few)) valid.0.earlier); out = valid.0.named; few = valid.0.few_pins },
+  gates_fit names (suc s) gates named valid.1 (omega (arith, few)),
+)
 
 pub gates_known : (names : List (List ℕ)) (s : ℕ) (gates : List Gate) → AreValid s gates → s + length gates ≤ length names → AllByRecursion (λ gate. AllBelow (length names) gate.pins) gates
 gates_known names s [] valid few = tt
@@ -78,9 +80,10 @@ ready_pins names known rest (pin ∷ pins) e b =
 
 pub in_order : (names known : List (List ℕ)) (s k : ℕ) (gates : List Gate) → AreValid s gates → length known ≡ s → names ≡ known ++ map (λ gate. gate.out) gates → IsInOrder known (unplaced_gates names k gates)
 in_order names known s k [] valid e p = tt
-in_order names known s k (gate ∷ gates) valid e p =
-    (ready_pins names known (map (λ gate. gate.out) (gate ∷ gates)) gate.pins p (below (length known) s gate.pins (omega (arith, e)) valid.0.earlier),
-     in_order names (known ++ gate.out ∷ []) (suc s) (after (suc k) gate.rows) gates valid.1 (omega (arith, length-append known (gate.out ∷ []), e)) (p ∙ sym (append_assoc known (gate.out ∷ []) (map (λ gate. gate.out) gates))))
+in_order names known s k (gate ∷ gates) valid e p = (
+  ready_pins names known (map (λ gate. gate.out) (gate ∷ gates)) gate.pins p (below (length known) s gate.pins (omega (arith, e)) valid.0.earlier),
+  in_order names (known ++ gate.out ∷ []) (suc s) (after (suc k) gate.rows) gates valid.1 (omega (arith, length-append known (gate.out ∷ []), e)) (p ∙ sym (append_assoc known (gate.out ∷ []) (map (λ gate. gate.out) gates))),
+)
 
 pub outs_unplaced : (names : List (List ℕ)) (k : ℕ) (gates : List Gate) → outs (unplaced_gates names k gates) ≡ map (λ gate. gate.out) gates
 outs_unplaced names k [] = refl

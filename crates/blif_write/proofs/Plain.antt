@@ -1,5 +1,5 @@
 -- The lines of a network are lines of plain words.
-use Rattle.std.proofs.Common.{◌≡◌, ℕ, zero, suc, ◌+◌, ◌-◌, ◌<◌, ◌≤◌, Bool, true, false, not, cond, ◌||◌, ◌&&◌, leb, eqb, List, [], ◌∷◌, ◌++◌, length, map, get_or, refl, sym, ap, ◌∙◌, arith}
+use Rattle.std.proofs.Common.{◌≡◌, ℕ, zero, suc, ◌-◌, ◌≤◌, Bool, true, false, not, cond, ◌&&◌, leb, eqb, List, [], ◌∷◌, ◌++◌, length, map, get_or, refl, ap, ◌∙◌, arith}
 use Rattle.std.specs.Prelude.{codes, All}
 use Rattle.std.specs.List.{flat_map, list_all, AllByRecursion, range_with_len}
 use Rattle.std.proofs.lemmas.Bool.{and_parts, and_from, ne_eqb}
@@ -79,14 +79,22 @@ pub record IsFit (names : List (List ℕ)) (gate : Gate) : Type 0 where
 gates_plain : (names : List (List ℕ)) (gates : List Gate) → AllByRecursion (IsFit names) gates → AllByRecursion IsPlainLine (flat_map (gate_lines names) gates)
 gates_plain names [] h = tt
 gates_plain names (gate ∷ gates) h =
-    each-append IsPlainLine (gate_lines names gate) (flat_map (gate_lines names) gates)
-    (plain_line (codes ".names") (map (name_of names) gate.pins ++ gate.out ∷ []) refl (each-append (λ w. is_plain w ≡ true) (map (name_of names) gate.pins) (gate.out ∷ []) (plain_names (map (name_of names) gate.pins) h.0.pins) (plain_name gate.out h.0.out, tt)),
-     row_lines (length gate.pins) gate.on gate.rows)
+    each-append IsPlainLine (gate_lines names gate) (flat_map (gate_lines names) gates) (
+      plain_line (codes ".names") (map (name_of names) gate.pins ++ gate.out ∷ []) refl (each-append (λ w. is_plain w ≡ true) (map (name_of names) gate.pins) (gate.out ∷ []) (plain_names (map (name_of names) gate.pins) h.0.pins) (plain_name gate.out h.0.out, tt)),
+      row_lines (length gate.pins) gate.on gate.rows,
+    )
     (gates_plain names gates h.1)
 
 pub net_plain : (n : Network) → is_name n.model ≡ true → AllByRecursion (λ w. is_name w ≡ true) n.inputs → AllByRecursion (λ w. is_name w ≡ true) (map (name_of (signal_names n)) n.outputs) → AllByRecursion (IsFit (signal_names n)) n.gates
     → All IsPlainLine (net_lines n)
 net_plain n model inputs outputs gates =
-    All-from_recursion IsPlainLine (net_lines n)
-    (plain_line (codes ".model") (n.model ∷ []) refl (plain_name n.model model, tt), (plain_line (codes ".inputs") n.inputs refl (plain_names n.inputs inputs), (plain_line (codes ".outputs") (map (name_of (signal_names n)) n.outputs) refl (plain_names (map (name_of (signal_names n)) n.outputs) outputs),
-     each-append IsPlainLine (flat_map (gate_lines (signal_names n)) n.gates) ((codes ".end" ∷ []) ∷ []) (gates_plain (signal_names n) n.gates gates) (plain_line (codes ".end") [] refl tt, tt))))
+    All-from_recursion IsPlainLine (net_lines n) (
+      plain_line (codes ".model") (n.model ∷ []) refl (plain_name n.model model, tt),
+      (
+        plain_line (codes ".inputs") n.inputs refl (plain_names n.inputs inputs),
+        (
+          plain_line (codes ".outputs") (map (name_of (signal_names n)) n.outputs) refl (plain_names (map (name_of (signal_names n)) n.outputs) outputs),
+          each-append IsPlainLine (flat_map (gate_lines (signal_names n)) n.gates) ((codes ".end" ∷ []) ∷ []) (gates_plain (signal_names n) n.gates gates) (plain_line (codes ".end") [] refl tt, tt),
+        ),
+      ),
+    )

@@ -1,13 +1,13 @@
 -- A row that was written is read again.
-use Rattle.std.proofs.Common.{◌≡◌, ℕ, zero, suc, ◌+◌, ◌-◌, ◌<◌, ◌≤◌, Bool, true, false, cond, eqb, ltb, ◌&&◌, ◌||◌, List, [], ◌∷◌, ◌++◌, length, map, take, get_or, refl, sym, ap, ap₂, ◌∙◌, arith}
+use Rattle.std.proofs.Common.{◌≡◌, ℕ, ◌+◌, ◌-◌, ◌<◌, Bool, true, false, cond, eqb, ltb, ◌&&◌, ◌||◌, List, [], ◌∷◌, ◌++◌, length, map, take, get_or, refl, sym, ap, ap₂, ◌∙◌, arith}
 use Rattle.std.specs.Prelude.{All}
 use Rattle.std.specs.List.{list_all, range_with_len, AllByRecursion}
-use Rattle.std.proofs.lemmas.Bool.{ltb-true, eq-eqb, and_from, cases_Bool}
+use Rattle.std.proofs.lemmas.Bool.{ltb-true, eq-eqb, and_from}
 use Rattle.std.proofs.lemmas.List.{length-append, get_or_append_left, get_or_at, take_at}
 use Rattle.std.proofs.lemmas.List.Elements.{recursion_from_All}
 use Rattle.std.proofs.lemmas.List.FromFn.{length-map-range_with_len, get_or-map-range_with_len}
 use Rattle.ae_base.specs.Mask.{Set, has, where_below, inside, first}
-use Rattle.ae_base.specs.Cube.{Product, IsProduct}
+use Rattle.ae_base.specs.Cube.{Product}
 use Rattle.ae_base.specs.Text.{digit, literal_text, cube_text}
 use Rattle.ae_base.proofs.Sets.{same_set, has-where_below, has-first, inside-has}
 use Rattle.ae_net.specs.Valid.{IsRowOf}
