@@ -55,7 +55,7 @@ lines_lie text place (b ∷ bytes) e =
 
 -- ---- words
 
-abbrev filled : List (List ℕ) → List (List ℕ)
+abbrev pub filled : List (List ℕ) → List (List ℕ)
 filled parts = filter (λ part. not (eqb (length part) 0)) parts
 
 -- a word starts at the place
@@ -93,15 +93,15 @@ grown_cut text place b c part parts rest (w ∷ ws) e s h =
 abbrev parts_of : List ℕ → List (List ℕ)
 parts_of t = slice_split is_blank t
 
-filled_some : (c : ℕ) (part : List ℕ) (parts : List (List ℕ)) → filled ((c ∷ part) ∷ parts) ≡ (c ∷ part) ∷ filled parts
-filled_some c part parts = rw (ne_eqb (suc (length part)) 0 (omega arith)) refl
+pub filled_some : (part : List ℕ) (parts : List (List ℕ)) → 0 < length part → filled (part ∷ parts) ≡ part ∷ filled parts
+filled_some part parts h = rw (ne_eqb (length part) 0 (λ e. omega (arith, e, h))) refl
 
 -- a byte before a word
 grown_more : (text : List ℕ) (place b c : ℕ) (parts : List (List ℕ)) (rest : List ℕ) (ws : List Span) → drop place text ≡ b ∷ rest → BeginsAt (suc place) ws
     → map (cut text) ws ≡ filled (onto_first c parts) → map (cut text) (grown place ws) ≡ filled (onto_first b (onto_first c parts))
-grown_more text place b c [] rest ws e s h = grown_cut text place b c [] [] rest ws e s (h ∙ filled_some c [] []) ∙ sym (filled_some b (c ∷ []) [])
+grown_more text place b c [] rest ws e s h = grown_cut text place b c [] [] rest ws e s (h ∙ filled_some (c ∷ []) [] (omega arith)) ∙ sym (filled_some (b ∷ c ∷ []) [] (omega arith))
 grown_more text place b c (part ∷ parts) rest ws e s h =
-    grown_cut text place b c part (filled parts) rest ws e s (h ∙ filled_some c part parts) ∙ sym (filled_some b (c ∷ part) parts)
+    grown_cut text place b c part (filled parts) rest ws e s (h ∙ filled_some (c ∷ part) parts (omega arith)) ∙ sym (filled_some (b ∷ c ∷ part) parts (omega arith))
 
 -- a byte that is no blank, before a byte that is one or not
 grown_by : (k : Bool) (text : List ℕ) (place b c : ℕ) (t rest : List ℕ) (ws : List Span) → ws ≡ words_at (suc (suc place)) t → drop place text ≡ b ∷ rest
@@ -109,7 +109,7 @@ grown_by : (k : Bool) (text : List ℕ) (place b c : ℕ) (t rest : List ℕ) (w
     → map (cut text) (grown place (cond k ws (grown (suc place) ws))) ≡ filled (onto_first b (cond k ([] ∷ parts_of t) (onto_first c (parts_of t))))
 grown_by true text place b c t rest ws w e h =
     let apart : grown place ws ≡ record { start = place; «end» = suc place } ∷ ws = grown_apart place (suc (suc place)) ws (omega arith) (rw w (starts_from (suc (suc place)) t)) in
-    ap (map (cut text)) apart ∙ ap₂ (λ (v : List ℕ) (vs : List (List ℕ)). v ∷ vs) (one_byte text place b rest e) h ∙ sym (filled_some b [] (parts_of t))
+    ap (map (cut text)) apart ∙ ap₂ (λ (v : List ℕ) (vs : List (List ℕ)). v ∷ vs) (one_byte text place b rest e) h ∙ sym (filled_some (b ∷ []) (parts_of t) (omega arith))
 grown_by false text place b c t rest ws w e h =
     let n = suc (suc place) + length t in
     let within : AllWithin n ws = rw w (words_within n (suc (suc place)) t (omega arith)) in
@@ -117,7 +117,7 @@ grown_by false text place b c t rest ws w e h =
 
 grown_words : (text : List ℕ) (place b : ℕ) (t rest : List ℕ) → drop place text ≡ b ∷ rest → map (cut text) (words_at (suc place) t) ≡ words t
     → map (cut text) (grown place (words_at (suc place) t)) ≡ filled (onto_first b (parts_of t))
-grown_words text place b [] rest e h = ap (λ (v : List ℕ). v ∷ []) (one_byte text place b rest e) ∙ sym (filled_some b [] [])
+grown_words text place b [] rest e h = ap (λ (v : List ℕ). v ∷ []) (one_byte text place b rest e) ∙ sym (filled_some (b ∷ []) [] (omega arith))
 grown_words text place b (c ∷ t) rest e h = grown_by (is_blank c) text place b c t rest (words_at (suc (suc place)) t) refl e h
 
 byte_words : (k : Bool) (text : List ℕ) (b : ℕ) (parts : List (List ℕ)) (ws more : List Span) → map (cut text) ws ≡ filled parts → map (cut text) more ≡ filled (onto_first b parts)

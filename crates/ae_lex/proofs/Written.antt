@@ -3,15 +3,16 @@ use Rattle.std.proofs.Common.{◌≡◌, ◌≢◌, ℕ, suc, ◌+◌, ◌-◌, 
 use Rattle.std.specs.List.{AllByRecursion, filter, slice_split, onto_first, list_all, position_or_len, suffix_len}
 use Rattle.std.proofs.lemmas.Bool.{eqb-false, ne_eqb, leb-true, and_parts, not-true, cond-false, and_right}
 use Rattle.std.proofs.lemmas.List.{append_assoc, append-nil, length-append, length-map, take_all, get_or-append-add}
-use Rattle.std.proofs.lemmas.List.Elements.{All-from_recursion, recursion_from_All}
+use Rattle.std.proofs.lemmas.List.Elements.{All-append, All-from_recursion, recursion_from_All}
 use Rattle.std.proofs.lemmas.List.Splits.{slice_split_none, slice_split_at}
-use Rattle.std.proofs.lemmas.List.Sums.{suffix_len_is}
+use Rattle.std.proofs.lemmas.List.Sums.{AllPass-from_list_all, suffix_len_is}
 use Rattle.ae_base.specs.Name.{is_allowed}
 use Rattle.ae_base.specs.Text.{spaced, text_of}
 use Rattle.ae_lex.specs.declared.text.Style.{Style}
 use Rattle.ae_lex.specs.declared.text.Style.TheVariants.{Pla, Blif}
 use Rattle.ae_lex.specs.Lines.{is_blank, joins_next, said, trimmed, uncommented, ends_open}
 use Rattle.ae_lex.specs.Words.{physical_lines, last_line, words, WordLine, joined_lines, says_something, word_lines, is_plain, IsPlainLine, numbered}
+use Rattle.ae_lex.proofs.Words.{filled, filled_some}
 
 -- ---- bytes
 
@@ -33,10 +34,6 @@ ink b h =
       blank = rw (ne_eqb b 32 (λ e. omega (arith, e, large)), ne_eqb b 9 (λ e. omega (arith, e, large)), ne_eqb b 13 (λ e. omega (arith, e, large))) refl;
     }
 
-inks : (w : List ℕ) → list_all is_allowed w ≡ true → AllByRecursion IsInk w
-inks [] h = tt
-inks (b ∷ w) h = let parts = and_parts (is_allowed b) (list_all is_allowed w) h in (ink b parts.0, inks w parts.1)
-
 -- ---- words
 
 abbrev last_byte : List ℕ → ℕ
@@ -44,7 +41,7 @@ last_byte x = get_or x (length x - 1) 0
 
 pub record IsWord (w : List ℕ) : Type 0 where
   pub some : 0 < length w
-  pub inks : AllByRecursion IsInk w
+  pub inks : All IsInk w
   pub end : eqb (last_byte w) 92 ≡ false
 
 word : (w : List ℕ) → is_plain w ≡ true → IsWord w
@@ -52,36 +49,21 @@ word w h =
     let one = and_parts (not (eqb (length w) 0) && not (eqb (last_byte w) 92)) (list_all is_allowed w) h in
     let two = and_parts (not (eqb (length w) 0)) (not (eqb (last_byte w) 92)) one.0 in
     let some : length w ≢ 0 = eqb-false (length w) 0 (not-true _ two.0) in
-    record { some = omega (arith, some); inks = inks w one.1; end = not-true _ two.1 }
+    record { some = omega (arith, some); inks = λ k d lt. ink _ (AllPass-from_list_all is_allowed w one.1 k d lt); end = not-true _ two.1 }
 
-ink_at : (w : List ℕ) (k : ℕ) → AllByRecursion IsInk w → k < length w → is_blank (get_or w k 0) ≡ false
-ink_at w k h lt = (All-from_recursion IsInk w h k 0 lt).blank
+quiet_word : (w : List ℕ) → IsWord w → All IsQuiet w
+quiet_word w h = λ k d lt. (h.inks k d lt).quiet
 
-quiet_inks : (w : List ℕ) → AllByRecursion IsInk w → AllByRecursion IsQuiet w
-quiet_inks [] h = tt
-quiet_inks (b ∷ w) h = (h.0.quiet, quiet_inks w h.1)
-
-unblank_inks : (w : List ℕ) → AllByRecursion IsInk w → AllByRecursion (λ b. is_blank b ≡ false) w
-unblank_inks [] h = tt
-unblank_inks (b ∷ w) h = (h.0.blank, unblank_inks w h.1)
-
-quiet-append : (x y : List ℕ) → AllByRecursion IsQuiet x → AllByRecursion IsQuiet y → AllByRecursion IsQuiet (x ++ y)
-quiet-append [] y h k = k
-quiet-append (b ∷ x) y h k = (h.0, quiet-append x y h.1 k)
+unblank_word : (w : List ℕ) → IsWord w → All (λ b. is_blank b ≡ false) w
+unblank_word w h = λ k d lt. (h.inks k d lt).blank
 
 -- ---- the words of a written line
 
-abbrev filled : List (List ℕ) → List (List ℕ)
-filled parts = filter (λ part. not (eqb (length part) 0)) parts
-
-filled_some : (part : List ℕ) (parts : List (List ℕ)) → 0 < length part → filled (part ∷ parts) ≡ part ∷ filled parts
-filled_some part parts h = rw (ne_eqb (length part) 0 (λ e. omega (arith, e, h))) refl
-
 words_one : (w : List ℕ) → IsWord w → words w ≡ w ∷ []
-words_one w h = ap filled (slice_split_none is_blank w (All-from_recursion (λ b. is_blank b ≡ false) w (unblank_inks w h.inks))) ∙ filled_some w [] h.some
+words_one w h = ap filled (slice_split_none is_blank w (unblank_word w h)) ∙ filled_some w [] h.some
 
 words_more : (w rest : List ℕ) → IsWord w → words (w ++ 32 ∷ rest) ≡ w ∷ words rest
-words_more w rest h = ap filled (slice_split_at is_blank w 32 rest (All-from_recursion (λ b. is_blank b ≡ false) w (unblank_inks w h.inks)) refl) ∙ filled_some w (slice_split is_blank rest) h.some
+words_more w rest h = ap filled (slice_split_at is_blank w 32 rest (unblank_word w h) refl) ∙ filled_some w (slice_split is_blank rest) h.some
 
 last-append : (x y : List ℕ) → 0 < length y → last_byte (x ++ y) ≡ last_byte y
 last-append x y h =
@@ -90,7 +72,7 @@ last-append x y h =
 
 -- what is read of a line as it was written
 pub record IsRead (x : List ℕ) (ws : List (List ℕ)) : Type 0 where
-  pub quiet : AllByRecursion IsQuiet x
+  pub quiet : All IsQuiet x
   pub some : 0 < length x
   pub ink : is_blank (last_byte x) ≡ false
   pub closed : eqb (last_byte x) 92 ≡ false
@@ -99,9 +81,9 @@ pub record IsRead (x : List ℕ) (ws : List (List ℕ)) : Type 0 where
 line_read : (w : List ℕ) (ws : List (List ℕ)) → AllByRecursion IsWord (w ∷ ws) → IsRead (spaced (w ∷ ws)) (w ∷ ws)
 line_read w [] h =
     let alone : IsRead w (w ∷ []) = record {
-      quiet = quiet_inks w h.0.inks;
+      quiet = quiet_word w h.0;
       some = h.0.some;
-      ink = ink_at w (length w - 1) h.0.inks (omega (arith, h.0.some));
+      ink = (h.0.inks (length w - 1) 0 (omega (arith, h.0.some))).blank;
       closed = h.0.end;
       words = words_one w h.0;
     } in
@@ -112,7 +94,7 @@ line_read w (v ∷ ws) h =
     let one : w ++ 32 ∷ rest ≡ (w ++ 32 ∷ []) ++ rest = sym (append_assoc w (32 ∷ []) rest) in
     let end : last_byte (w ++ 32 ∷ rest) ≡ last_byte rest = ap last_byte one ∙ last-append (w ++ 32 ∷ []) rest r.some in
     record {
-      quiet = quiet-append w (32 ∷ rest) (quiet_inks w h.0.inks) ((refl, refl), r.quiet);
+      quiet = All-append IsQuiet w (32 ∷ rest) (quiet_word w h.0) (All-append IsQuiet (32 ∷ []) rest (All-from_recursion IsQuiet (32 ∷ []) ((refl, refl), tt)) r.quiet);
       some = omega (arith, length-append w (32 ∷ rest), h.0.some);
       ink = ap is_blank end ∙ r.ink;
       closed = ap (λ b. eqb b 92) end ∙ r.closed;
@@ -127,12 +109,8 @@ front_all p (b ∷ x) h =
     let one : 1 + length x ≡ suc (length x) = omega arith in
     rw (h.0, front_all p x h.1, one) refl
 
-comments : (x : List ℕ) → AllByRecursion IsQuiet x → AllByRecursion (λ b. eqb b 35 ≡ false) x
-comments [] h = tt
-comments (b ∷ x) h = (h.0.1, comments x h.1)
-
-uncommented_is : (x : List ℕ) → AllByRecursion IsQuiet x → uncommented x ≡ x
-uncommented_is x h = take_all _ x (omega (arith, front_all (λ b. eqb b 35) x (comments x h)))
+uncommented_is : (x : List ℕ) → All IsQuiet x → uncommented x ≡ x
+uncommented_is x h = take_all _ x (omega (arith, front_all (λ b. eqb b 35) x (recursion_from_All (λ b. eqb b 35 ≡ false) x (λ k d lt. (h k d lt).1))))
 
 trimmed_is : (x : List ℕ) → is_blank (last_byte x) ≡ false → trimmed x ≡ x
 trimmed_is x h =
@@ -155,25 +133,19 @@ said_is Blif x ws r = cond-false (ends_open (trimmed (uncommented x))) _ _ (join
 
 -- ---- the text
 
-plain_line : (ws : List (List ℕ)) → IsPlainLine ws → AllByRecursion IsWord ws
-plain_line ws h = each ws (recursion_from_All (λ w. is_plain w ≡ true) ws h.each)
-  where
-    each : (ws : List (List ℕ)) → AllByRecursion (λ w. is_plain w ≡ true) ws → AllByRecursion IsWord ws
-    each [] h = tt
-    each (w ∷ ws) h = (word w h.0, each ws h.1)
-
 read_of : (ws : List (List ℕ)) → IsPlainLine ws → IsRead (spaced ws) ws
 read_of [] h = absurd (omega (arith, h.some))
-read_of (w ∷ ws) h = line_read w ws (plain_line (w ∷ ws) h)
+read_of (w ∷ ws) h = line_read w ws (recursion_from_All IsWord (w ∷ ws) (λ k d lt. word _ (h.each k d lt)))
 
-physical_at : (x rest : List ℕ) → AllByRecursion IsQuiet x → physical_lines (x ++ 10 ∷ rest) ≡ x ∷ physical_lines rest
+physical_at : (x rest : List ℕ) → AllByRecursion (λ b. eqb b 10 ≡ false) x → physical_lines (x ++ 10 ∷ rest) ≡ x ∷ physical_lines rest
 physical_at [] rest h = refl
-physical_at (b ∷ x) rest h = cond-false (eqb b 10) ([] ∷ physical_lines (x ++ 10 ∷ rest)) (onto_first b (physical_lines (x ++ 10 ∷ rest))) h.0.0 ∙ ap (onto_first b) (physical_at x rest h.1)
+physical_at (b ∷ x) rest h = cond-false (eqb b 10) ([] ∷ physical_lines (x ++ 10 ∷ rest)) (onto_first b (physical_lines (x ++ 10 ∷ rest))) h.0 ∙ ap (onto_first b) (physical_at x rest h.1)
 
 physical_text : (lines : List (List (List ℕ))) → AllByRecursion IsPlainLine lines → physical_lines (text_of lines) ≡ map spaced lines
 physical_text [] h = refl
 physical_text (ws ∷ lines) h =
-    ap physical_lines (append_assoc (spaced ws) (10 ∷ []) (text_of lines)) ∙ physical_at (spaced ws) (text_of lines) (read_of ws h.0).quiet ∙ ap (λ (ps : List (List ℕ)). spaced ws ∷ ps) (physical_text lines h.1)
+    let unbroken = recursion_from_All (λ b. eqb b 10 ≡ false) (spaced ws) (λ k d lt. ((read_of ws h.0).quiet k d lt).0) in
+    ap physical_lines (append_assoc (spaced ws) (10 ∷ []) (text_of lines)) ∙ physical_at (spaced ws) (text_of lines) unbroken ∙ ap (λ (ps : List (List ℕ)). spaced ws ∷ ps) (physical_text lines h.1)
 
 joined_at : (style : Style) (n : ℕ) (x : List ℕ) (ws ps : List (List ℕ)) → IsRead x ws → joined_lines style n (x ∷ ps) ≡ record { number = n; words = ws } ∷ joined_lines style (suc n) ps
 joined_at style n x ws ps r = rw (joins_not style x ws r, said_is style x ws r, r.words) refl
