@@ -3,7 +3,7 @@ ghost use Rattle.std.specs.Prelude.{◌≡◌, true, ◌∷◌, drop, IfOk};
 ghost use Rattle.ae_base.specs.Name.{is_name};
 ghost use Rattle.blif_write.specs.AndNet.{the_net};
 
-use crate::blif_text;
+use crate::{blif_text, said_again};
 use ae_base::{Memory, Name, Seq};
 use ae_net::{Gate, Net, Pins, and_gate, exor};
 use std::alloc::Global;
@@ -72,4 +72,9 @@ fn writes_the_two_input_and(rt: HostRuntime) -> Result<(), Fail> {
         b".model andexor\n.inputs x1 x2 _c\n.outputs f1\n.names x1 x2 _t1\n11 1\n.names _c _t1 f1\n10 1\n01 1\n.end\n";
     assert_eq!(rt; text.as_slice(), want.as_slice());
     Ok(())
+}
+
+#[test]
+fn laws(_rt: HostRuntime) {
+    said_again();
 }

@@ -1,0 +1,69 @@
+-- The lines of a text in words.
+use Rattle.std.specs.Prelude.{◌≡◌, ℕ, suc, ◌<◌, ◌-◌, ◌==◌, Bool, true, not, ◌&&◌, if◌then◌else◌, List, [], ◌∷◌, ◌++◌, length, map, filter, slice_index, slice_range, All}
+use Rattle.std.specs.List.{list_all, onto_first, slice_split}
+use Rattle.ae_base.specs.Name.{is_allowed}
+use Rattle.ae_lex.specs.declared.text.Style.{Style}
+use Rattle.ae_lex.specs.declared.text.Span.{Span}
+use Rattle.ae_lex.specs.declared.text.Line.{Line}
+use Rattle.ae_lex.specs.Lines.{is_blank, joins_next, said}
+
+-- each byte 10 ends a physical line, and bytes after the last byte 10 are one too
+abbrev pub physical_lines : List ℕ → List (List ℕ)
+physical_lines [] = []
+physical_lines (b ∷ bytes) = if b == 10 then [] ∷ physical_lines bytes else onto_first b (physical_lines bytes)
+
+-- the number of the last physical line, and 0 where there is none
+unfoldable pub last_line : List ℕ → ℕ
+last_line bytes = length (physical_lines bytes)
+
+-- the longest runs of bytes that are no blanks
+abbrev pub words : List ℕ → List (List ℕ)
+words text = filter (λ part. not (length part == 0)) (slice_split is_blank text)
+
+-- the words of a line, with the number of its first physical line
+pub record WordLine : Type 0 where
+  pub number : ℕ
+  pub words : List (List ℕ)
+
+-- words that stand before those of the line that joins them; on the last line nothing joins
+abbrev pub before_next : ℕ → List (List ℕ) → List WordLine → List WordLine
+before_next number words [] = record { number = number; words = words } ∷ []
+before_next number words (line ∷ lines) = record { number = number; words = words ++ line.words } ∷ lines
+
+-- the lines that physical lines make, numbered from a number on: where the next one joins a line, its words stand after that line's own
+abbrev pub joined_lines : Style → ℕ → List (List ℕ) → List WordLine
+joined_lines style number [] = []
+joined_lines style number (line ∷ lines) =
+    if joins_next style line then before_next number (words (said style line)) (joined_lines style (suc number) lines)
+    else record { number = number; words = words (said style line) } ∷ joined_lines style (suc number) lines
+
+abbrev pub says_something : WordLine → Bool
+says_something line = not (length line.words == 0)
+
+-- the lines that have words
+unfoldable pub word_lines : Style → List ℕ → List WordLine
+word_lines style bytes = filter says_something (joined_lines style 1 (physical_lines bytes))
+
+-- ---- words cut out of a text
+
+abbrev pub cut : List ℕ → Span → List ℕ
+cut bytes span = slice_range bytes span.start span.end
+
+abbrev pub cut_line : List ℕ → Line → WordLine
+cut_line bytes line = record { number = line.number; words = map (cut bytes) line.words }
+
+-- ---- a text that is written line by line
+
+-- a word that is read as it is written: it has bytes, none of them a blank or '#', and the last is no backslash
+abbrev pub is_plain : List ℕ → Bool
+is_plain word = not (length word == 0) && not (slice_index word (length word - 1) == 92) && list_all is_allowed word
+
+-- some such words
+pub record IsPlainLine (ws : List (List ℕ)) : Type 0 where
+  pub some : 0 < length ws
+  pub each : All (λ word. is_plain word ≡ true) ws
+
+-- lines of these words, numbered from a number on
+abbrev pub numbered : ℕ → List (List (List ℕ)) → List WordLine
+numbered number [] = []
+numbered number (ws ∷ lines) = record { number = number; words = ws } ∷ numbered (suc number) lines

@@ -1,0 +1,4 @@
+pub mod Examples
+pub mod WrittenLines
+pub mod WrittenNames
+pub mod WrittenPlacing

@@ -1,0 +1,58 @@
+-- What the lines before a line said, in file order.
+use Rattle.std.specs.Prelude.{ℕ, Bool, true, false, Option, Some, None, List, [], ◌∷◌, ◌++◌, option_map}
+use Rattle.std.specs.List.{flat_map}
+use Rattle.blif_read.specs.Statement.{Said, gate_name}
+use Rattle.blif_read.specs.Statement.Said.{Model, Inputs, Outputs, Names, End, Row}
+
+abbrev pub input_words : Said → List (List ℕ)
+input_words (Inputs ws) = ws
+input_words _ = []
+
+abbrev pub output_words : Said → List (List ℕ)
+output_words (Outputs ws) = ws
+output_words _ = []
+
+abbrev pub driven_words : Said → List (List ℕ)
+driven_words (Names ws) = gate_name ws ∷ []
+driven_words _ = []
+
+abbrev pub model_words : Said → List (List ℕ)
+model_words (Model ws) = ws
+model_words _ = []
+
+abbrev pub is_model : Said → Bool
+is_model (Model ws) = true
+is_model _ = false
+
+abbrev pub is_end : Said → Bool
+is_end End = true
+is_end _ = false
+
+-- the names that `.inputs` declared, those that `.outputs` declared, and the gates of `.names`
+abbrev pub inputs_of : List Said → List (List ℕ)
+inputs_of before = flat_map input_words before
+
+abbrev pub outputs_of : List Said → List (List ℕ)
+outputs_of before = flat_map output_words before
+
+abbrev pub driven_of : List Said → List (List ℕ)
+driven_of before = flat_map driven_words before
+
+-- the words of a `.names`, and its rows
+pub record Cover : Type 0 where
+  pub words : List (List ℕ)
+  pub rows : List (List ℕ)
+
+abbrev pub with_row : List ℕ → Cover → Cover
+with_row r c = record { words = c.words; rows = c.rows ++ r ∷ [] }
+
+-- A `.names` opens a cover, a row goes into the cover that is open, and any other line closes it.
+abbrev pub cover_after : Option Cover → Said → Option Cover
+cover_after c (Names ws) = Some (record { words = ws; rows = [] })
+cover_after c (Row r) = option_map (with_row r) c
+cover_after c _ = None
+
+-- the cover that a row after these lines belongs to, where this one was open before them
+abbrev pub open_cover : Option Cover → List Said → Option Cover
+open_cover c [] = c
+open_cover c (s ∷ before) = open_cover (cover_after c s) before

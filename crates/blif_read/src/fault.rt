@@ -1,0 +1,73 @@
+//! Why a BLIF text is refused.
+
+use ae_base::Memory;
+
+/// Which limits a text is to keep.
+#[derive(Clone, Copy, Debug, PartialEq, Eq)]
+pub enum NetLimits {
+    /// Those of a source: `SOURCE_LINES` inputs and outputs, names of `SOURCE_NAME_BYTES` bytes.
+    Source,
+    /// Those of a written netlist: `WRITTEN_LINES` inputs and outputs, names of `NAME_BYTES` bytes.
+    Written,
+}
+
+/// What is wrong with a line, or with the whole text.
+#[derive(Clone, Copy, Debug, PartialEq, Eq)]
+pub enum BlifFault {
+    /// A second `.model`, or one after `.end`.
+    TwoModels,
+    /// A line with words after `.end`, other than `.model` and `.end`.
+    AfterEnd,
+    /// A statement of the format that is not read, as `.latch`.
+    Unsupported,
+    /// A statement that the format has not.
+    Unknown,
+    /// A word that is no name under the limits, `.names` without words, or `.model` with more than one.
+    BadName,
+    /// A row with another number of characters than its cover has pins and an output, or with a wrong character.
+    BadRow,
+    /// A row whose last character is not that of the first row of its cover.
+    MixedRows,
+    /// A row that follows no `.names`.
+    StrayRow,
+    /// A signal that is declared as input or driven, and driven once more.
+    DefinedTwice,
+    /// A pin or an output that is no input and no gate.
+    Undefined,
+    /// Gates that wait for each other.
+    Cycle,
+    /// A name that stands twice among the inputs, or among the outputs.
+    NameTwice,
+    /// A name that is both input and output.
+    OutputIsInput,
+    /// No input is declared.
+    NoInputs,
+    /// No output is declared.
+    NoOutputs,
+    /// The first input past the limit.
+    TooManyInputs,
+    /// The first output past the limit.
+    TooManyOutputs,
+    /// A `.names` with more than `PINS` pins.
+    TooManyPins,
+    /// The first `.names` past `GATES`.
+    TooManyGates,
+}
+
+/// The first fault, with its line from 1 on, or want of memory.
+#[derive(Debug, Drop)]
+pub enum BlifErr {
+    At { line: u32, what: BlifFault },
+    Memory,
+}
+
+impl From<Memory> for BlifErr {
+    ghost use Rattle.std.specs.Prelude.{◌≡◌};
+    ghost use Rattle.blif_read.specs.declared.fault.BlifErr.TheVariants as errors;
+
+    ghost from_gives = { λ _ e. e ≡ errors.Memory };
+
+    fn from(_want: Memory) -> BlifErr {
+        BlifErr::Memory
+    }
+}

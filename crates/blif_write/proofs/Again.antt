@@ -1,0 +1,175 @@
+-- The text of a network says the network.
+use Rattle.std.proofs.Common.{◌≡◌, ℕ, suc, ◌+◌, ◌<◌, ◌≤◌, true, false, None, Ok, List, [], ◌∷◌, ◌++◌, length, map, get_or, refl, sym, ap, ap₂, subst, ◌∙◌, arith}
+use Rattle.std.specs.Prelude.{All}
+use Rattle.std.specs.List.{flat_map, list_any, AllByRecursion}
+use Rattle.std.proofs.lemmas.List.{append_assoc, append-nil, length-append, length-map, get_or_append_left}
+use Rattle.std.proofs.lemmas.List.Elements.{recursion_from_All}
+use Rattle.ae_base.specs.Name.{is_name}
+use Rattle.ae_lex.specs.Words.{numbered, last_line, word_lines}
+use Rattle.ae_lex.specs.declared.text.Style.TheVariants.{Blif}
+use Rattle.ae_lex.proofs.Written.{lines_written}
+use Rattle.ae_net.proofs.Distinct.{each-append}
+use Rattle.ae_net.specs.declared.net.Gate.{Gate}
+use Rattle.ae_net.specs.Network.{Network}
+use Rattle.ae_net.specs.Valid.{IsValid, IsDistinct}
+use Rattle.ae_net.specs.Blif.{signal_names, name_of, net_lines, blif_text}
+use Rattle.blif_read.specs.declared.fault.NetLimits.TheVariants.{Written}
+use Rattle.blif_read.specs.Words.{is_among}
+use Rattle.blif_read.specs.Limits.{KeepsLimits}
+use Rattle.blif_read.specs.Statement.{Said}
+use Rattle.blif_read.specs.Statement.Said.{Model, Inputs, Outputs, Names, End}
+use Rattle.blif_read.specs.Earlier.{input_words, output_words, driven_words}
+use Rattle.blif_read.specs.Faults.{word_fault, output_fault, line_fault, first_fault}
+use Rattle.blif_read.specs.Placing.{outs, placed}
+use Rattle.blif_read.specs.Says.{some_unknown, reads_unknown, shows_unknown, place_of, gate_of, net_of, lines_say, blif_says}
+use Rattle.blif_read.proofs.WrittenNames.{AreFresh, not_among, fresh, fresh_split, names_apart, places_back, signals_apart}
+use Rattle.blif_read.proofs.WrittenPlacing.{placed_in_order}
+use Rattle.blif_read.proofs.WrittenLines.{AreFine, fine_lines, Stands, one_more, not_ended, inputs_fine, outputs_fine, pin_names-snoc, said_numbered, first_none, whole}
+use Rattle.blif_write.proofs.Statements.{gate_words, gate_said, head_said, net_said, said_net, any_gates, unplaced_gates, covers_net}
+use Rattle.blif_write.proofs.Plain.{IsFit, net_plain}
+use Rattle.blif_write.proofs.Gates.{AreValid, valid_gates, AllBelow, AreNames, all_named, none_unknown, gates_fit, gates_known, in_order, outs_unplaced, gates_back}
+use Rattle.blif_write.proofs.Fine.{stands_gates, gates_fine}
+
+-- ---- what is known of a network that is written
+
+pub record IsKnown (n : Network) : Type 0 where
+  pub apart : IsDistinct (signal_names n)
+  pub size : length (signal_names n) ≡ length n.inputs + length n.gates
+  pub inputs : AreNames n.inputs
+  pub gates : AreValid (length n.inputs) n.gates
+  pub fit : AllByRecursion (IsFit (signal_names n)) n.gates
+  pub outputs : AllBelow (length (signal_names n)) n.outputs
+  pub output_names : AreNames (map (name_of (signal_names n)) n.outputs)
+  pub output_apart : AreFresh [] (map (name_of (signal_names n)) n.outputs)
+  pub output_others : AllByRecursion (λ w. is_among w n.inputs ≡ false) (map (name_of (signal_names n)) n.outputs)
+  pub input_apart : AreFresh [] n.inputs
+  pub gate_apart : AreFresh n.inputs (map (λ gate. gate.out) n.gates)
+
+named_outs : (s : ℕ) (gates : List Gate) → AreValid s gates → AreNames (map (λ gate. gate.out) gates)
+named_outs s [] h = tt
+named_outs s (gate ∷ gates) h = (h.0.named, named_outs (suc s) gates h.1)
+
+-- the signal of a gate, not of an input
+abbrev IsInner : ℕ → ℕ → ℕ → Type 0
+IsInner m n s = (m ≤ s) × (s < n)
+
+-- the name of a gate's signal is no input's
+no_input : (inputs outs : List (List ℕ)) (s : ℕ) → IsDistinct (inputs ++ outs) → IsInner (length inputs) (length (inputs ++ outs)) s → is_among (get_or (inputs ++ outs) s []) inputs ≡ false
+no_input inputs outs s apart h =
+    not_among (get_or (inputs ++ outs) s []) inputs (λ k lt e.
+    let long : length (inputs ++ outs) ≡ length inputs + length outs = length-append inputs outs in
+    names_apart (inputs ++ outs) k s apart (omega (arith, long, lt)) h.1 (λ same. omega (arith, same, lt, h.0)) (get_or_append_left inputs outs [] k lt ∙ e))
+
+no_inputs : (inputs outs : List (List ℕ)) (ss : List ℕ) → IsDistinct (inputs ++ outs) → AllByRecursion (IsInner (length inputs) (length (inputs ++ outs))) ss → AllByRecursion (λ w. is_among w inputs ≡ false) (map (name_of (inputs ++ outs)) ss)
+no_inputs inputs outs [] apart h = tt
+no_inputs inputs outs (s ∷ ss) apart h = (no_input inputs outs s apart h.0, no_inputs inputs outs ss apart h.1)
+
+inner_below : (m n : ℕ) (ss : List ℕ) → AllByRecursion (IsInner m n) ss → AllBelow n ss
+inner_below m n [] h = tt
+inner_below m n (s ∷ ss) h = (h.0.1, inner_below m n ss h.1)
+
+known_of : (n : Network) → IsValid n → IsKnown n
+known_of n v =
+    let outs = map (λ gate. gate.out) n.gates in
+    let names = signal_names n in
+    let long : length names ≡ length n.inputs + length n.gates = omega (arith, length-append n.inputs outs, length-map n.gates (λ gate. gate.out)) in
+    let gates = valid_gates (length n.inputs) n.gates v.gates in
+    let inputs = recursion_from_All (λ w. is_name w ≡ true) n.inputs v.inputs_named in
+    let named = each-append (λ w. is_name w ≡ true) n.inputs outs inputs (named_outs (length n.inputs) n.gates gates) in
+    let ports : All (IsInner (length n.inputs) (length names)) n.outputs = λ k d lt. let p = v.ports k d lt in (p.0, omega (arith, p.1, long)) in
+    let inner = recursion_from_All (IsInner (length n.inputs) (length names)) n.outputs ports in
+    let outputs = inner_below (length n.inputs) (length names) n.outputs inner in
+    let split = fresh_split [] n.inputs outs (fresh [] names v.names) in
+    record {
+      apart = v.names;
+      size = long;
+      inputs = inputs;
+      gates = gates;
+      fit = gates_fit names (length n.inputs) n.gates named gates (omega (arith, long));
+      outputs = outputs;
+      output_names = all_named names n.outputs named outputs;
+      output_apart = fresh [] (map (name_of names) n.outputs) (signals_apart names n.outputs v.names (λ k d lt. (ports k d lt).1) v.other_ports);
+      output_others = no_inputs n.inputs outs n.outputs v.names inner;
+      input_apart = split.0;
+      gate_apart = split.1;
+    }
+
+-- ---- no line is faulty
+
+head_stands : (n : Network) → Stands (head_said n) n.inputs (map (name_of (signal_names n)) n.outputs) []
+head_stands n = record { on = refl; inputs_are = append-nil n.inputs; outputs_are = append-nil (map (name_of (signal_names n)) n.outputs); driven_are = refl }
+
+net_fine : (n : Network) → IsValid n → KeepsLimits n → IsKnown n → AreFine Written [] (net_said n)
+net_fine n v l k =
+    let names = signal_names n in
+    let outs = map (name_of names) n.outputs in
+    let before : List Said = Model (n.model ∷ []) ∷ Inputs n.inputs ∷ [] in
+    let one : line_fault Written [] (Model (n.model ∷ [])) ≡ None = not_ended Written [] (Model (n.model ∷ [])) refl ∙ rw v.model_named refl in
+    let two : line_fault Written (Model (n.model ∷ []) ∷ []) (Inputs n.inputs) ≡ None = not_ended Written (Model (n.model ∷ []) ∷ []) (Inputs n.inputs) refl ∙ inputs_fine Written [] n.inputs k.inputs k.input_apart (omega (arith, l.few_inputs)) in
+    let short : length outs ≡ length n.outputs = length-map n.outputs (name_of names) in
+    let three : line_fault Written before (Outputs outs) ≡ None = not_ended Written before (Outputs outs) refl
+    ∙ ap (λ (i : List (List ℕ)). word_fault (output_fault Written i) [] outs) (append-nil n.inputs)
+    ∙ outputs_fine Written n.inputs [] outs k.output_names k.output_others k.output_apart (omega (arith, short, l.few_outputs)) in
+    (one, (two, (three, gates_fine names (head_said n) n.inputs outs [] n.gates (head_stands n) k.fit (omega (arith, v.few_gates)) (subst (λ (b : List (List ℕ)). AreFresh b (map (λ gate. gate.out) n.gates)) (sym (append-nil n.inputs)) k.gate_apart))))
+
+-- ---- what the lines say together
+
+at_end : (f : Said → List (List ℕ)) (before gates : List Said) (ws : List (List ℕ)) → f End ≡ [] → flat_map f (before ++ gates) ≡ ws → flat_map f (before ++ (gates ++ End ∷ [])) ≡ ws
+at_end f before gates ws e h =
+    ap (flat_map f) (sym (append_assoc before gates (End ∷ []))) ∙ one_more f (before ++ gates) End ws h ∙ ap (λ (x : List (List ℕ)). ws ++ x) e ∙ append-nil ws
+
+pins_known : (names : List (List ℕ)) (gates : List Gate) → AllByRecursion (λ gate. AllBelow (length names) gate.pins) gates → AllByRecursion (λ gate. reads_unknown names (Names (gate_words names gate)) ≡ false) gates
+pins_known names [] h = tt
+pins_known names (gate ∷ gates) h = (ap (some_unknown names) (pin_names-snoc (map (name_of names) gate.pins) gate.out) ∙ none_unknown names gate.pins h.0, pins_known names gates h.1)
+
+none_shown : (names : List (List ℕ)) (gates : List Gate) → AllByRecursion (λ gate. shows_unknown names (Names (gate_words names gate)) ≡ false) gates
+none_shown names [] = tt
+none_shown names (gate ∷ gates) = (refl, none_shown names gates)
+
+net_lines_say : (n : Network) (last : ℕ) → IsValid n → IsKnown n → lines_say last (numbered 1 (net_lines n)) ≡ Ok (net_of n.model n.inputs (map (name_of (signal_names n)) n.outputs) (unplaced_gates (signal_names n) 4 n.gates))
+net_lines_say n last v k =
+    let names = signal_names n in
+    let outs = map (λ gate. gate.out) n.gates in
+    let shown = map (name_of names) n.outputs in
+    let cs = unplaced_gates names 4 n.gates in
+    let st = stands_gates names (head_said n) n.inputs shown [] n.gates (head_stands n) in
+    let gates = flat_map (gate_said names) n.gates in
+    let known = gates_known names (length n.inputs) n.gates k.gates (omega (arith, k.size)) in
+    let reads : list_any (reads_unknown names) (net_said n) ≡ false = any_gates (reads_unknown names) names n.gates refl (λ r. refl) (pins_known names n.gates known) in
+    let shows : list_any (shows_unknown names) (net_said n) ≡ false = rw (none_unknown names n.outputs k.outputs) (any_gates (shows_unknown names) names n.gates refl (λ r. refl) (none_shown names n.gates)) in
+    let some : 0 < length shown = omega (arith, length-map n.outputs (name_of names), v.some_output) in
+    let order : placed n.inputs cs ≡ Ok cs =
+    placed_in_order n.inputs cs (in_order names n.inputs (length n.inputs) 4 n.gates k.gates refl refl) (subst (λ (ws : List (List ℕ)). AreFresh n.inputs ws) (sym (outs_unplaced names 4 n.gates)) k.gate_apart) in
+    whole last (numbered 1 (net_lines n)) (net_said n) n.model n.inputs shown outs cs
+    (said_numbered 1 (net_lines n) ∙ said_net n)
+    (at_end input_words (head_said n) gates n.inputs refl st.inputs_are)
+    (at_end output_words (head_said n) gates shown refl st.outputs_are)
+    (at_end driven_words (head_said n) gates outs refl st.driven_are)
+    refl
+    v.some_input
+    some
+    (first_none (reads_unknown names) 1 (net_lines n) (ap (list_any (reads_unknown names)) (said_net n) ∙ reads))
+    (first_none (shows_unknown names) 1 (net_lines n) (ap (list_any (shows_unknown names)) (said_net n) ∙ shows))
+    (covers_net n)
+    order
+
+-- ---- the network again
+
+net_back : (n : Network) → IsKnown n → net_of n.model n.inputs (map (name_of (signal_names n)) n.outputs) (unplaced_gates (signal_names n) 4 n.gates) ≡ n
+unfolding net_of
+net_back n k =
+    let names = signal_names n in
+    let cs = unplaced_gates names 4 n.gates in
+    let same : n.inputs ++ outs cs ≡ names = ap (λ (ws : List (List ℕ)). n.inputs ++ ws) (outs_unplaced names 4 n.gates) in
+    let made : List ℕ → List Gate → Network = λ o g. record { model = n.model; inputs = n.inputs; outputs = o; gates = g } in
+    ap (λ (ns : List (List ℕ)). made (map (λ o. place_of o ns) (map (name_of names) n.outputs)) (map (gate_of ns) cs)) same
+    ∙ ap₂ made (places_back names n.outputs k.apart k.outputs) (gates_back names (length n.inputs) 4 n.gates k.apart k.gates (omega (arith, k.size)))
+
+pub says_again : (n : Network) → IsValid n → KeepsLimits n → blif_says Written (blif_text n) ≡ Ok n
+unfolding blif_says blif_text
+says_again n v l =
+    let k = known_of n v in
+    let names = signal_names n in
+    let read : word_lines Blif (blif_text n) ≡ numbered 1 (net_lines n) = lines_written Blif (net_lines n) (net_plain n v.model_named k.inputs k.output_names k.fit) in
+    let fine : first_fault Written [] (numbered 1 (net_lines n)) ≡ None = fine_lines Written 1 [] (net_lines n) (subst (λ (ss : List Said). AreFine Written [] ss) (sym (said_net n)) (net_fine n v l k)) in
+    rw (read, fine) (net_lines_say n (last_line (blif_text n)) v k ∙ ap (λ (m : Network). Ok m) (net_back n k))
