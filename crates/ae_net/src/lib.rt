@@ -6,6 +6,7 @@ mod laws;
 mod names;
 mod net;
 mod pins;
+mod places;
 mod run;
 #[cfg(test)]
 mod tests;
@@ -15,4 +16,5 @@ pub use laws::one_run;
 pub use names::{NetNames, lead, letter_name, numbered_name};
 pub use net::{Fault, Gate, Net, Place, Sig};
 pub use pins::Pins;
+pub use places::{faults, is_place};
 pub use run::{Scratch, answer, scratch_for};
