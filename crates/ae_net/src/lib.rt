@@ -12,7 +12,7 @@ mod run;
 mod tests;
 
 pub use gates::{and_gate, buffer, exor, inverter};
-pub use laws::one_run;
+pub use laws::{fault_laws, one_run};
 pub use names::{NetNames, lead, letter_name, numbered_name};
 pub use net::{Fault, Gate, Net, Place, Sig};
 pub use pins::Pins;
