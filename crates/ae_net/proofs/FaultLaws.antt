@@ -39,12 +39,12 @@ read_within n valid s h =
 listed_place : (n : Network) → IsValid n → (p : Place) → IsPlace n p → Contains (stems n ++ pins n ++ ports n) p
 listed_place n valid (Stem s) h =
     Contains-append_left (stems n ++ pins n) (ports n) (Stem s) (Contains-append_left (stems n) (pins n) (Stem s)
-      (Contains-map (λ s. Stem s) (filter (is_read n) (range_with_len 0 (signals n))) s (Contains-filter (is_read n) (range_with_len 0 (signals n)) s (Contains-range (signals n) s (read_within n valid s h)) h)))
+    (Contains-map (λ s. Stem s) (filter (is_read n) (range_with_len 0 (signals n))) s (Contains-filter (is_read n) (range_with_len 0 (signals n)) s (Contains-range (signals n) s (read_within n valid s h)) h)))
 listed_place n valid (Pin i k) (gate, there, l) =
     let e : gate_at n i ≡ gate = get_or_from_slice_get n.gates i gate _ there in
     Contains-append_left (stems n ++ pins n) (ports n) (Pin i k) (Contains-append_right (stems n) (pins n) (Pin i k)
-      (Contains-flat_map (λ i. pins_of i (gate_at n i)) (range_with_len 0 (length n.gates)) i (Pin i k) (Contains-range (length n.gates) i (slice_get_within n.gates i gate there))
-        (subst (λ g. Contains (pins_of i g) (Pin i k)) (sym e) (Contains-map (λ k. Pin i k) (range_with_len 0 (length gate.pins)) k (Contains-range (length gate.pins) k l)))))
+    (Contains-flat_map (λ i. pins_of i (gate_at n i)) (range_with_len 0 (length n.gates)) i (Pin i k) (Contains-range (length n.gates) i (slice_get_within n.gates i gate there))
+    (subst (λ g. Contains (pins_of i g) (Pin i k)) (sym e) (Contains-map (λ k. Pin i k) (range_with_len 0 (length gate.pins)) k (Contains-range (length gate.pins) k l)))))
 listed_place n valid (Port o) h =
     Contains-append_right (stems n ++ pins n) (ports n) (Port o) (Contains-map (λ o. Port o) (range_with_len 0 (length n.outputs)) o (Contains-range (length n.outputs) o h))
 
@@ -156,7 +156,7 @@ places_once n =
     (each-append (λ p. IsStem p ⊎ IsPin p) (stems n) (pins n) (each_weaker IsStem _ (λ p h. inl h) (stems n) (stems_are n)) (each_weaker IsPin _ (λ p h. inr h) (pins n) (pins_are n)))
     (ports_are n)
     (Distinct-append IsStem IsPin stem_pin (stems n) (pins n) (stems_are n) (pins_are n)
-      (Distinct-map (λ s. Stem s) stem_once _ (Distinct-filter (is_read n) _ (Distinct-range 0 (signals n)))) (pins_once n))
+    (Distinct-map (λ s. Stem s) stem_once _ (Distinct-filter (is_read n) _ (Distinct-range 0 (signals n)))) (pins_once n))
     (Distinct-map (λ o. Port o) port_once _ (Distinct-range 0 (length n.outputs)))
 
 pub faults_once : (n : Network) → IsDistinct (fault_list n)

@@ -58,7 +58,7 @@ stems_marked n marks e =
     let long : length marks ≡ signals n = ap length e ∙ length-map-range_with_len (is_read n) 0 (signals n) in
     rw long
     (ap (map (λ s. Stem s)) (filter_agree_within (mark_at marks) (is_read n) 0 (signals n)
-      (λ s l k. ap (λ m. mark_at m s) e ∙ get_or-map-range_with_len (is_read n) 0 (signals n) s s false (omega arith) (omega arith))))
+    (λ s l k. ap (λ m. mark_at m s) e ∙ get_or-map-range_with_len (is_read n) 0 (signals n) s s false (omega arith) (omega arith))))
 
 or_assoc : (a b c : Bool) → ((a || b) || c) ≡ (a || (b || c))
 or_assoc true b c = refl
