@@ -1,5 +1,5 @@
-use Rattle.std.proofs.Common.{◌≡◌, ◌∙◌, ◌++◌, ap, length, arith}
-use Rattle.std.specs.List.{flat_map, range_with_len}
+use Rattle.std.proofs.Common.{◌∙◌, ◌++◌, ap}
+use Rattle.std.specs.List.{flat_map}
 use Rattle.ae_net.specs.Network.{gate_at}
 use Rattle.ae_net.specs.Faults.{both_values, pins_of}
 use Rattle.ae_net.proofs.PlaceLemmas.{faults_more_flat, pushed}
