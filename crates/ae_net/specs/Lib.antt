@@ -1,7 +1,9 @@
 pub mod Blif
 pub mod Detects
+pub mod Faults
 pub mod Gates
 pub mod Implements
+pub mod Marks
 pub mod Names
 pub mod Network
 pub mod Run

@@ -6,13 +6,15 @@ mod laws;
 mod names;
 mod net;
 mod pins;
+mod places;
 mod run;
 #[cfg(test)]
 mod tests;
 
 pub use gates::{and_gate, buffer, exor, inverter};
-pub use laws::one_run;
+pub use laws::{fault_laws, one_run};
 pub use names::{NetNames, lead, letter_name, numbered_name};
 pub use net::{Fault, Gate, Net, Place, Sig};
 pub use pins::Pins;
+pub use places::{faults, is_place};
 pub use run::{Scratch, answer, scratch_for};

@@ -30,7 +30,7 @@ use Rattle.cascade.specs.Reddy.{start, rest, chain, chains, ends, inner_gates}
 use Rattle.cascade.proofs.Lists.{length_filter_le}
 use Rattle.cascade.proofs.NamesApart.{all_inner}
 use Rattle.cascade.proofs.Valid.{each_filter, few_of_all}
-use Rattle.cascade.specs.Left.{placed_onto, links_of}
+use Rattle.cascade.specs.Left.{links_of}
 use Rattle.cascade.proofs.GatesValid.{length-members}
 use Rattle.ae_base.specs.Mask.{cmp_terms}
 use Rattle.ae_net.specs.declared.net.Gate.{Gate}
@@ -93,45 +93,8 @@ first_found n j t below l none here =
 pub first_none : (n : ℕ) (t : Set) → inside t (first n) ≡ true → filter (has t) (range_with_len 0 n) ≡ [] → 0 ≡ slice_index (members t) 0
 first_none n t below none = sym (ap (λ ms. slice_index ms 0) (members_below_n n t below ∙ none))
 
-not_less : (o : Ordering) → (o ≡ Less → ⊥) → is_lt o ≡ false
-not_less Less h = absurd (h refl)
-not_less Equal h = refl
-not_less Greater h = refl
-
--- a term that is put in its place
-pub placed_on : (t : Set) (us : List Set) (i : ℕ) → i < length us → (t ≡ get_or us i t → ⊥) → (cmp_terms t (get_or us i t) ≡ Less → ⊥) → placed t us ≡ take i us ++ placed t (drop i us) → placed t us ≡ take (i + 1) us ++ placed t (drop (i + 1) us)
-placed_on t us i l other later h =
-    h ∙ ap (λ rest. take i us ++ placed t rest) (drop-cons us i t l)
-    ∙ rw (ne_eqb t (get_or us i t) other, not_less (cmp_terms t (get_or us i t)) later, add-one i, take-suc us i t l, append_assoc (take i us) (get_or us i t ∷ []) (placed t (drop (suc i) us))) refl
-
-pub placed_there : (t : Set) (us : List Set) (i : ℕ) → i < length us → t ≡ get_or us i t → placed t us ≡ take i us ++ placed t (drop i us) → us ≡ placed t us
-placed_there t us i l same h =
-    sym (h ∙ ap (λ rest. take i us ++ placed t rest) (drop-cons us i t l) ∙ rw (eq-eqb t (get_or us i t) same) (sym (ap (λ rest. take i us ++ rest) (drop-cons us i t l)) ∙ take-append-drop i us))
-
-pub placed_before : (t : Set) (us : List Set) (i : ℕ) → i < length us → (t ≡ get_or us i t → ⊥) → cmp_terms t (get_or us i t) ≡ Less → placed t us ≡ take i us ++ placed t (drop i us) → take i us ++ t ∷ drop i us ≡ placed t us
-placed_before t us i l other less h =
-    sym (h ∙ ap (λ rest. take i us ++ placed t rest) (drop-cons us i t l) ∙ rw (ne_eqb t (get_or us i t) other, less) (sym (ap (λ rest. take i us ++ t ∷ rest) (drop-cons us i t l))))
-
 pub few_pins : (n : ℕ) (t : Set) (f : ℕ → ℕ) → inside t (first n) ≡ true → n ≤ NET_LINES → length (map f (members t)) ≤ PINS
 few_pins n t f below few = omega (arith, length-map (members t) f, length-members n t below)
-
-pub placed_more : (ts list : List Set) (n d : ℕ) → n ≡ length ts → d < n → cond (is_wide (get_or ts (n - 1 - d) 0)) (placed (get_or ts (n - 1 - d) 0) (placed_onto (drop (n - d) ts) list)) (placed_onto (drop (n - d) ts) list) ≡ placed_onto (drop (n - (d + 1)) ts) list
-placed_more ts list n d same l =
-    let i : ℕ = n - 1 - d in
-    let z : n - d ≡ suc i = omega arith in
-    let y : n - (d + 1) ≡ i = omega arith in
-    rw (z, y) (sym (ap (λ rest. placed_onto rest list) (drop-cons ts i 0 (omega arith))))
-
-placed_onto-in_order : (ts us : List Set) → in_order (filter is_wide (ts ++ us)) ≡ placed_onto ts (in_order (filter is_wide us))
-placed_onto-in_order [] us = refl
-placed_onto-in_order (t ∷ ts) us = elim (cases_Bool (is_wide t)) [ inl e ↦ rw e (ap (placed t) (placed_onto-in_order ts us)) | inr e ↦ rw e (placed_onto-in_order ts us) ]
-
-pub ordered_more : (tss : List (List Set)) (other : List Set) (n d : ℕ) → n ≡ length tss → d < n → placed_onto (get_or tss (n - 1 - d) other) (in_order (filter is_wide (flat_map (λ ts. ts) (drop (n - d) tss)))) ≡ in_order (filter is_wide (flat_map (λ ts. ts) (drop (n - (d + 1)) tss)))
-ordered_more tss other n d same l =
-    let i : ℕ = n - 1 - d in
-    let z : n - d ≡ suc i = omega arith in
-    let y : n - (d + 1) ≡ i = omega arith in
-    rw (z, y) (sym (ap (λ rest. in_order (filter is_wide (flat_map (λ ts. ts) rest))) (drop-cons tss i other (omega arith)) ∙ placed_onto-in_order (get_or tss i other) _))
 
 links_step : (k : ℕ) (e : Terms) (out : List ℕ) (x i y : ℕ) (t : Set) (ts : List Set) → links_of k e out x i y (t ∷ ts) ≡ exor (cond (eqb (length ts) 0) out (inner k (codes "x" ++ decimal (suc x)))) y (term_signal e t) ∷ links_of k e out (suc x) (suc i) (lines e + i) ts
 links_step k e out x i y t [] = refl

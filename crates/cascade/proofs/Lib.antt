@@ -6,6 +6,7 @@ pub mod GatesValid
 pub mod Valid
 pub mod Ports
 pub mod Small
+pub mod Ordered
 pub mod CodeLemmas
 pub mod CodeBounds
 pub mod VectorLemmas

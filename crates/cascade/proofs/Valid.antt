@@ -106,7 +106,7 @@ each_flat : (P : Set → Type 0) (tss : List (List Set)) → AllByRecursion (All
 each_flat P [] h = tt
 each_flat P (ts ∷ tss) (h, hs) = each-append P ts (flat_map (λ us. us) tss) h (each_flat P tss hs)
 
-each_placed : (P : Set → Type 0) (t : Set) (us : List Set) → P t → AllByRecursion P us → AllByRecursion P (placed t us)
+pub each_placed : (P : Set → Type 0) (t : Set) (us : List Set) → P t → AllByRecursion P us → AllByRecursion P (placed t us)
 each_placed P t [] p h = (p, tt)
 each_placed P t (u ∷ us) p (h, hs) = by_same (eqb t u) (is_lt (cmp_terms t u)) (each_placed P t us p hs)
   where

@@ -1,6 +1,7 @@
 //! The signals of literals, of terms and of the starts of chains.
 ghost use Rattle.std.specs.Prelude.{◌≡◌, ◌≤◌, true, length, slice_index};
 ghost use Rattle.ae_base.specs.Mask.{first, inside, members};
+ghost use Rattle.ae_base.specs.Terms.{IsInOrder};
 ghost use Rattle.cascade.specs.Reddy as spec;
 ghost use Rattle.cascade.specs.Plan.{IsPlan};
 
@@ -35,18 +36,16 @@ fn place_of(list: &[u32], x: u32) -> usize
     list.len()
 }
 
-/// The place of a term in a list, or the list's length.
-#[tactic(auto, using(crate::proofs::CodeLemmas::place_found, crate::proofs::CodeLemmas::place_on))]
+/// The place of a term in a list in term order, or the list's length.
 fn place_of_term(list: &[Term], t: Term) -> usize
+    requires { IsInOrder list.now }
     ensures place { result ≡ spec.place_of list.now t }
     ensures within { result ≤ length list.now }
 {
-    for (i, u) in list.iter().enumerate() {
-        if *u == t {
-            return i;
-        }
+    match list.binary_search(&t) {
+        Ok(i) => i,
+        Err(_) => list.len(),
     }
-    list.len()
 }
 
 /// The signal of the literal of an input.
@@ -85,7 +84,7 @@ pub fn is_wide(t: Term) -> bool
 }
 
 /// The signal of a term.
-#[tactic(auto, unfolding(crate::specs::Reddy::term_signal))]
+#[tactic(auto, using(crate::proofs::Ordered::plan_in_order), unfolding(crate::specs::Reddy::term_signal))]
 pub fn term_signal(plan: &Plan, e: &Expansion, t: Term) -> u32
     requires plan { IsPlan plan.now e.now }
     requires below { inside t (first e.now.polarity.n) ≡ true }

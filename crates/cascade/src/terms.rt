@@ -1,16 +1,14 @@
 //! The terms and inputs that the parts of the network stand for.
-ghost use Rattle.std.specs.Prelude.{◌≡◌, ◌&&◌, ◌==◌, ◌++◌, ◌∷◌, [], not, if◌then◌else◌, IfOk, OnOk};
-ghost use Rattle.std.specs.List.{list_any};
+ghost use Rattle.std.specs.Prelude.{◌≡◌, ◌&&◌, ◌==◌, ◌++◌, ◌∷◌, [], filter, not, if◌then◌else◌, IfOk, OnOk};
+ghost use Rattle.std.specs.List.{list_any, flat_map};
 ghost use Rattle.ae_base.specs.Mask.{has, empty};
 ghost use Rattle.expansion.specs.Terms as terms_spec;
 ghost use Rattle.cascade.specs.Reddy as spec;
-ghost use Rattle.cascade.specs.Left.{placed_onto};
 
 use crate::signals::is_wide;
 use ae_base::{Mask, Memory, Seq, Term};
 use expansion::{Expansion, is_used};
 use std::alloc::Global;
-use std::cmp::Ordering;
 
 /// Whether the list has the empty term.
 pub fn has_one(terms: &[Term]) -> bool
@@ -56,58 +54,44 @@ pub fn turned(alloc: Global, e: &Expansion) -> Result<Vec<u32>, Memory>
     Ok(list)
 }
 
-/// Puts a term in its place, where it is not there yet.
-#[tactic(auto, using(crate::proofs::CodeLemmas::placed_on, crate::proofs::CodeLemmas::placed_there, crate::proofs::CodeLemmas::placed_before))]
-fn place(list: &mut Vec<Term>, t: Term) -> Result<(), Memory>
-    ensures { OnOk result (list.new.items ≡ spec.placed t list.old.items) }
-{
-    for i in 0..list.len() {
-        let u = list[i];
-        if t == u {
-            return Ok(());
-        }
-        if t.cmp_terms(u) == Ordering::Less {
-            list.insert(i, t)?;
-            return Ok(());
-        }
-    }
-    list.push(t)?;
-    Ok(())
-}
-
-/// Puts a term in its place, where it has two or more members and is not there yet.
-fn place_wide(list: &mut Vec<Term>, t: Term) -> Result<(), Memory>
-    ensures { OnOk result (list.new.items ≡ (if spec.is_wide t then spec.placed t list.old.items else list.old.items)) }
+/// Adds a term, where it has two or more members.
+fn push_wide(list: &mut Vec<Term>, t: Term) -> Result<(), Memory>
+    ensures { OnOk result (list.new.items ≡ (if spec.is_wide t then list.old.items ++ t ∷ [] else list.old.items)) }
 {
     if is_wide(t) {
-        place(list, t)?;
+        list.push(t)?;
     }
     Ok(())
 }
 
-/// Puts the terms of two or more members in their places, the last term first.
-#[tactic(auto, using(crate::proofs::CodeLemmas::placed_more))]
-fn place_terms(list: &mut Vec<Term>, terms: &[Term]) -> Result<(), Memory>
-    ensures { OnOk result (list.new.items ≡ placed_onto terms.now list.old.items) }
+/// Adds the terms of two or more members.
+fn push_wide_terms(list: &mut Vec<Term>, terms: &[Term]) -> Result<(), Memory>
+    ensures { OnOk result (list.new.items ≡ list.old.items ++ filter spec.is_wide terms.now) }
 {
-    let n = terms.len();
-    for d in 0..n {
-        place_wide(list, terms[n - 1 - d])?;
+    for t in terms {
+        push_wide(list, *t)?;
     }
     Ok(())
 }
 
-/// The terms of two or more members, in order.
-#[tactic(auto, using(crate::proofs::CodeLemmas::ordered_more), unfolding(crate::specs::Reddy::wide_terms))]
+/// The terms of two or more members in all outputs, output after output.
+fn all_wide_terms(alloc: Global, outs: &[Seq<Term>]) -> Result<Vec<Term>, Memory>
+    ensures { IfOk result (λ list. list.items ≡ filter spec.is_wide (flat_map (λ terms. terms) outs.now)) }
+{
+    let mut list = Vec::new(alloc);
+    for terms in outs {
+        push_wide_terms(&mut list, terms.as_slice())?;
+    }
+    Ok(list)
+}
+
+/// The terms of two or more members, in order, once each.
 pub fn wide_terms(alloc: Global, e: &Expansion) -> Result<Vec<Term>, Memory>
     ensures { IfOk result (λ list. list.items ≡ spec.wide_terms e.now) }
 {
-    let mut list = Vec::new(alloc);
-    let outs = e.lists();
-    let n = outs.len();
-    for d in 0..n {
-        place_terms(&mut list, outs[n - 1 - d].as_slice())?;
-    }
+    let mut list = all_wide_terms(alloc, e.lists())?;
+    list.sort()?;
+    list.dedup();
     Ok(list)
 }
 

@@ -1,9 +1,14 @@
-use Rattle.std.proofs.Common.{length, refl, ap₂, ◌∙◌}
-use Rattle.cascade.specs.Left.{placed_onto}
-use Rattle.cascade.proofs.CodeLemmas.{ordered_more}
+use Rattle.std.proofs.Common.{◌∙◌, ap}
+use Rattle.std.specs.Prelude.{filter}
+use Rattle.std.specs.List.{flat_map}
+use Rattle.ae_base.specs.Mask.{Set}
+use Rattle.std.proofs.Common.{List}
+use Rattle.cascade.specs.Reddy.{in_order, is_wide, wide_terms}
+use Rattle.cascade.proofs.Ordered.{sorted_terms}
 use Rattle.cascade.proofs.terms.wide_terms.Goals as goal
 
-pub loop-d-preserved : goal.loop-d-preserved
-loop-d-preserved c =
-    c.in_ok-place_terms.ensures ∙ ap₂ placed_onto (c.as_slice.ensures ∙ c.index-outs-n.is) c.loop-d.invariant
-    ∙ ordered_more c.lists-outs.result.now c.index-outs-n.result (length c.lists-outs.result.now) c.loop-d.d refl c.loop-d-test.true
+pub returns : goal.returns
+unfolding wide_terms
+returns c =
+    sorted_terms c.in_ok-list.list.items c.sort.new.self.items c.dedup.new.self.items c.sort.ensures.permutation c.in_ok-sort.ensures.sorted c.dedup.ensures.filtered
+    ∙ ap in_order (c.in_ok-list.ensures ∙ ap (λ (tss : List (List Set)). filter is_wide (flat_map (λ ts. ts) tss)) c.lists.ensures.lists)

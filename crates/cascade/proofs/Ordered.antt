@@ -1,0 +1,145 @@
+-- The shared terms stand in term order without repeats: a sort lists them, and a binary search finds them.
+use Rattle.std.proofs.Common.{◌≡◌, ◌≢◌, ℕ, zero, suc, ◌+◌, ◌<◌, ◌≤◌, Bool, true, false, cond, inl, inr, List, [], ◌∷◌, length, get_or, refl, sym, ap, ◌∙◌, subst, arith, eqb, eqb-true, eq-eqb, ne_eqb}
+use Rattle.std.specs.Prelude.{filter, Contains, AllPairs, nat_eq}
+use Rattle.std.specs.declared.cmp.Ordering.{Ordering}
+use Rattle.std.specs.declared.cmp.Ordering.TheVariants.{Less, Equal, Greater}
+use Rattle.std.specs.Ordering.{is_lt, ordering_index, ordering_reverse}
+use Rattle.std.specs.List.{HoldsAt, AllByRecursion, dedup, flat_map, list_any}
+use Rattle.std.specs.List.Retain.{IsFiltered, DiffersFromLast}
+use Rattle.std.specs.List.Sorted.{IsPermutation, IsSorted, IsStrictlySortedBy, IsNonDecreasingBy, IsPartitionPoint}
+use Rattle.std.proofs.lemmas.Bool.{cases_eq, cases_lt}
+use Rattle.std.proofs.lemmas.List.Elements.{All-from_recursion}
+use Rattle.std.proofs.lemmas.List.Filters.{dedup_is}
+use Rattle.std.proofs.lemmas.List.Folds.{Any-from_list_any, list_any_at}
+use Rattle.std.proofs.lemmas.List.Kept.{AllPairs-cons, Contains-dedup_nat, Contains-from_dedup, IsStrictlySortedBy-dedup}
+use Rattle.std.proofs.lemmas.List.Sorted.{list_any-IsPermutation}
+use Rattle.ae_base.specs.Mask.{Set, cmp_terms}
+use Rattle.ae_base.specs.Terms.{IsInOrder}
+use Rattle.ae_base.proofs.InOrder.{in_order-same}
+use Rattle.ae_base.proofs.Order.{cmp_terms_total, cmp_equal, cmp_same, equal_where_tied, less_apart, less_trans}
+use Rattle.ae_net.proofs.Distinct.{each_weaker}
+use Rattle.ae_net.proofs.Rows.{same_truth}
+use Rattle.expansion.specs.Terms.{Terms}
+use Rattle.cascade.specs.declared.signals.Plan.{Plan}
+use Rattle.cascade.specs.Plan.{IsPlan}
+use Rattle.cascade.specs.Reddy.{place_of, placed, in_order, is_wide, wide_terms}
+use Rattle.cascade.proofs.Lists.{any-in_order}
+use Rattle.cascade.proofs.Valid.{each_placed}
+
+-- ---- terms that are put in their places
+
+placed_rises : (t : Set) (us : List Set) → IsStrictlySortedBy cmp_terms us → IsStrictlySortedBy cmp_terms (placed t us)
+unfolding IsStrictlySortedBy
+placed_rises t [] h = (tt, tt)
+placed_rises t (u ∷ us) (h, hs) =
+    elim (cases_eq t u) [
+      | inl e ↦ rw (eq-eqb t u e) (h, hs)
+      | inr ne ↦ rw (ne_eqb t u ne) (by_order (cmp_terms t u) refl ne (placed_rises t us hs))
+    ]
+  where
+    by_order : (o : Ordering) → cmp_terms t u ≡ o → t ≢ u → IsStrictlySortedBy cmp_terms (placed t us) → IsStrictlySortedBy cmp_terms (cond (is_lt o) (t ∷ u ∷ us) (u ∷ placed t us))
+    by_order Less e ne k = ((e, each_weaker (λ v. cmp_terms u v ≡ Less) (λ v. cmp_terms t v ≡ Less) (λ v l. less_trans t u v e l) us h), (h, hs))
+    by_order Equal e ne k = absurd (ne (cmp_equal t u e))
+    by_order Greater e ne k = (each_placed (λ v. cmp_terms u v ≡ Less) t us (cmp_terms_total.antisymm u t ∙ ap ordering_reverse e) h, k)
+
+in_order_rises : (ts : List Set) → IsStrictlySortedBy cmp_terms (in_order ts)
+unfolding IsStrictlySortedBy
+in_order_rises [] = tt
+in_order_rises (t ∷ ts) = placed_rises t (in_order ts) (in_order_rises ts)
+
+IsInOrder-from_rises : (ts : List Set) → IsStrictlySortedBy cmp_terms ts → IsInOrder ts
+unfolding IsStrictlySortedBy
+IsInOrder-from_rises [] h = λ i j d l k. absurd (omega (arith, k))
+IsInOrder-from_rises (t ∷ ts) (h, hs) = AllPairs-cons (λ s u. cmp_terms s u ≡ Less) t ts (All-from_recursion (λ u. cmp_terms t u ≡ Less) ts h) (IsInOrder-from_rises ts hs)
+
+pub IsInOrder-in_order : (ts : List Set) → IsInOrder (in_order ts)
+IsInOrder-in_order ts = IsInOrder-from_rises (in_order ts) (in_order_rises ts)
+
+pub IsInOrder-wide_terms : (e : Terms) → IsInOrder (wide_terms e)
+unfolding wide_terms
+IsInOrder-wide_terms e = IsInOrder-in_order (filter is_wide (flat_map (λ ts. ts) e.outs))
+
+pub plan_in_order : (plan : Plan) (e : Terms) → IsPlan plan e → IsInOrder plan.wide.items
+plan_in_order plan e is = subst IsInOrder (sym is.wide) (IsInOrder-wide_terms e)
+
+-- ---- a sort
+
+any-from_Contains : (ts : List Set) (t : Set) → Contains ts t → list_any (λ u. eqb u t) ts ≡ true
+any-from_Contains ts t (k, l, e) = list_any_at (λ u. eqb u t) ts k t l (eq-eqb _ t e)
+
+Contains-from_any : (ts : List Set) (t : Set) → list_any (λ u. eqb u t) ts ≡ true → Contains ts t
+Contains-from_any ts t h =
+    let at = Any-from_list_any (λ u. eqb u t) ts h in
+    let same : at.1 ≡ t = eqb-true at.1 t at.4 in
+    subst (Contains ts) same (at.0, at.2, at.3)
+
+-- what `dedup` leaves has the same terms
+any-dedup : (ts : List Set) (t : Set) → list_any (λ u. eqb u t) (dedup nat_eq ts) ≡ list_any (λ u. eqb u t) ts
+any-dedup ts t =
+    same_truth _ _
+    (λ h. any-from_Contains ts t (Contains-from_dedup nat_eq ts t (Contains-from_any (dedup nat_eq ts) t h)))
+    (λ h. any-from_Contains (dedup nat_eq ts) t (Contains-dedup_nat ts t (Contains-from_any ts t h)))
+
+-- a list that is sorted, and what `dedup` leaves of it
+pub sorted_terms : (ts us vs : List Set) → IsPermutation ts us → IsSorted cmp_terms us → IsFiltered (DiffersFromLast nat_eq) [] us vs → vs ≡ in_order ts
+sorted_terms ts us vs moved sorted kept =
+    dedup_is nat_eq us vs kept
+    ∙ in_order-same (dedup nat_eq us) (in_order ts)
+    (IsInOrder-from_rises (dedup nat_eq us) (IsStrictlySortedBy-dedup cmp_terms_total equal_where_tied us sorted))
+    (IsInOrder-in_order ts)
+    (λ v. any-dedup us v ∙ sym (list_any-IsPermutation (λ u. eqb u v) ts us moved) ∙ sym (any-in_order (λ u. eqb u v) ts))
+
+-- ---- a binary search
+
+place_at : (ts : List Set) (t : Set) (i : ℕ) → i < length ts → get_or ts i 0 ≡ t → ((k : ℕ) → k < i → get_or ts k 0 ≢ t) → place_of ts t ≡ i
+place_at [] t i l e before = absurd (omega (arith, l))
+place_at (u ∷ us) t zero l e before = rw (eq-eqb u t e) refl
+place_at (u ∷ us) t (suc i) l e before = rw (ne_eqb u t (before 0 (omega arith))) (ap suc (place_at us t i (omega (arith, l)) e (λ k m. before (suc k) (omega (arith, m)))))
+
+place_past : (ts : List Set) (t : Set) → ((k : ℕ) → k < length ts → get_or ts k 0 ≢ t) → place_of ts t ≡ length ts
+place_past [] t other = refl
+place_past (u ∷ us) t other = rw (ne_eqb u t (other 0 (omega arith))) (ap suc (place_past us t (λ k l. other (suc k) (omega (arith, l)))))
+
+pub found_by_search : (ts : List Set) (t : Set) (i : ℕ) → IsInOrder ts → i < length ts → HoldsAt (λ u. cmp_terms u t ≡ Equal) ts i → i ≡ place_of ts t
+found_by_search ts t i order l found =
+    let here : get_or ts i 0 ≡ t = cmp_equal (get_or ts i 0) t (found 0) in
+    sym (place_at ts t i l here (λ k m e. less_apart (get_or ts k 0) (get_or ts i 0) (order k i 0 m l) (e ∙ sym here)))
+
+not_greater : (s u t : Set) → cmp_terms s u ≡ Less → ordering_index (cmp_terms s t) ≤ ordering_index (cmp_terms u t)
+not_greater s u t l = by_order (cmp_terms u t) refl
+  where
+    lowest : cmp_terms s t ≡ Less → (n : ℕ) → ordering_index (cmp_terms s t) ≤ n
+    lowest e n = rw e (omega arith)
+
+    highest : (o : Ordering) → ordering_index o ≤ 2
+    highest Less = omega arith
+    highest Equal = omega arith
+    highest Greater = omega arith
+
+    by_order : (o : Ordering) → cmp_terms u t ≡ o → ordering_index (cmp_terms s t) ≤ ordering_index o
+    by_order Less e = lowest (less_trans s u t l e) _
+    by_order Equal e = lowest (sym (ap (cmp_terms s) (cmp_equal u t e)) ∙ l) _
+    by_order Greater e = highest (cmp_terms s t)
+
+answers_rise : (ts : List Set) (t : Set) → IsInOrder ts → IsNonDecreasingBy (λ u. ordering_index (cmp_terms u t)) ts
+answers_rise ts t order i j d l m =
+    elim (cases_lt i j) [
+      | inl k ↦ not_greater (get_or ts i d) (get_or ts j d) t (order i j d k m)
+      | inr k ↦ let same : i ≡ j = omega (arith, l, k) in rw same (omega arith)
+    ]
+
+pub missed_by_search : (ts : List Set) (t : Set) (i : ℕ) → IsInOrder ts → (IsNonDecreasingBy (λ u. ordering_index (cmp_terms u t)) ts → IsPartitionPoint (λ u. cmp_terms u t ≡ Less) (λ u. cmp_terms u t ≡ Greater) ts i) → length ts ≡ place_of ts t
+missed_by_search ts t i order search =
+    sym (place_past ts t other)
+  where
+    parts : IsPartitionPoint (λ u. cmp_terms u t ≡ Less) (λ u. cmp_terms u t ≡ Greater) ts i
+    parts = search (answers_rise ts t order)
+
+    tied : (k : ℕ) → get_or ts k 0 ≡ t → cmp_terms (get_or ts k 0) t ≡ Equal
+    tied k e = ap (λ u. cmp_terms u t) e ∙ cmp_same t
+
+    other : (k : ℕ) → k < length ts → get_or ts k 0 ≢ t
+    other k l e = elim (cases_lt k i) [
+      | inl below ↦ let wrong : Less ≡ Equal = sym (parts.0 k 0 (omega arith) below) ∙ tied k e in cc
+      | inr above ↦ let wrong : Greater ≡ Equal = sym (parts.1 k 0 above l) ∙ tied k e in cc
+    ]
