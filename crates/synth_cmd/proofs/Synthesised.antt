@@ -1,6 +1,6 @@
 -- What is synthesised of a cover's expansions.
 use Rattle.std.proofs.Common.{◌≡◌, ◌<◌, ◌≤◌, ◌+◌, ℕ, zero, suc, Bool, true, false, not, ◌&&◌, cond, inl, inr, ◌⊎◌, eqb, eqb-true, List, [], ◌∷◌, ◌++◌, length, map, drop, get_or, refl, sym, ap, ap₂, ◌∙◌, subst, arith}
-use Rattle.std.specs.Prelude.{All, Some, None, slice_get, filter}
+use Rattle.std.specs.Prelude.{All, Some, None, Ok, slice_get, filter}
 use Rattle.std.specs.List.{AllByRecursion}
 use Rattle.std.proofs.lemmas.Bool.{and_parts, or_cases, leb-true, ltb-true, lt-ltb}
 use Rattle.std.proofs.Math.Seq.{drop-append_seam}
@@ -20,6 +20,9 @@ use Rattle.ae_net.specs.Run.{out}
 use Rattle.ae_net.specs.Implements.{Implements, port_names}
 use Rattle.ae_net.specs.Names.{Names, IsNames}
 use Rattle.ae_net.specs.Blif.{blif_text}
+use Rattle.blif_read.specs.declared.fault.NetLimits.TheVariants.{Written}
+use Rattle.blif_read.specs.Limits.{KeepsLimits}
+use Rattle.blif_read.specs.Says.{blif_says}
 use Rattle.expansion.specs.Terms.{Terms, IsTerms, cost, used_inputs}
 use Rattle.fn_store.specs.Davio.{IsExpansion}
 use Rattle.fn_store.proofs.Expansions.{means, terms_inside}
@@ -141,7 +144,7 @@ module _ (t : Table) (e : Terms) (cover : IsCover t) (cheap : cost e ≤ REDDY_T
     cheap = cheap;
   }
 
-  valid : IsValid net
+  pub valid : IsValid net
   valid = reddy.valid (names_of s) e can_build
 
   module _ (x : Set) (point : IsPoint k x) (o : ℕ) (within : o < length s.outputs) where
@@ -192,6 +195,9 @@ module _ (t : Table) (e : Terms) (cover : IsCover t) (cheap : cost e ≤ REDDY_T
   length-outputs : length net.outputs ≡ length s.outputs
   length-outputs = sym (length-map net.outputs _) ∙ ap length ports
 
+  pub keeps_limits : KeepsLimits net
+  keeps_limits = record { few_inputs = omega (arith, length-inputs, cover.inputs.1); few_outputs = omega (arith, length-outputs, cover.outputs.1) }
+
   outputs_named : All (λ name. is_name name ≡ true) s.outputs
   outputs_named = subst (All (λ name. is_name name ≡ true)) (drop-append_seam s.inputs s.outputs) (All-drop (λ name. is_name name ≡ true) (length s.inputs) (s.inputs ++ s.outputs) (All-weaker (λ name. is_source_name name ≡ true) (λ name. is_name name ≡ true) are_names (s.inputs ++ s.outputs) cover.named))
 
@@ -225,15 +231,16 @@ module _ (t : Table) (e : Terms) (cover : IsCover t) (cheap : cost e ≤ REDDY_T
     responses = All-map (λ v. v.outs ≡ out net None v.point) _ (first_vectors e.polarity (used_inputs e)) (λ i d l. refl);
   }
 
-  pub is_synthesised : (net_bytes vector_bytes : List ℕ) (summary : Summary) → net_bytes ≡ blif_text net → vector_bytes ≡ vector_text file → summary.terms ≡ cost e
+  pub is_synthesised : (net_bytes vector_bytes : List ℕ) (summary : Summary) → blif_says Written (blif_text net) ≡ Ok net → net_bytes ≡ blif_text net → vector_bytes ≡ vector_text file → summary.terms ≡ cost e
       → summary.gates ≡ length net.gates → summary.vectors ≡ length file.vectors → IsSynthesised s net_bytes vector_bytes summary
-  is_synthesised net_bytes vector_bytes summary net_is file_is terms_are gates_are vectors_are = record {
+  is_synthesised net_bytes vector_bytes summary again net_is file_is terms_are gates_are vectors_are = record {
     net = net;
     expansions = e;
     file = file;
     is_network = is_network;
     has_form = record { expansions = are; cascade = refl };
     is_file = is_file;
+    reads_back = ap (blif_says Written) net_is ∙ again;
     net_text = net_is;
     vector_text = file_is;
     terms = terms_are;

@@ -1,5 +1,5 @@
 -- What a synthesis makes of a source: a network that implements it, and the network's vectors with its responses.
-use Rattle.std.specs.Prelude.{◌≡◌, ◌↔◌, ℕ, ◌<◌, ◌≤◌, ◌+◌, Bool, true, not, Some, None, List, [], ◌∷◌, ◌++◌, length, map, slice_get, All}
+use Rattle.std.specs.Prelude.{◌≡◌, ◌↔◌, ℕ, ◌<◌, ◌≤◌, ◌+◌, Bool, true, not, Some, None, Ok, List, [], ◌∷◌, ◌++◌, length, map, slice_get, All}
 use Rattle.std.specs.List.{sum_by}
 use Rattle.ae_base.specs.Mask.{Set, has, with, first}
 use Rattle.ae_base.specs.Cube.{Signs}
@@ -11,6 +11,8 @@ use Rattle.ae_net.specs.Run.{out}
 use Rattle.ae_net.specs.Implements.{Implements, port_names}
 use Rattle.ae_net.specs.Blif.{blif_text}
 use Rattle.ae_net.specs.Names.{Names}
+use Rattle.blif_read.specs.declared.fault.NetLimits.TheVariants.{Written}
+use Rattle.blif_read.specs.Says.{blif_says}
 use Rattle.expansion.specs.Terms.{Terms, cost}
 use Rattle.fn_store.specs.Davio.{IsExpansion}
 use Rattle.cascade.specs.declared.limits.TheConstants.{REDDY_TERMS}
@@ -86,6 +88,8 @@ pub record IsSynthesised (s : Source) (net_bytes vector_bytes : List ℕ) (summa
   pub is_network : IsNetworkOf s net
   pub has_form : HasReddyForm s (all_plain (length s.inputs)) expansions net
   pub is_file : IsFileOf s net file
+  -- The network is what the text says under the limits of a written netlist.
+  pub reads_back : blif_says Written net_bytes ≡ Ok net
   pub net_text : net_bytes ≡ blif_text net
   pub vector_text : vector_bytes ≡ vector_text file
   pub terms : summary.terms ≡ cost expansions

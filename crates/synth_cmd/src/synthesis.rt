@@ -13,7 +13,7 @@ use crate::vector_text::vector_text;
 use ae_base::{Cube, Memory, Name, Point, Polarity, Seq};
 use ae_cover::{Cover, Mark, Row};
 use ae_net::{Net, NetNames, answer, scratch_for};
-use blif_write::blif_text;
+use blif_write::{blif_text, said_again};
 use cascade::{REDDY_TERMS, first_vectors, reddy};
 use expansion::{Expansion, pairs};
 use fn_store::cubes_expansion;
@@ -180,6 +180,8 @@ pub fn synthesise(alloc: Global, cover: &Cover) -> Result<Made, ExpandErr>
     let points = first_vectors(alloc, &expansions)?;
     let file = vector_file(alloc, &net, cover.outputs(), expansions.polarity(), &points)?;
     let net_text = blif_text(alloc, &net)?;
+    // The text says the network again: what a reader of NET sees is what is proved here.
+    said_again();
     let vector_text = vector_text(alloc, &file)?;
     Ok(Made {
         net_text,

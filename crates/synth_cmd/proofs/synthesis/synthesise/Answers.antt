@@ -7,7 +7,7 @@ use Rattle.ae_cover.specs.Cover.{source_of}
 use Rattle.synth_cmd.specs.VectorFile.{vector_text}
 use Rattle.synth_cmd.specs.Synthesis.{names_of}
 use Rattle.synth_cmd.proofs.Expands.{cover_terms}
-use Rattle.synth_cmd.proofs.Synthesised.{same_file, fits_of, is_valid_file, is_synthesised}
+use Rattle.synth_cmd.proofs.Synthesised.{same_file, fits_of, valid, keeps_limits, is_valid_file, is_synthesised}
 use Rattle.synth_cmd.proofs.synthesis.synthesise.Goals as goal
 
 pub reddy-requires : goal.reddy-requires
@@ -37,6 +37,7 @@ returns-clause-made c =
     let points : c.deref.result.now ≡ first_vectors e.polarity (used_inputs e) = c.deref.ensures.value ∙ c.in_ok-points.ensures in
     let file = c.in_ok-file.ensures ∙ same_file _ _ _ _ _ _ _ _ net c.outputs.ensures.outputs c.polarity.ensures.polarity points in
     is_synthesised c.args.cover.now e c.outputs.ensures.cover cheap terms are _ _ _
+    (c.said_again.ensures _ (valid c.args.cover.now e c.outputs.ensures.cover cheap terms are) (keeps_limits c.args.cover.now e c.outputs.ensures.cover cheap terms are))
     (c.in_ok-net_text.ensures ∙ ap blif_text net)
     (c.in_ok-vector_text.ensures ∙ ap vector_text file)
     c.pairs.ensures
