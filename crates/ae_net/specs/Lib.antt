@@ -1,5 +1,6 @@
 pub mod Blif
 pub mod Detects
+pub mod Faults
 pub mod Gates
 pub mod Implements
 pub mod Names

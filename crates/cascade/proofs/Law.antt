@@ -24,10 +24,10 @@ use Rattle.ae_net.specs.Gates.{and_gate}
 use Rattle.expansion.specs.Terms.{is_used}
 use Rattle.cascade.specs.Reddy.{place_of, gates_for, lines, turned, literal_signal, inverters, has_one, control_gates, start, is_wide, wide_terms, and_place, chain_place, term_signal, and_gates, chain, links, rest, inner_gates, chains, ends, gates, reddy_net}
 use Rattle.cascade.specs.Shows.{Fits as FitsNames}
-use Rattle.ae_net.proofs.Follow.{Fits, Follows, Follows-run, Follows-append}
+use Rattle.ae_net.proofs.Follow.{EachGate, EachGate-append, Fits, Follows, Follows-run}
 use Rattle.ae_net.proofs.Tables.{table-inverter, table-and, all_see-none}
 use Rattle.cascade.proofs.Lists.{or_left, or_right, any_weaker, any_flat, any_at, any_kept, any_range, any-in_order, list_all_agree}
-use Rattle.cascade.proofs.Values.{Fits-gates_for, Shows, value-chain}
+use Rattle.cascade.proofs.Values.{EachGate-gates_for, Shows, value-chain}
 
 -- some output has the term
 abbrev pub Stands : Terms → Set → Type 0
@@ -83,7 +83,7 @@ value-literal k e x w parts j l used = by_sign (has e.polarity.plain j) refl
     by_sign : (b : Bool) → has e.polarity.plain j ≡ b → value_of w (cond b j (lines e + place_of (turned e) j)) ≡ cond b (has x j) (not (has x j))
     by_sign true p = parts.inputs j (omega arith)
     by_sign false p =
-        rw (zero-add (place_of (turned e) j)) at (Fits-gates_for None w (lines e) 0 0 _ (turned e) parts.inverted j (turned_stands e j l used p))
+        rw (zero-add (place_of (turned e) j)) at (EachGate-gates_for (Fits None w (lines e)) 0 0 _ (turned e) parts.inverted j (turned_stands e j l used p))
         ∙ table-inverter None w (place_of (turned e) j) _ j
         ∙ ap not (parts.inputs j (omega arith))
 
@@ -94,7 +94,7 @@ pub and_fits : (fault : Option Fault) (k : ℕ) (e : Terms) (w : List Bool) → 
     → Fits fault w (lines e) (and_place e + place_of (wide_terms e) t) (and_of k e (place_of (wide_terms e) t) t)
 and_fits fault k e w h t stands wide =
     subst (λ i. Fits fault w (lines e) (and_place e + place_of (wide_terms e) t) (and_of k e i t)) (zero-add (place_of (wide_terms e) t))
-    (Fits-gates_for fault w (lines e) (and_place e) 0 (and_of k e) (wide_terms e) h t (wide_stands e t stands wide))
+    (EachGate-gates_for (Fits fault w (lines e)) (and_place e) 0 (and_of k e) (wide_terms e) h t (wide_stands e t stands wide))
 
 -- each literal of a term shows its value
 value-literals : (k : ℕ) (e : Terms) (x : Set) (w : List Bool) → Parts k e x w → (t : Set) → Stands e t → inside t (first e.polarity.n) ≡ true
@@ -178,7 +178,7 @@ value-rest e x (t ∷ ts) order =
 -- ---- the start of a chain
 
 pub value-start : (k : ℕ) (e : Terms) (x : Set) (w : List Bool) → Parts k e x w → (o : ℕ) (ts : List Set) → slice_get e.outs o ≡ Some ts → value_of w (start e ts) ≡ differ (has_one ts) (has x e.polarity.n)
-unfolding start control_gates Follows
+unfolding start control_gates EachGate
 value-start k e x w parts o ts there = by_one (has_one ts) refl
   where
     by_one : (b : Bool) → has_one ts ≡ b → value_of w (cond b (lines e + length (turned e)) e.polarity.n) ≡ differ b (has x e.polarity.n)
@@ -203,10 +203,10 @@ value-port k e w f c i [] outs h same o ts there shows = cc
 value-port k e w f c i (us ∷ tss) [] h same o ts there shows = absurd (omega (arith, same))
 value-port k e w f c i (us ∷ tss) (out ∷ outs) h same zero ts there shows =
     let e0 : us ≡ ts = cc in
-    let parts = Follows-append None w (lines e) i (chain k e out c i (start e us) (rest us)) _ h in
+    let parts = EachGate-append (Fits None w (lines e)) i (chain k e out c i (start e us) (rest us)) _ h in
     rw e0 (value-chain k e w f out c i (start e ts) (rest ts) (rw e0 at parts.0) shows)
 value-port k e w f c i (us ∷ tss) (out ∷ outs) h same (suc o) ts there shows =
-    let parts = Follows-append None w (lines e) i (chain k e out c i (start e us) (rest us)) _ h in
+    let parts = EachGate-append (Fits None w (lines e)) i (chain k e out c i (start e us) (rest us)) _ h in
     let z : i + length (chain k e out c i (start e us) (rest us)) ≡ suc (i + inner_gates us) = omega (arith, length-chain k e out c i (start e us) (rest us)) in
     value-port k e w f (c + inner_gates us) (suc (i + inner_gates us)) tss outs (subst (λ p. Follows None w (lines e) p (chains k e (c + inner_gates us) (suc (i + inner_gates us)) tss outs)) z parts.1) (omega (arith, same)) o ts there shows
 
@@ -223,24 +223,24 @@ unfolding control_gates and_place
 length-control_gates k e = elim (cases_Bool (list_any has_one e.outs)) [ inl b ↦ rw b refl | inr b ↦ rw b refl ]
 
 -- the network is built of these parts, in this order
-pub record Built (fault : Option Fault) (k : ℕ) (names : Names) (e : Terms) (w : List Bool) : Type 0 where
-  pub inverted : Follows fault w (lines e) 0 (inverters k e)
-  pub control : Follows fault w (lines e) (length (turned e)) (control_gates k e)
-  pub ands : Follows fault w (lines e) (and_place e) (and_gates k e)
-  pub outputs : Follows fault w (lines e) (chain_place e) (chains k e 0 (chain_place e) e.outs names.outputs)
+pub record Built (P : ℕ → Gate → Type 0) (k : ℕ) (names : Names) (e : Terms) : Type 0 where
+  pub inverted : EachGate P 0 (inverters k e)
+  pub control : EachGate P (length (turned e)) (control_gates k e)
+  pub ands : EachGate P (and_place e) (and_gates k e)
+  pub outputs : EachGate P (chain_place e) (chains k e 0 (chain_place e) e.outs names.outputs)
 
-pub built : (fault : Option Fault) (k : ℕ) (names : Names) (e : Terms) (w : List Bool) → Follows fault w (lines e) 0 (gates k names e) → Built fault k names e w
+pub built : (P : ℕ → Gate → Type 0) (k : ℕ) (names : Names) (e : Terms) → EachGate P 0 (gates k names e) → Built P k names e
 unfolding gates chain_place
-built fault k names e w all =
-    let one = Follows-append fault w (lines e) 0 (inverters k e) _ all in
+built P k names e all =
+    let one = EachGate-append P 0 (inverters k e) _ all in
     let z1 : 0 + length (inverters k e) ≡ length (turned e) = zero-add _ ∙ length-gates_for _ 0 (turned e) in
-    let two = Follows-append fault w (lines e) (length (turned e)) (control_gates k e) _ (subst (λ p. Follows fault w (lines e) p (control_gates k e ++ (and_gates k e ++ chains k e 0 (and_place e + length (wide_terms e)) e.outs names.outputs))) z1 one.1) in
-    let three = Follows-append fault w (lines e) (and_place e) (and_gates k e) _ (subst (λ p. Follows fault w (lines e) p (and_gates k e ++ chains k e 0 (and_place e + length (wide_terms e)) e.outs names.outputs)) (length-control_gates k e) two.1) in
+    let two = EachGate-append P (length (turned e)) (control_gates k e) _ (subst (λ p. EachGate P p (control_gates k e ++ (and_gates k e ++ chains k e 0 (and_place e + length (wide_terms e)) e.outs names.outputs))) z1 one.1) in
+    let three = EachGate-append P (and_place e) (and_gates k e) _ (subst (λ p. EachGate P p (and_gates k e ++ chains k e 0 (and_place e + length (wide_terms e)) e.outs names.outputs)) (length-control_gates k e) two.1) in
     record {
       inverted = one.0;
       control = two.0;
       ands = three.0;
-      outputs = subst (λ p. Follows fault w (lines e) p (chains k e 0 (and_place e + length (wide_terms e)) e.outs names.outputs)) (ap (λ n. and_place e + n) (length-gates_for _ 0 (wide_terms e))) three.1;
+      outputs = subst (λ p. EachGate P p (chains k e 0 (and_place e + length (wide_terms e)) e.outs names.outputs)) (ap (λ n. and_place e + n) (length-gates_for _ 0 (wide_terms e))) three.1;
     }
 
 pub differ-flip : (a b c : Bool) → differ (differ a b) c ≡ differ b (differ a c)
@@ -260,7 +260,7 @@ shows names e terms fits valid x o ts there =
     let is : IsRun n None x w = IsRun-run n None x valid in
     let z : length n.inputs ≡ lines e = omega (arith, length-append names.inputs (inner (lead names) (codes "c") ∷ []), fits.inputs) in
     let all = subst (λ m. Follows None w m 0 n.gates) z (Follows-run n None x w is) in
-    let b : Built None (lead names) names e w = built None (lead names) names e w all in
+    let b : Built (Fits None w (lines e)) (lead names) names e = built (Fits None w (lines e)) (lead names) names e all in
     let parts : Parts (lead names) e x w = record { inputs = λ j l. is.inputs j (omega (arith, z, l)); inverted = b.inverted; control = b.control } in
     let inside_outs : o < length e.outs = slice_get_within e.outs o ts there in
     let below = rw (get_or_from_slice_get e.outs o ts [] there) at (terms.below o [] inside_outs) in

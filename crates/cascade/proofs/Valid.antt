@@ -48,7 +48,7 @@ pub few_inner : (tss : List (List Set)) → all_inner tss ≤ length (flat_map (
 few_inner [] = omega arith
 few_inner (ts ∷ tss) = omega (arith, few_inner tss, length_filter_le (λ t. not (eqb t empty)) ts, length-append ts (flat_map (λ us. us) tss))
 
-length-chains : (k : ℕ) (e : Terms) (c i : ℕ) (tss : List (List Set)) (outs : List (List ℕ)) → length tss ≡ length outs → length (chains k e c i tss outs) ≡ all_inner tss + length outs
+pub length-chains : (k : ℕ) (e : Terms) (c i : ℕ) (tss : List (List Set)) (outs : List (List ℕ)) → length tss ≡ length outs → length (chains k e c i tss outs) ≡ all_inner tss + length outs
 length-chains k e c i [] [] same = omega arith
 length-chains k e c i [] (out ∷ outs) same = absurd (omega (arith, same))
 length-chains k e c i (ts ∷ tss) [] same = absurd (omega (arith, same))
@@ -71,7 +71,7 @@ pub length-and_gates : (k : ℕ) (e : Terms) → length (and_gates k e) ≡ leng
 length-and_gates k e = length-gates_for _ 0 (wide_terms e)
 
 -- the number of gates
-length-gates : (k : ℕ) (names : Names) (e : Terms) → Fits names e → length (gates k names e) ≡ chain_place e + (all_inner e.outs + length names.outputs)
+pub length-gates : (k : ℕ) (names : Names) (e : Terms) → Fits names e → length (gates k names e) ≡ chain_place e + (all_inner e.outs + length names.outputs)
 unfolding gates chain_place
 length-gates k names e fits =
     omega (
@@ -106,7 +106,7 @@ each_flat : (P : Set → Type 0) (tss : List (List Set)) → AllByRecursion (All
 each_flat P [] h = tt
 each_flat P (ts ∷ tss) (h, hs) = each-append P ts (flat_map (λ us. us) tss) h (each_flat P tss hs)
 
-each_placed : (P : Set → Type 0) (t : Set) (us : List Set) → P t → AllByRecursion P us → AllByRecursion P (placed t us)
+pub each_placed : (P : Set → Type 0) (t : Set) (us : List Set) → P t → AllByRecursion P us → AllByRecursion P (placed t us)
 each_placed P t [] p h = (p, tt)
 each_placed P t (u ∷ us) p (h, hs) = by_same (eqb t u) (is_lt (cmp_terms t u)) (each_placed P t us p hs)
   where

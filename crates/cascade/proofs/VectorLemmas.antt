@@ -11,11 +11,11 @@ use Rattle.expansion.specs.Terms.{Terms, is_used, used_inputs}
 use Rattle.cascade.specs.FirstVectors.{literals_at, without_repeats}
 
 -- an input has its value, all the used ones being below n
-has-used : (e : Terms) (k : ℕ) → has (used_inputs e) k ≡ (ltb k e.polarity.n && is_used e k)
+pub has-used : (e : Terms) (k : ℕ) → has (used_inputs e) k ≡ (ltb k e.polarity.n && is_used e k)
 unfolding used_inputs
 has-used e k = has-where_below e.polarity.n (is_used e) k
 
-has-literals_at : (p : Signs) (used : Set) (v : Bool) (k : ℕ) → has (literals_at p used v) k ≡ (ltb k p.n && (has used k && cond (has p.plain k) v (not v)))
+pub has-literals_at : (p : Signs) (used : Set) (v : Bool) (k : ℕ) → has (literals_at p used v) k ≡ (ltb k p.n && (has used k && cond (has p.plain k) v (not v)))
 unfolding literals_at
 has-literals_at p used v k = has-where_below p.n (λ j. has used j && cond (has p.plain j) v (not v)) k
 
@@ -79,7 +79,7 @@ others_more x y ys b there =
     other true e = refl
     other false e = ap (λ l. x ∷ l) (filter-append (λ z. not (eqb z x)) ys (y ∷ []) ∙ rw e refl)
 
-add_last : (xs : List Set) (y : Set) → without_repeats (xs ++ y ∷ []) ≡ added y (without_repeats xs)
+pub add_last : (xs : List Set) (y : Set) → without_repeats (xs ++ y ∷ []) ≡ added y (without_repeats xs)
 add_last [] y = refl
 add_last (x ∷ xs) y = ap (λ ys. x ∷ others x ys) (add_last xs y) ∙ others_more x y (without_repeats xs) (list_any (λ z. eqb z y) (without_repeats xs)) refl
 
