@@ -76,7 +76,7 @@ and_of k e i t = and_gate (inner k (codes "t" ++ decimal (suc i))) (map (literal
 abbrev pub FitsAnd : ℕ → Terms → List Bool → Set → Type 0
 FitsAnd k e w t = is_wide t ≡ true → Fits None w (lines e) (and_place e + place_of (wide_terms e) t) (and_of k e (place_of (wide_terms e) t) t)
 
-value-literal : (k : ℕ) (e : Terms) (x : Set) (w : List Bool) → Parts k e x w → (j : ℕ) → j < e.polarity.n → is_used e j ≡ true → value_of w (literal_signal e j) ≡ literal e.polarity j x
+pub value-literal : (k : ℕ) (e : Terms) (x : Set) (w : List Bool) → Parts k e x w → (j : ℕ) → j < e.polarity.n → is_used e j ≡ true → value_of w (literal_signal e j) ≡ literal e.polarity j x
 unfolding literal_signal
 value-literal k e x w parts j l used = by_sign (has e.polarity.plain j) refl
   where

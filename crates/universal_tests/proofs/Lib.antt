@@ -1,3 +1,6 @@
 pub mod Vectors
 pub mod TwoRuns
+pub mod Products
 pub mod Turns
+pub mod Chains
+pub mod AndFaults

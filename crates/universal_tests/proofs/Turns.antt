@@ -35,7 +35,7 @@ exor-others t f (u ∷ us) (h, hs) = rw (ne_eqb u t h) (ap (differ (f u)) (exor-
 later_others : (t u : Set) (us : List Set) → u ≡ t → IsInOrder (u ∷ us) → AllByRecursion (λ y. y ≢ t) us
 later_others t u us same order = recursion_from_All _ us (λ k d l again. less_apart _ _ (order 0 (suc k) d (omega arith) (omega (arith, l))) (same ∙ sym again))
 
-differ-not_left : (a b : Bool) → differ (not a) b ≡ not (differ a b)
+pub differ-not_left : (a b : Bool) → differ (not a) b ≡ not (differ a b)
 differ-not_left true true = refl
 differ-not_left true false = refl
 differ-not_left false b = refl
@@ -68,7 +68,7 @@ pub all_inside : (names : Names) (e : Terms) → CanBuild names e → (o : ℕ) 
 all_inside names e can o ts there = recursion_from_All _ ts (All-get (λ us. (k : ℕ) (d : Set) → k < length us → inside (Rattle.std.specs.Prelude.slice_index_or us k d) (first e.polarity.n) ≡ true) e.outs o ts can.terms.below there)
 
 -- the start of a chain is before the AND gates
-start_below : (e : Terms) (o : ℕ) (ts : List Set) → slice_get e.outs o ≡ Some ts → start e ts < lines e + and_place e
+pub start_below : (e : Terms) (o : ℕ) (ts : List Set) → slice_get e.outs o ≡ Some ts → start e ts < lines e + and_place e
 unfolding start and_place
 start_below e o ts there = by_one (has_one ts) refl
   where
@@ -81,11 +81,11 @@ one_before : (e : Terms) → list_any has_one e.outs ≡ true → length (turned
 unfolding and_place
 one_before e some = rw some (omega arith)
 
-chain_after : (e : Terms) → and_place e + length (wide_terms e) ≡ chain_place e
+pub chain_after : (e : Terms) → and_place e + length (wide_terms e) ≡ chain_place e
 unfolding chain_place
 chain_after e = refl
 
-and_signal : (e : Terms) (t : Set) → is_wide t ≡ true → term_signal e t ≡ lines e + (and_place e + place_of (wide_terms e) t)
+pub and_signal : (e : Terms) (t : Set) → is_wide t ≡ true → term_signal e t ≡ lines e + (and_place e + place_of (wide_terms e) t)
 unfolding term_signal
 and_signal e t wide = rw wide refl
 

@@ -74,9 +74,9 @@ abbrev pub Turned : Terms → List Bool → List Bool → ℕ → Type 0
 Turned e w v o = value_of w (slice_index (ends e (chain_place e) e.outs) o) ≡ not (value_of v (slice_index (ends e (chain_place e) e.outs) o))
 
 -- then the fault is detected
-pub Detects-gate : (names : Names) (e : Terms) (fault : Fault) (p : ℕ) (x : Set) (o : ℕ) (ts : List Set) → InGate (Some fault) (lines e) p → o < length e.outs
+pub Detects-gate : (names : Names) (e : Terms) (fault : Fault) (p : ℕ) (x : Set) (o : ℕ) → InGate (Some fault) (lines e) p → o < length e.outs
     → Turned e (run (reddy_net names e) (Some fault) x) (run (reddy_net names e) None x) o → Detects (reddy_net names e) fault x
-Detects-gate names e fault p x o ts within l h =
+Detects-gate names e fault p x o within l h =
     let n : Network = reddy_net names e in
     let l' : o < length n.outputs = omega (arith, l, length-outputs names e) in
     let h' : value_of (run n (Some fault) x) (slice_index n.outputs o) ≡ not (value_of (run n None x) (slice_index n.outputs o)) = subst (λ (ss : List ℕ). value_of (run n (Some fault) x) (slice_index ss o) ≡ not (value_of (run n None x) (slice_index ss o))) (sym (outputs_are names e)) h in
@@ -89,7 +89,7 @@ module _ (names : Names) (e : Terms) (fault : Option Fault) (p : ℕ) (x : Set) 
   P = Both (reddy_net names e) fault (lines e) w v
 
   -- a part follows in each run
-  faulty : (i : ℕ) (gs : List Gate) → EachGate P i gs → Follows fault w (lines e) i gs
+  pub faulty : (i : ℕ) (gs : List Gate) → EachGate P i gs → Follows fault w (lines e) i gs
   faulty i gs h = EachGate-weaker P (Fits fault w (lines e)) i gs (λ j g l k b. b.faulty) h
 
   pub plain : (i : ℕ) (gs : List Gate) → EachGate P i gs → Follows None v (lines e) i gs
