@@ -121,15 +121,20 @@ value-term k e x w parts t fits stands below some = by_width (is_wide t) refl
         narrow_all (λ j. value_of w (literal_signal e j)) (members t) (ltb-false 1 (len t) narrow) (λ none. some (no_members t none))
         ∙ value-literals k e x w parts t stands below
 
--- so does each term of a list but the empty one
+-- what holds of each term that stands and is not empty holds of the terms of a list but the empty one
+pub each_rest : (e : Terms) (Q : Set → Type 0) → ((t : Set) → Stands e t → inside t (first e.polarity.n) ≡ true → (t ≢ empty) → Q t)
+    → (ts : List Set) → ((t : Set) → list_any (λ u. eqb u t) ts ≡ true → Stands e t) → AllByRecursion (λ t. inside t (first e.polarity.n) ≡ true) ts → AllByRecursion Q (rest ts)
+each_rest e Q each [] stand below = tt
+each_rest e Q each (t ∷ ts) stand (here, below) =
+    elim (cases_eq t empty) [
+      | inl e0 ↦ rw (eq-eqb t empty e0) (each_rest e Q each ts (λ u m. stand u (or_right _ _ m)) below)
+      | inr some ↦ rw (ne_eqb t empty some) (each t (stand t (or_left _ _ (eq-eqb t t refl))) here some, each_rest e Q each ts (λ u m. stand u (or_right _ _ m)) below)
+    ]
+
+-- so these show what they show
 pub shows_rest : (e : Terms) (w : List Bool) (f : Set → Bool) → ((t : Set) → Stands e t → inside t (first e.polarity.n) ≡ true → (t ≢ empty) → value_of w (term_signal e t) ≡ f t)
     → (ts : List Set) → ((t : Set) → list_any (λ u. eqb u t) ts ≡ true → Stands e t) → AllByRecursion (λ t. inside t (first e.polarity.n) ≡ true) ts → Shows e w f (rest ts)
-shows_rest e w f each [] stand below = tt
-shows_rest e w f each (t ∷ ts) stand (here, below) =
-    elim (cases_eq t empty) [
-      | inl e0 ↦ rw (eq-eqb t empty e0) (shows_rest e w f each ts (λ u m. stand u (or_right _ _ m)) below)
-      | inr some ↦ rw (ne_eqb t empty some) (each t (stand t (or_left _ _ (eq-eqb t t refl))) here some, shows_rest e w f each ts (λ u m. stand u (or_right _ _ m)) below)
-    ]
+shows_rest e w f each ts stand below = each_rest e (λ t. value_of w (term_signal e t) ≡ f t) each ts stand below
 
 -- ---- the empty term
 

@@ -31,6 +31,10 @@ use Rattle.universal_tests.proofs.Turns.{and_signal, and_turns, wide_some}
 use Rattle.universal_tests.proofs.TwoRuns.{Both, TwoRuns, Turned, two_runs, Detects-gate, plain_parts, plain_term}
 use Rattle.universal_tests.proofs.Vectors.{all_at, literal-one_low, Contains-all_at, Contains-one_low}
 
+pub not_not : (b : Bool) → b ≡ not (not b)
+not_not true = refl
+not_not false = refl
+
 -- the term of the AND gate in place p
 pub record OfTerm (e : Terms) (p : ℕ) : Type 0 where
   pub t : Set
@@ -93,10 +97,6 @@ module _ (names : Names) (e : Terms) (can : CanBuild names e) (p : ℕ) (of : Of
       let two : TwoRuns names e (Some fault) p x (run n (Some fault) x) (run n None x) = two_runs names e can (Some fault) p x within (omega arith) in
       (x, listed, Detects-gate names e fault p x found.0 within (slice_get_within e.outs found.0 found.1 found.2)
       (and_turns names e can (Some fault) p x (run n (Some fault) x) (run n None x) two found.0 found.1 found.2 of.t found.3 of.wide of.place (turns (run n (Some fault) x) (run n None x) two)))
-
-  not_not : (b : Bool) → b ≡ not (not b)
-  not_not true = refl
-  not_not false = refl
 
   pub and_stem : (u : Bool) → p < length ((reddy_net names e).gates) → IsDetected (reddy_net names e) (universal_vectors e.polarity (used_inputs e)) (record { place = Stem (lines e + p); value = u })
   and_stem u few =

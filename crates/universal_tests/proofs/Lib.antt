@@ -4,3 +4,4 @@ pub mod Products
 pub mod Turns
 pub mod Chains
 pub mod AndFaults
+pub mod ControlFaults
