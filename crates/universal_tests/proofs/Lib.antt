@@ -5,3 +5,4 @@ pub mod Turns
 pub mod Chains
 pub mod AndFaults
 pub mod ControlFaults
+pub mod ChainFaults
