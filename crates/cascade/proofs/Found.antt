@@ -6,8 +6,9 @@ use Rattle.std.specs.Ordering.{is_lt}
 use Rattle.std.specs.declared.cmp.Ordering.{Ordering}
 use Rattle.std.proofs.lemmas.Bool.{cases_eq, cases_Bool, false≢true, or_cases}
 use Rattle.std.proofs.lemmas.List.Elements.{All-from_recursion, recursion_from_All}
+use Rattle.std.proofs.lemmas.List.Folds.{Any-from_list_any}
 use Rattle.std.proofs.lemmas.List.Kept.{AllPairs-cons, AllPairs-from_increasing}
-use Rattle.std.proofs.lemmas.Option.{slice_get_within, get_or_from_slice_get}
+use Rattle.std.proofs.lemmas.Option.{slice_get_within, slice_get-get_or, get_or_from_slice_get}
 use Rattle.ae_base.specs.Mask.{Set, first, inside, members, cmp_terms}
 use Rattle.ae_base.specs.Terms.{IsInOrder}
 use Rattle.ae_base.proofs.InOrder.{less_from_sorted}
@@ -23,12 +24,7 @@ use Rattle.cascade.proofs.Valid.{each_placed}
 -- ---- elements
 
 pub any_found : {X : Type 0} (q : X → Bool) (xs : List X) → list_any q xs ≡ true → (i : ℕ) × (x : X) × (slice_get xs i ≡ Some x) × (q x ≡ true)
-any_found q [] h = absurd (false≢true h)
-any_found q (x ∷ xs) h =
-    elim (or_cases _ _ h) [
-      | inl here ↦ (0, x, refl, here)
-      | inr later ↦ let r = any_found q xs later in (suc r.0, r.1, r.2, r.3)
-    ]
+any_found q xs h = let at = Any-from_list_any q xs h in (at.0, at.1, slice_get-get_or xs at.0 at.1 at.2 ∙ ap Some at.3, at.4)
 
 pub All-get : {X : Type 0} (P : X → Type 0) (xs : List X) (i : ℕ) (x : X) → All P xs → slice_get xs i ≡ Some x → P x
 All-get P xs i x all there = subst P (get_or_from_slice_get xs i x x there) (all i x (slice_get_within xs i x there))

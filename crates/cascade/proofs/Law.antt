@@ -24,9 +24,10 @@ use Rattle.ae_net.specs.Gates.{and_gate}
 use Rattle.expansion.specs.Terms.{is_used}
 use Rattle.cascade.specs.Reddy.{place_of, gates_for, lines, turned, literal_signal, inverters, has_one, control_gates, start, is_wide, wide_terms, and_place, chain_place, term_signal, and_gates, chain, links, rest, inner_gates, chains, ends, gates, reddy_net}
 use Rattle.cascade.specs.Shows.{Fits as FitsNames}
+use Rattle.ae_net.proofs.Distinct.{each_weaker}
 use Rattle.ae_net.proofs.Follow.{EachGate, EachGate-append, Fits, Follows, Follows-run}
 use Rattle.ae_net.proofs.Tables.{table-inverter, table-and, all_see-none}
-use Rattle.cascade.proofs.Lists.{or_left, or_right, any_weaker, any_flat, any_at, any_kept, any_range, any-in_order, list_all_agree}
+use Rattle.cascade.proofs.Lists.{or_left, or_right, any_weaker, any_flat, any_at, any_kept, any_range, any-in_order, list_all_agree, filter_all}
 use Rattle.cascade.proofs.Values.{EachGate-gates_for, Shows, value-chain}
 
 -- some output has the term
@@ -148,8 +149,7 @@ product-empty e x = none_all (λ j. literal e.polarity j x) (members empty) (sym
 
 -- terms that are not empty stay
 rest_all : (ts : List Set) → AllByRecursion (λ t. t ≢ empty) ts → rest ts ≡ ts
-rest_all [] h = refl
-rest_all (t ∷ ts) (h, hs) = rw (ne_eqb t empty h) (ap (λ us. t ∷ us) (rest_all ts hs))
+rest_all ts h = filter_all (λ t. not (eqb t empty)) ts (each_weaker (λ t. t ≢ empty) (λ t. not (eqb t empty) ≡ true) (λ t some. ap not (ne_eqb t empty some)) ts h)
 
 no_one : (ts : List Set) → AllByRecursion (λ t. t ≢ empty) ts → has_one ts ≡ false
 no_one [] h = refl

@@ -29,7 +29,7 @@ use Rattle.universal_tests.specs.Universal.{one_low, universal_vectors}
 use Rattle.universal_tests.proofs.Products.{member_used, product_high, product_all_at, product_one_low}
 use Rattle.universal_tests.proofs.Turns.{and_signal, and_turns, wide_some}
 use Rattle.universal_tests.proofs.TwoRuns.{Both, TwoRuns, Turned, two_runs, Detects-gate, plain_parts, plain_term}
-use Rattle.universal_tests.proofs.Vectors.{all_at, literal-one_low, Contains-all_at, Contains-one_low}
+use Rattle.universal_tests.proofs.AtVectors.{all_at, literal-one_low, Contains-all_at, Contains-one_low}
 
 pub not_not : (b : Bool) → b ≡ not (not b)
 not_not true = refl

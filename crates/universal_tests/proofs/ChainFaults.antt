@@ -27,7 +27,7 @@ use Rattle.universal_tests.proofs.Chains.{InChain, chain_start, chain_start_from
 use Rattle.universal_tests.proofs.Products.{product_all_at}
 use Rattle.universal_tests.proofs.Turns.{stands_at, all_inside, start_below, chain_after, differ-not_right}
 use Rattle.universal_tests.proofs.TwoRuns.{Both, TwoRuns, two_runs, Detects-gate, plain_start, plain_term}
-use Rattle.universal_tests.proofs.Vectors.{all_at, control-all_at, Contains-all_at}
+use Rattle.universal_tests.proofs.AtVectors.{all_at, control-all_at, Contains-all_at}
 
 -- a gate of a chain is a buffer of its start, or joins a term
 chain_gate : (P : ℕ → Gate → Type 0) (k : ℕ) (e : Terms) (v : List Bool) → ((i : ℕ) (g : Gate) → P i g → Fits None v (lines e) i g) → (p : ℕ) (out : List ℕ) (c i y d : ℕ) (ts : List Set)

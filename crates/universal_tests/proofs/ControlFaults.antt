@@ -33,11 +33,11 @@ use Rattle.universal_tests.proofs.AndFaults.{not_not}
 use Rattle.universal_tests.proofs.Products.{product_low}
 use Rattle.universal_tests.proofs.Turns.{start_turns, stands_at, all_inside}
 use Rattle.universal_tests.proofs.TwoRuns.{Both, TwoRuns, Turned, two_runs, inputs_are, outputs_are, Detects-gate}
-use Rattle.universal_tests.proofs.Vectors.{all_at, control-all_at, low_part, Contains-all_at}
+use Rattle.universal_tests.proofs.AtVectors.{all_at, control-all_at, low_part, Contains-all_at}
 
 -- ---- the inverter of the control
 
-control_gate : (P : ℕ → Gate → Type 0) (k : ℕ) (e : Terms) → list_any has_one e.outs ≡ true → EachGate P (length (turned e)) (control_gates k e) → P (length (turned e)) (inverter (inner k (codes "m")) e.polarity.n)
+pub control_gate : (P : ℕ → Gate → Type 0) (k : ℕ) (e : Terms) → list_any has_one e.outs ≡ true → EachGate P (length (turned e)) (control_gates k e) → P (length (turned e)) (inverter (inner k (codes "m")) e.polarity.n)
 unfolding control_gates EachGate
 control_gate P k e some h = (rw some at h).0
 

@@ -1,4 +1,4 @@
-pub mod Vectors
+pub mod AtVectors
 pub mod TwoRuns
 pub mod Products
 pub mod Turns
@@ -6,3 +6,5 @@ pub mod Chains
 pub mod AndFaults
 pub mod ControlFaults
 pub mod ChainFaults
+pub mod Whole
+pub mod CodeLemmas

@@ -9,7 +9,7 @@ use Rattle.cascade.proofs.GatesValid.{first_member}
 use Rattle.cascade.proofs.Law.{Stands, used_since, members_below}
 use Rattle.cascade.proofs.VectorLemmas.{has-used}
 use Rattle.universal_tests.specs.Universal.{one_low}
-use Rattle.universal_tests.proofs.Vectors.{all_at, literal-all_at, literal-one_low, product_true, product_false}
+use Rattle.universal_tests.proofs.AtVectors.{all_at, literal-all_at, literal-one_low, product_true, product_false}
 
 -- a member of a term is a used input
 pub member_used : (e : Terms) (t : Set) → Stands e t → inside t (first e.polarity.n) ≡ true → (j : ℕ) → has t j ≡ true → (j < e.polarity.n) × (has (used_inputs e) j ≡ true)

@@ -40,7 +40,7 @@ pub inputs_are : (names : Names) (e : Terms) → CanBuild names e → length ((r
 unfolding reddy_net
 inputs_are names e can = omega (arith, length-append names.inputs (inner (lead names) (codes "c") ∷ []), can.fits.inputs)
 
-gates_are : (names : Names) (e : Terms) → (reddy_net names e).gates ≡ gates (lead names) names e
+pub gates_are : (names : Names) (e : Terms) → (reddy_net names e).gates ≡ gates (lead names) names e
 unfolding reddy_net
 gates_are names e = refl
 

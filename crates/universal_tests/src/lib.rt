@@ -1,5 +1,8 @@
 //! The universal vectors of the Reddy form, and the faults that they detect.
 #![tactic(auto)]
 
-/// Nothing yet.
-pub fn nothing() {}
+mod laws;
+mod vectors;
+
+pub use laws::universal_law;
+pub use vectors::universal;
