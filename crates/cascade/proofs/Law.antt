@@ -63,11 +63,10 @@ narrow_all f (j ∷ k ∷ ms) l some = absurd (omega (arith, l))
 
 -- ---- the values of a run without a fault
 
--- the parts of the network in a run
-pub record Parts (k : ℕ) (e : Terms) (x : Set) (w : List Bool) : Type 0 where
+-- the inputs and their inverters in a run
+pub record Inputs (k : ℕ) (e : Terms) (x : Set) (w : List Bool) : Type 0 where
   pub inputs : (j : ℕ) → j < lines e → value_of w j ≡ has x j
   pub inverted : Follows None w (lines e) 0 (inverters k e)
-  pub control : Follows None w (lines e) (length (turned e)) (control_gates k e)
 
 -- the AND gate of a term
 abbrev pub and_of : ℕ → Terms → ℕ → Set → Gate
@@ -77,7 +76,7 @@ and_of k e i t = and_gate (inner k (codes "t" ++ decimal (suc i))) (map (literal
 abbrev pub FitsAnd : ℕ → Terms → List Bool → Set → Type 0
 FitsAnd k e w t = is_wide t ≡ true → Fits None w (lines e) (and_place e + place_of (wide_terms e) t) (and_of k e (place_of (wide_terms e) t) t)
 
-pub value-literal : (k : ℕ) (e : Terms) (x : Set) (w : List Bool) → Parts k e x w → (j : ℕ) → j < e.polarity.n → is_used e j ≡ true → value_of w (literal_signal e j) ≡ literal e.polarity j x
+pub value-literal : (k : ℕ) (e : Terms) (x : Set) (w : List Bool) → Inputs k e x w → (j : ℕ) → j < e.polarity.n → is_used e j ≡ true → value_of w (literal_signal e j) ≡ literal e.polarity j x
 unfolding literal_signal
 value-literal k e x w parts j l used = by_sign (has e.polarity.plain j) refl
   where
@@ -97,19 +96,21 @@ and_fits fault k e w h t stands wide =
     subst (λ i. Fits fault w (lines e) (and_place e + place_of (wide_terms e) t) (and_of k e i t)) (zero-add (place_of (wide_terms e) t))
     (EachGate-gates_for (Fits fault w (lines e)) (and_place e) 0 (and_of k e) (wide_terms e) h t (wide_stands e t stands wide))
 
--- each literal of a term shows its value
-value-literals : (k : ℕ) (e : Terms) (x : Set) (w : List Bool) → Parts k e x w → (t : Set) → Stands e t → inside t (first e.polarity.n) ≡ true
-    → list_all (λ j. value_of w (literal_signal e j)) (members t) ≡ product e.polarity t x
+-- each literal shows its value at the point
+abbrev pub Literals : Terms → Set → List Bool → Type 0
+Literals e x w = (j : ℕ) → j < e.polarity.n → is_used e j ≡ true → value_of w (literal_signal e j) ≡ literal e.polarity j x
+
+value-literals : (e : Terms) (x : Set) (w : List Bool) → Literals e x w → (t : Set) → Stands e t → inside t (first e.polarity.n) ≡ true → list_all (λ j. value_of w (literal_signal e j)) (members t) ≡ product e.polarity t x
 unfolding product
-value-literals k e x w parts t stands below =
+value-literals e x w literals t stands below =
     list_all_agree _ _ (members t) (λ j m.
     let h : has t j ≡ true = sym (members-has t j) ∙ m in
-    value-literal k e x w parts j (members_below e.polarity.n t below j h) (used_since e t j stands h))
+    literals j (members_below e.polarity.n t below j h) (used_since e t j stands h))
 
-pub value-term : (k : ℕ) (e : Terms) (x : Set) (w : List Bool) → Parts k e x w → (t : Set) → FitsAnd k e w t → Stands e t → inside t (first e.polarity.n) ≡ true → (t ≢ empty)
+pub value-term : (k : ℕ) (e : Terms) (x : Set) (w : List Bool) → Literals e x w → (t : Set) → FitsAnd k e w t → Stands e t → inside t (first e.polarity.n) ≡ true → (t ≢ empty)
     → value_of w (term_signal e t) ≡ product e.polarity t x
 unfolding term_signal len
-value-term k e x w parts t fits stands below some = by_width (is_wide t) refl
+value-term k e x w literals t fits stands below some = by_width (is_wide t) refl
   where
     by_width : (b : Bool) → is_wide t ≡ b → value_of w (cond b (lines e + (and_place e + place_of (wide_terms e) t)) (literal_signal e (slice_index (members t) 0))) ≡ product e.polarity t x
     by_width true wide =
@@ -117,10 +118,10 @@ value-term k e x w parts t fits stands below some = by_width (is_wide t) refl
         ∙ table-and None w (and_place e + place_of (wide_terms e) t) _ (map (literal_signal e) (members t))
         ∙ all_see-none w (and_place e + place_of (wide_terms e) t) 0 (map (literal_signal e) (members t))
         ∙ list_all-map (λ s. value_of w s) (literal_signal e) (members t)
-        ∙ value-literals k e x w parts t stands below
+        ∙ value-literals e x w literals t stands below
     by_width false narrow =
         narrow_all (λ j. value_of w (literal_signal e j)) (members t) (ltb-false 1 (len t) narrow) (λ none. some (no_members t none))
-        ∙ value-literals k e x w parts t stands below
+        ∙ value-literals e x w literals t stands below
 
 -- what holds of each term that stands and is not empty holds of the terms of a list but the empty one
 pub each_rest : (e : Terms) (Q : Set → Type 0) → ((t : Set) → Stands e t → inside t (first e.polarity.n) ≡ true → (t ≢ empty) → Q t)
@@ -182,15 +183,15 @@ value-rest e x (t ∷ ts) order =
 
 -- ---- the start of a chain
 
-pub value-start : (k : ℕ) (e : Terms) (x : Set) (w : List Bool) → Parts k e x w → (o : ℕ) (ts : List Set) → slice_get e.outs o ≡ Some ts → value_of w (start e ts) ≡ differ (has_one ts) (has x e.polarity.n)
+pub value-start : (k : ℕ) (e : Terms) (c : Bool) (w : List Bool) → value_of w e.polarity.n ≡ c → Follows None w (lines e) (length (turned e)) (control_gates k e) → (o : ℕ) (ts : List Set) → slice_get e.outs o ≡ Some ts → value_of w (start e ts) ≡ differ (has_one ts) c
 unfolding start control_gates EachGate
-value-start k e x w parts o ts there = by_one (has_one ts) refl
+value-start k e c w control inverted o ts there = by_one (has_one ts) refl
   where
-    by_one : (b : Bool) → has_one ts ≡ b → value_of w (cond b (lines e + length (turned e)) e.polarity.n) ≡ differ b (has x e.polarity.n)
+    by_one : (b : Bool) → has_one ts ≡ b → value_of w (cond b (lines e + length (turned e)) e.polarity.n) ≡ differ b c
     by_one true one =
-        let gate = rw (any_at has_one e.outs o ts there one) at parts.control in
-        gate.0 ∙ table-inverter None w (length (turned e)) _ e.polarity.n ∙ ap not (parts.inputs e.polarity.n (omega arith))
-    by_one false none = parts.inputs e.polarity.n (omega arith)
+        let gate = rw (any_at has_one e.outs o ts there one) at inverted in
+        gate.0 ∙ table-inverter None w (length (turned e)) _ e.polarity.n ∙ ap not control
+    by_one false none = control
 
 -- ---- the outputs
 
@@ -266,17 +267,17 @@ shows names e terms fits valid x o ts there =
     let z : length n.inputs ≡ lines e = omega (arith, length-append names.inputs (inner (lead names) (codes "c") ∷ []), fits.inputs) in
     let all = subst (λ m. Follows None w m 0 n.gates) z (Follows-run n None x w is) in
     let b : Built (Fits None w (lines e)) (lead names) names e = built (Fits None w (lines e)) (lead names) names e all in
-    let parts : Parts (lead names) e x w = record { inputs = λ j l. is.inputs j (omega (arith, z, l)); inverted = b.inverted; control = b.control } in
+    let inputs : Inputs (lead names) e x w = record { inputs = λ j l. is.inputs j (omega (arith, z, l)); inverted = b.inverted } in
     let inside_outs : o < length e.outs = slice_get_within e.outs o ts there in
     let below = rw (get_or_from_slice_get e.outs o ts [] there) at (terms.below o [] inside_outs) in
     let order = rw (get_or_from_slice_get e.outs o ts [] there) at (terms.order o [] inside_outs) in
     let term = λ (t : Set) (stands : Stands e t) (inner' : inside t (first e.polarity.n) ≡ true) (some : t ≢ empty).
-    value-term (lead names) e x w parts t (λ wide. and_fits None (lead names) e w b.ands t stands wide) stands inner' some in
+    value-term (lead names) e x w (value-literal (lead names) e x w inputs) t (λ wide. and_fits None (lead names) e w b.ands t stands wide) stands inner' some in
     let products = shows_rest e w (λ t. product e.polarity t x) term ts (λ t m. any_at (λ us. list_any (λ u. eqb u t) us) e.outs o ts there m) (recursion_from_All _ ts below) in
     ap (λ s. has s o) (out_of_run n None x valid w is)
     ∙ has-where_below (length n.outputs) (λ p. value_of w (slice_index n.outputs p)) o
     ∙ ap (λ c. c && value_of w (slice_index n.outputs o)) (lt-ltb o (length n.outputs) (omega (arith, length-ends e (chain_place e) e.outs)))
     ∙ value-port (lead names) e w (λ t. product e.polarity t x) 0 (chain_place e) e.outs names.outputs b.outputs fits.outputs o ts there products
-    ∙ ap (λ c. differ c (value e.polarity (rest ts) x)) (value-start (lead names) e x w parts o ts there)
+    ∙ ap (λ c. differ c (value e.polarity (rest ts) x)) (value-start (lead names) e (has x e.polarity.n) w (inputs.inputs e.polarity.n (omega arith)) b.control o ts there)
     ∙ differ-flip (has_one ts) (has x e.polarity.n) (value e.polarity (rest ts) x)
     ∙ ap (differ (has x e.polarity.n)) (sym (value-rest e x ts order))

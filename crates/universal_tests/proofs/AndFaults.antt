@@ -28,7 +28,7 @@ use Rattle.universal_tests.specs.Sites.{IsDetected}
 use Rattle.universal_tests.specs.Universal.{one_low, universal_vectors}
 use Rattle.universal_tests.proofs.Products.{member_used, product_high, product_all_at, product_one_low}
 use Rattle.universal_tests.proofs.Turns.{and_signal, and_turns, wide_some}
-use Rattle.universal_tests.proofs.TwoRuns.{Both, TwoRuns, Turned, two_runs, Detects-gate, plain_parts, plain_term}
+use Rattle.universal_tests.proofs.TwoRuns.{Both, TwoRuns, Turned, two_runs, Detects-gate, plain_inputs, plain_term}
 use Rattle.universal_tests.proofs.AtVectors.{all_at, literal-one_low, Contains-all_at, Contains-one_low}
 
 pub not_not : (b : Bool) → b ≡ not (not b)
@@ -86,7 +86,7 @@ module _ (names : Names) (e : Terms) (can : CanBuild names e) (p : ℕ) (of : Of
     literal_kept j m =
         let l : j < e.polarity.n = members_below e.polarity.n of.t below j m in
         let used : is_used e j ≡ true = used_since e of.t j of.stands m in
-        two.before (literal_signal e j) (omega (arith, literal_below e j l used, and_place_from e, of.place)) ∙ value-literal (lead names) e x v (plain_parts names e fault p x w v two) j l used
+        two.before (literal_signal e j) (omega (arith, literal_below e j l used, and_place_from e, of.place)) ∙ value-literal (lead names) e x v (plain_inputs names e fault p x w v two) j l used
 
   -- a fault that turns the gate's signal at a vector of the list is detected
   and_detected : (fault : Fault) (x : Set) → InGate (Some fault) (lines e) p → p < length ((reddy_net names e).gates) → Contains (universal_vectors e.polarity (used_inputs e)) x

@@ -16,7 +16,7 @@ use Rattle.ae_net.proofs.Runs.{IsRun-run, ones_seen_agree}
 use Rattle.expansion.specs.Terms.{Terms}
 use Rattle.cascade.specs.Reddy.{place_of, lines, turned, literal_signal, inverters, has_one, control_gates, start, is_wide, wide_terms, and_place, chain_place, term_signal, and_gates, rest, chains, ends, gates, reddy_net}
 use Rattle.cascade.specs.Shows.{CanBuild}
-use Rattle.cascade.proofs.Law.{Stands, Parts, Built, built, and_of, and_fits, value-term, value-start, value-port, shows_rest}
+use Rattle.cascade.proofs.Law.{Stands, Inputs, Built, built, and_of, and_fits, value-literal, value-term, value-start, value-port, shows_rest}
 use Rattle.cascade.proofs.GatesValid.{literal_below, literals_below, first_member, and_place_from}
 use Rattle.cascade.proofs.Law.{used_since, members_below}
 use Rattle.cascade.proofs.Ports.{length-outputs}
@@ -95,19 +95,15 @@ module _ (names : Names) (e : Terms) (fault : Option Fault) (p : ℕ) (x : Set) 
   pub plain : (i : ℕ) (gs : List Gate) → EachGate P i gs → Follows None v (lines e) i gs
   plain i gs h = EachGate-weaker P (Fits None v (lines e)) i gs (λ j g l k b. b.plain) h
 
-  pub plain_parts : Parts (lead names) e x v
-  plain_parts = record {
-    inputs = two.inputs;
-    inverted = plain 0 (inverters (lead names) e) two.parts.inverted;
-    control = plain (length (turned e)) (control_gates (lead names) e) two.parts.control;
-  }
+  pub plain_inputs : Inputs (lead names) e x v
+  plain_inputs = record { inputs = two.inputs; inverted = plain 0 (inverters (lead names) e) two.parts.inverted }
 
   -- the values without the fault
   pub plain_term : (t : Set) → Stands e t → inside t (first e.polarity.n) ≡ true → (t ≢ empty) → value_of v (term_signal e t) ≡ product e.polarity t x
-  plain_term t stands below some = value-term (lead names) e x v plain_parts t (λ wide. and_fits None (lead names) e v (plain (and_place e) (and_gates (lead names) e) two.parts.ands) t stands wide) stands below some
+  plain_term t stands below some = value-term (lead names) e x v (value-literal (lead names) e x v plain_inputs) t (λ wide. and_fits None (lead names) e v (plain (and_place e) (and_gates (lead names) e) two.parts.ands) t stands wide) stands below some
 
   pub plain_start : (o : ℕ) (ts : List Set) → slice_get e.outs o ≡ Some ts → value_of v (start e ts) ≡ differ (has_one ts) (has x e.polarity.n)
-  plain_start o ts there = value-start (lead names) e x v plain_parts o ts there
+  plain_start o ts there = value-start (lead names) e (has x e.polarity.n) v (two.inputs e.polarity.n (omega arith)) (plain (length (turned e)) (control_gates (lead names) e) two.parts.control) o ts there
 
   -- a term whose own gate is not the fault's shows the same
   pub term_kept : (t : Set) → length (turned e) ≤ p → Stands e t → inside t (first e.polarity.n) ≡ true → (t ≢ empty) → (is_wide t ≡ true → and_place e + place_of (wide_terms e) t ≢ p) → value_of w (term_signal e t) ≡ value_of v (term_signal e t)
