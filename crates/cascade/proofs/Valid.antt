@@ -87,7 +87,7 @@ length-gates k names e fits =
 
 -- ---- terms that stand
 
-terms_stand : (e : Terms) (ts : List Set) → ((t : Set) → list_any (λ u. eqb u t) ts ≡ true → Stands e t) → AllByRecursion (λ t. inside t (first e.polarity.n) ≡ true) ts → AllStand e ts
+pub terms_stand : (e : Terms) (ts : List Set) → ((t : Set) → list_any (λ u. eqb u t) ts ≡ true → Stands e t) → AllByRecursion (λ t. inside t (first e.polarity.n) ≡ true) ts → AllStand e ts
 terms_stand e [] up below = tt
 terms_stand e (t ∷ ts) up (h, hs) = ((up t (or_left _ _ (eq-eqb t t refl)), h), terms_stand e ts (λ u m. up u (or_right _ _ m)) hs)
 

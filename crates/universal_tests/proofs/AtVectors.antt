@@ -21,14 +21,14 @@ all_at p used v c = cond c (with (literals_at p used v) p.n) (literals_at p used
 
 -- ---- the control
 
-outside : (p : Signs) (used : Set) (v : Bool) → has (literals_at p used v) p.n ≡ false
+pub outside : (p : Signs) (used : Set) (v : Bool) → has (literals_at p used v) p.n ≡ false
 outside p used v = has-literals_at p used v p.n ∙ ap (λ b. b && (has used p.n && cond (has p.plain p.n) v (not v))) (le-ltb p.n p.n (omega arith))
 
 pub control-all_at : (p : Signs) (used : Set) (v c : Bool) → has (all_at p used v c) p.n ≡ c
 control-all_at p used v true = has-with (literals_at p used v) p.n p.n ∙ ap (λ b. b || has (literals_at p used v) p.n) (eq-eqb p.n p.n refl)
 control-all_at p used v false = outside p used v
 
-has-one_low : (p : Signs) (used : Set) (j k : ℕ) → has (one_low p used j) k ≡ differ (has (literals_at p used true) k) (eqb k j)
+pub has-one_low : (p : Signs) (used : Set) (j k : ℕ) → has (one_low p used j) k ≡ differ (has (literals_at p used true) k) (eqb k j)
 unfolding one_low
 has-one_low p used j k = has-xor (literals_at p used true) (with empty j) k ∙ ap (differ (has (literals_at p used true) k)) (has-with empty j k ∙ ap (λ b. eqb k j || b) (has-empty k) ∙ or_none (eqb k j))
   where
@@ -46,7 +46,7 @@ pub low_part : (p : Signs) (used : Set) (v c : Bool) (j : ℕ) → j < p.n → h
 low_part p used v true j l = has-with (literals_at p used v) p.n j ∙ ap (λ b. b || has (literals_at p used v) j) (ne_eqb j p.n (λ e. absurd (omega arith)))
 low_part p used v false j l = refl
 
-used_part : (p : Signs) (used : Set) (v : Bool) (j : ℕ) → j < p.n → has used j ≡ true → has (literals_at p used v) j ≡ cond (has p.plain j) v (not v)
+pub used_part : (p : Signs) (used : Set) (v : Bool) (j : ℕ) → j < p.n → has used j ≡ true → has (literals_at p used v) j ≡ cond (has p.plain j) v (not v)
 used_part p used v j l u = has-literals_at p used v j ∙ ap₂ (λ a b. a && (b && cond (has p.plain j) v (not v))) (lt-ltb j p.n l) u
 
 pub literal-all_at : (p : Signs) (used : Set) (v c : Bool) (j : ℕ) → j < p.n → has used j ≡ true → literal p j (all_at p used v c) ≡ v

@@ -103,10 +103,10 @@ value_kept e (t ∷ ts) c d (h, hs) =
     (value_kept e ts c d hs)
 
 module _ (names : Names) (e : Terms) (can : CanBuild names e) where
-  shown : (x : Set) (o : ℕ) (ts : List Set) → slice_get e.outs o ≡ Some ts → has (out (reddy_net names e) None x) o ≡ differ (has x e.polarity.n) (value e.polarity ts x)
+  pub shown : (x : Set) (o : ℕ) (ts : List Set) → slice_get e.outs o ≡ Some ts → has (out (reddy_net names e) None x) o ≡ differ (has x e.polarity.n) (value e.polarity ts x)
   shown = shows names e can.terms can.fits (valid names e can)
 
-  is_port : (o : ℕ) → o < length e.outs → o < length ((reddy_net names e).outputs)
+  pub is_port : (o : ℕ) → o < length e.outs → o < length ((reddy_net names e).outputs)
   is_port o l = omega (arith, l, length-outputs names e)
 
   -- ---- ports

@@ -8,3 +8,5 @@ pub mod ControlFaults
 pub mod ChainFaults
 pub mod Whole
 pub mod CodeLemmas
+pub mod OddInputs
+pub mod OddInverters
