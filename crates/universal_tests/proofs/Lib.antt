@@ -10,3 +10,4 @@ pub mod Whole
 pub mod CodeLemmas
 pub mod OddInputs
 pub mod OddInverters
+pub mod Literals

@@ -34,7 +34,7 @@ use Rattle.universal_tests.proofs.OddInputs.{own_at, control-own_at, literal-own
 use Rattle.universal_tests.proofs.Turns.{chain_after, stands_at, all_inside}
 use Rattle.universal_tests.proofs.TwoRuns.{Both, TwoRuns, two_runs, outputs_are, faulty, faulty_port}
 
-turned_apart : (e : Terms) → Distinct (turned e)
+pub turned_apart : (e : Terms) → Distinct (turned e)
 unfolding turned
 turned_apart e = Distinct-from_AllPairs _ (AllPairs-filter (λ x y. x ≢ y) _ (range_with_len 0 e.polarity.n) (λ i k d l h same. increasing i k d l (omega (arith, h, length-range_with_len 0 e.polarity.n)) same))
   where

@@ -39,7 +39,7 @@ use Rattle.universal_tests.proofs.TwoRuns.{inputs_are, gates_are}
 
 -- ---- what gate stands in a place
 
-data Part (e : Terms) (p : ℕ) : Type 0 where
+pub data Part (e : Terms) (p : ℕ) : Type 0 where
   of_literal : p < length (turned e) → Part e p
   of_control : list_any has_one e.outs ≡ true → p ≡ length (turned e) → Part e p
   of_and : OfTerm e p → Part e p
@@ -53,7 +53,7 @@ before_ands e p low high = by_one (list_any has_one e.outs) refl high
     by_one true e1 l = (e1, omega arith)
     by_one false e1 l = absurd (omega arith)
 
-part_of : (names : Names) (e : Terms) → CanBuild names e → (p : ℕ) → p < length ((reddy_net names e).gates) → Part e p
+pub part_of : (names : Names) (e : Terms) → CanBuild names e → (p : ℕ) → p < length ((reddy_net names e).gates) → Part e p
 part_of names e can p l =
     let within : p < chain_place e + (all_inner e.outs + length e.outs) = omega (arith, l, ap length (gates_are names e), length-gates (lead names) names e can.fits, can.fits.outputs) in
     elim (cases_lt p (length (turned e))) [
@@ -94,13 +94,25 @@ module _ (names : Names) (e : Terms) (can : CanBuild names e) where
   sitting = built Sits (lead names) names e (subst (EachGate Sits 0) (gates_are names e) (EachGate-from_get Sits 0 ((reddy_net names e).gates) (λ j g there. subst (λ i. slice_get ((reddy_net names e).gates) i ≡ Some g) (sym (zero-add j)) there)))
 
   -- the gates of the first part are inverters of source inputs
-  inverts : (p : ℕ) → p < length (turned e) → (j : ℕ) × (j < e.polarity.n) × IsInverterOf (reddy_net names e) p j
+  pub inverts : (p : ℕ) → p < length (turned e) → (get_or (turned e) p 0 < e.polarity.n) × IsInverterOf (reddy_net names e) p (get_or (turned e) p 0)
   unfolding Sits
   inverts p l =
       let j : ℕ = get_or (turned e) p 0 in
       let name : List ℕ = inner (lead names) (codes "i" ++ decimal (suc j)) in
       let sits = gates_at Sits 0 0 (λ i j. inverter (inner (lead names) (codes "i" ++ decimal (suc j))) j) (turned e) sitting.inverted p l in
-      (j, All-from_recursion _ (turned e) (turned_sources e) p 0 l, (name, subst (λ i. slice_get ((reddy_net names e).gates) i ≡ Some (inverter name j)) (zero-add p) sits))
+      (All-from_recursion _ (turned e) (turned_sources e) p 0 l, (name, subst (λ i. slice_get ((reddy_net names e).gates) i ≡ Some (inverter name j)) (zero-add p) sits))
+
+  -- a gate at the place of the control's inverter, of an AND gate
+  pub is_control : (gate : Gate) → list_any has_one e.outs ≡ true → slice_get ((reddy_net names e).gates) (length (turned e)) ≡ Some gate → gate ≡ inverter (inner (lead names) (codes "m")) e.polarity.n
+  unfolding Sits
+  is_control gate some there = same_Some _ _ (sym there ∙ control_gate Sits (lead names) e some sitting.control)
+
+  pub is_and : (p : ℕ) (of : OfTerm e p) (gate : Gate) → slice_get ((reddy_net names e).gates) p ≡ Some gate → length gate.pins ≡ length (members of.t)
+  unfolding Sits
+  is_and p of gate there =
+      let sits = EachGate-gates_for Sits (and_place e) 0 (and_of (lead names) e) (wide_terms e) sitting.ands of.t of.listed in
+      let same : gate ≡ and_of (lead names) e (0 + place_of (wide_terms e) of.t) of.t = same_Some _ _ (sym there ∙ ap (slice_get ((reddy_net names e).gates)) of.place ∙ sits) in
+      ap (λ (g : Gate). length g.pins) same ∙ length-map (members of.t) (literal_signal e)
 
   abbrev Told : Place → Bool → Type 0
   Told place u = IsDetected (reddy_net names e) (universal_vectors e.polarity (used_inputs e)) (record { place = place; value = u })
@@ -112,30 +124,25 @@ module _ (names : Names) (e : Terms) (can : CanBuild names e) where
   gate_stem p u few apart = by_part (part_of names e can p few)
     where
       by_part : Part e p → Told (Stem (lines e + p)) u
-      by_part (of_literal l) = let i = inverts p l in absurd (apart i.0 i.1 (inr (p, ap (λ m. m + p) (sym (inputs_are names e can)), i.2)))
+      by_part (of_literal l) = let i = inverts p l in absurd (apart (get_or (turned e) p 0) i.0 (inr (p, ap (λ m. m + p) (sym (inputs_are names e can)), i.1)))
       by_part (of_control some is) = rw is (inverter_stem names e can some (omega arith) u)
       by_part (of_and of) = and_stem names e can p of u few
       by_part (of_output of) = chain_stem names e can p of u few
 
   gate_pin : (p q : ℕ) (u : Bool) (gate : Gate) → slice_get ((reddy_net names e).gates) p ≡ Some gate → q < length gate.pins → Apart (Pin p q) → Told (Pin p q) u
-  unfolding Sits
   gate_pin p q u gate there within apart = by_part (part_of names e can p few)
     where
       few : p < length ((reddy_net names e).gates)
       few = slice_get_within ((reddy_net names e).gates) p gate there
 
       by_part : Part e p → Told (Pin p q) u
-      by_part (of_literal l) = let i = inverts p l in absurd (apart i.0 i.1 i.2)
+      by_part (of_literal l) = let i = inverts p l in absurd (apart (get_or (turned e) p 0) i.0 i.1)
       by_part (of_control some is) =
-          let sits = control_gate Sits (lead names) e some sitting.control in
-          let same : gate ≡ inverter (inner (lead names) (codes "m")) e.polarity.n = same_Some _ _ (sym there ∙ ap (slice_get ((reddy_net names e).gates)) is ∙ sits) in
+          let same = is_control gate some (ap (slice_get ((reddy_net names e).gates)) (sym is) ∙ there) in
           let first : q ≡ 0 = omega (arith, within, ap (λ (g : Gate). length g.pins) same) in
           let l : length (turned e) < length ((reddy_net names e).gates) = omega (arith, is, few) in
           rw (is, first) (inverter_pin names e can some l u)
-      by_part (of_and of) =
-          let sits = EachGate-gates_for Sits (and_place e) 0 (and_of (lead names) e) (wide_terms e) sitting.ands of.t of.listed in
-          let same : gate ≡ and_of (lead names) e (0 + place_of (wide_terms e) of.t) of.t = same_Some _ _ (sym there ∙ ap (slice_get ((reddy_net names e).gates)) of.place ∙ sits) in
-          and_pin names e can p of q u (omega (arith, within, ap (λ (g : Gate). length g.pins) same, length-map (members of.t) (literal_signal e))) few
+      by_part (of_and of) = and_pin names e can p of q u (omega (arith, within, is_and p of gate there)) few
       by_part (of_output of) = chain_pin names e can p of q gate there within u few
 
   signal_stem : (s : ℕ) (u : Bool) → s < lines e + length ((reddy_net names e).gates) → Apart (Stem s) → Told (Stem s) u
