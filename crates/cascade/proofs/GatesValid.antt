@@ -58,7 +58,7 @@ first_of_some (m ∷ ms) some = or_left _ _ (eq-eqb m m refl)
 pub first_member : (t : Set) → (t ≢ empty) → has t (slice_index (members t) 0) ≡ true
 first_member t some = sym (members-has t (slice_index (members t) 0)) ∙ first_of_some (members t) (λ none. some (no_members t none))
 
-each_member : (P : ℕ → Type 0) (ms : List ℕ) → ((j : ℕ) → list_any (λ m. eqb m j) ms ≡ true → P j) → AllByRecursion P ms
+pub each_member : (P : ℕ → Type 0) (ms : List ℕ) → ((j : ℕ) → list_any (λ m. eqb m j) ms ≡ true → P j) → AllByRecursion P ms
 each_member P [] h = tt
 each_member P (m ∷ ms) h = (h m (or_left _ _ (eq-eqb m m refl)), each_member P ms (λ j a. h j (or_right _ _ a)))
 

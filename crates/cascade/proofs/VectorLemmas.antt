@@ -1,9 +1,9 @@
 -- The first vectors, as sets are put together.
-use Rattle.std.proofs.Common.{◌≡◌, ◌≢◌, ℕ, Bool, true, false, not, ◌&&◌, ◌||◌, cond, inl, inr, List, [], ◌∷◌, ◌++◌, refl, sym, ap, ap₂, ◌∙◌, eqb, eqb-true, eq-eqb, ne_eqb, ltb, append-nil}
+use Rattle.std.proofs.Common.{◌≡◌, ◌≢◌, ℕ, ◌≤◌, Bool, true, false, not, ◌&&◌, ◌||◌, cond, inl, inr, List, [], ◌∷◌, ◌++◌, length, refl, sym, ap, ap₂, ◌∙◌, eqb, eqb-true, eq-eqb, ne_eqb, ltb, append-nil, arith}
 use Rattle.std.specs.Prelude.{filter}
-use Rattle.std.specs.List.{list_any}
+use Rattle.std.specs.List.{list_any, AllByRecursion}
 use Rattle.std.proofs.lemmas.Bool.{cases_Bool, false≢true}
-use Rattle.std.proofs.lemmas.List.Elements.{filter-append, filter_passes, recursion_from_All}
+use Rattle.std.proofs.lemmas.List.Elements.{All-filter, All-from_recursion, filter-append, filter_passes, recursion_from_All}
 use Rattle.std.proofs.lemmas.List.Kept.{AllPairs-filter}
 use Rattle.ae_base.specs.Mask.{Set, differ, has, both, xor}
 use Rattle.ae_base.specs.Cube.{Signs}
@@ -11,7 +11,7 @@ use Rattle.ae_base.proofs.Sets.{same_set, has-both, has-xor, has-where_below}
 use Rattle.ae_net.proofs.Distinct.{Distinct, AllPairs-from_Distinct, Distinct-from_AllPairs, each_weaker}
 use Rattle.expansion.specs.Terms.{Terms, is_used, used_inputs}
 use Rattle.cascade.specs.FirstVectors.{literals_at, without_repeats}
-use Rattle.cascade.proofs.Lists.{filter_all}
+use Rattle.cascade.proofs.Lists.{filter_all, length_filter_le}
 
 -- an input has its value, all the used ones being below n
 pub has-used : (e : Terms) (k : ℕ) → has (used_inputs e) k ≡ (ltb k e.polarity.n && is_used e k)
@@ -101,6 +101,14 @@ once_kept (x ∷ xs) (new, d) = ap (λ ys. x ∷ others x ys) (once_kept xs d) �
 
 pub once_again : (xs : List Set) → without_repeats (without_repeats xs) ≡ without_repeats xs
 once_again xs = once_kept (without_repeats xs) (once_apart xs)
+
+pub each_once : (P : Set → Type 0) (xs : List Set) → AllByRecursion P xs → AllByRecursion P (without_repeats xs)
+each_once P [] h = tt
+each_once P (x ∷ xs) (h, hs) = (h, recursion_from_All P _ (All-filter (λ y. not (eqb y x)) P (without_repeats xs) (All-from_recursion P _ (each_once P xs hs))))
+
+pub length_once_le : (xs : List Set) → length (without_repeats xs) ≤ length xs
+length_once_le [] = omega arith
+length_once_le (x ∷ xs) = omega (arith, length_filter_le (λ y. not (eqb y x)) (without_repeats xs), length_once_le xs)
 
 -- ---- the first four
 

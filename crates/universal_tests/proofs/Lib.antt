@@ -11,3 +11,4 @@ pub mod CodeLemmas
 pub mod OddInputs
 pub mod OddInverters
 pub mod Literals
+pub mod Small
