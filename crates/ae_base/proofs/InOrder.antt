@@ -26,7 +26,7 @@ pairs_from_neighbours R tr (x ∷ y ∷ xs) h =
 pub in_order-neighbours : (ts : List Set) → ((k : ℕ) (d : Set) → k + 1 < length ts → cmp_terms (get_or ts k d) (get_or ts (k + 1) d) ≡ Less) → IsInOrder ts
 in_order-neighbours = pairs_from_neighbours (λ s t. cmp_terms s t ≡ Less) less_trans
 
-less_from_sorted : (s t : Set) → is_lt (cmp_terms t s) ≡ false → s ≢ t → cmp_terms s t ≡ Less
+pub less_from_sorted : (s t : Set) → is_lt (cmp_terms t s) ≡ false → s ≢ t → cmp_terms s t ≡ Less
 less_from_sorted s t h ne = by_order (cmp_terms s t) refl
   where
     by_order : (o : Ordering) → cmp_terms s t ≡ o → cmp_terms s t ≡ Less

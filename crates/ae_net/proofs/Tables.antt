@@ -1,8 +1,8 @@
 -- What each kind of gate computes, with a fault or without.
-use Rattle.std.proofs.Common.{◌≡◌, ℕ, zero, suc, ◌+◌, ◌<◌, Bool, true, false, not, ◌&&◌, ◌||◌, List, [], ◌∷◌, length, refl, sym, ap, ap₂, ◌∙◌, arith}
+use Rattle.std.proofs.Common.{◌≡◌, ℕ, zero, suc, ◌+◌, ◌<◌, Bool, true, false, not, ◌&&◌, ◌||◌, inl, inr, List, [], ◌∷◌, length, refl, sym, ap, ap₂, ◌∙◌, arith}
 use Rattle.std.specs.Prelude.{Option, None, slice_index}
 use Rattle.std.specs.List.{list_all}
-use Rattle.std.proofs.lemmas.Bool.{and_parts, and_from, lt-ltb, ltb-true}
+use Rattle.std.proofs.lemmas.Bool.{and_parts, and_from, cases_Bool, false≢true, lt-ltb, ltb-true}
 use Rattle.ae_base.specs.Mask.{Set, differ, has, where_below}
 use Rattle.ae_base.proofs.Sets.{has-first, has-where_below, inside-has, has-inside}
 use Rattle.ae_net.specs.declared.net.Place.TheVariants.{Pin}
@@ -49,13 +49,13 @@ unfoldable pub all_see : Option Fault → List Bool → ℕ → ℕ → List ℕ
 all_see fault w i q [] = true
 all_see fault w i q (s ∷ ss) = sees fault w i q s && all_see fault w i (suc q) ss
 
-all_from : (fault : Option Fault) (w : List Bool) (i q : ℕ) (ss : List ℕ) → all_see fault w i q ss ≡ true → (k : ℕ) → k < length ss → sees fault w i (q + k) (slice_index ss k) ≡ true
+pub all_from : (fault : Option Fault) (w : List Bool) (i q : ℕ) (ss : List ℕ) → all_see fault w i q ss ≡ true → (k : ℕ) → k < length ss → sees fault w i (q + k) (slice_index ss k) ≡ true
 unfolding all_see
 all_from fault w i q [] h k l = absurd (omega (arith, l))
 all_from fault w i q (s ∷ ss) h zero l = let z : q + 0 ≡ q = omega arith in rw z ((and_parts _ _ h).0)
 all_from fault w i q (s ∷ ss) h (suc k) l = let z : q + suc k ≡ suc q + k = omega arith in rw z (all_from fault w i (suc q) ss ((and_parts _ _ h).1) k (omega (arith, l)))
 
-all_to : (fault : Option Fault) (w : List Bool) (i q : ℕ) (ss : List ℕ) → ((k : ℕ) → k < length ss → sees fault w i (q + k) (slice_index ss k) ≡ true) → all_see fault w i q ss ≡ true
+pub all_to : (fault : Option Fault) (w : List Bool) (i q : ℕ) (ss : List ℕ) → ((k : ℕ) → k < length ss → sees fault w i (q + k) (slice_index ss k) ≡ true) → all_see fault w i q ss ≡ true
 unfolding all_see
 all_to fault w i q [] h = refl
 all_to fault w i q (s ∷ ss) h =
@@ -78,3 +78,7 @@ pub all_see-none : (w : List Bool) (i q : ℕ) (ss : List ℕ) → all_see None 
 unfolding all_see
 all_see-none w i q [] = refl
 all_see-none w i q (s ∷ ss) = ap (λ b. value_of w s && b) (all_see-none w i (suc q) ss)
+
+-- one pin that sees 0
+pub all_see-false : (fault : Option Fault) (w : List Bool) (i : ℕ) (ss : List ℕ) (k : ℕ) → k < length ss → sees fault w i k (slice_index ss k) ≡ false → all_see fault w i 0 ss ≡ false
+all_see-false fault w i ss k l h = elim (cases_Bool (all_see fault w i 0 ss)) [ inl all ↦ let z : 0 + k ≡ k = omega arith in absurd (false≢true (sym h ∙ (rw z at (all_from fault w i 0 ss all k l)))) | inr e ↦ e ]

@@ -1,11 +1,11 @@
 -- The gates of the Reddy network are gates: their pins are earlier signals, and their rows hold positions of pins.
 use Rattle.std.proofs.Common.{◌≡◌, ◌≢◌, ℕ, zero, suc, ◌+◌, ◌-◌, ◌<◌, ◌≤◌, ◌^◌, Bool, true, false, cond, inl, inr, List, [], ◌∷◌, ◌++◌, length, map, refl, sym, ap, ◌∙◌, arith, eqb, eq-eqb, ne_eqb}
-use Rattle.std.specs.Prelude.{slice_index, filter, codes}
+use Rattle.std.specs.Prelude.{slice_index, filter, codes, All}
 use Rattle.std.specs.List.{list_any, range_with_len, AllByRecursion}
 use Rattle.std.specs.Fmt.{decimal}
 use Rattle.std.proofs.lemmas.Bool.{cases_eq, cases_Bool, false≢true}
 use Rattle.std.proofs.lemmas.List.{length-map}
-use Rattle.std.proofs.lemmas.List.Elements.{All-from_recursion, All-map}
+use Rattle.std.proofs.lemmas.List.Elements.{All-from_recursion, All-map, All-weaker}
 use Rattle.ae_base.specs.Mask.{Set, has, empty, first, inside, members}
 use Rattle.ae_base.proofs.Members.{members-has, members-filter}
 use Rattle.std.proofs.lemmas.List.FromFn.{length-range_with_len}
@@ -39,7 +39,7 @@ place_below (y ∷ ys) x h =
       | inr ne ↦ rw (ne_eqb y x ne) (omega (arith, place_below ys x (rw (ne_eqb y x ne) at h)))
     ]
 
-literal_below : (e : Terms) (j : ℕ) → j < e.polarity.n → is_used e j ≡ true → literal_signal e j < lines e + length (turned e)
+pub literal_below : (e : Terms) (j : ℕ) → j < e.polarity.n → is_used e j ≡ true → literal_signal e j < lines e + length (turned e)
 unfolding literal_signal
 literal_below e j l used = by_sign (has e.polarity.plain j) refl
   where
@@ -55,10 +55,10 @@ first_of_some : (ms : List ℕ) → (ms ≢ []) → list_any (λ m. eqb m (slice
 first_of_some [] some = absurd (some refl)
 first_of_some (m ∷ ms) some = or_left _ _ (eq-eqb m m refl)
 
-first_member : (t : Set) → (t ≢ empty) → has t (slice_index (members t) 0) ≡ true
+pub first_member : (t : Set) → (t ≢ empty) → has t (slice_index (members t) 0) ≡ true
 first_member t some = sym (members-has t (slice_index (members t) 0)) ∙ first_of_some (members t) (λ none. some (no_members t none))
 
-each_member : (P : ℕ → Type 0) (ms : List ℕ) → ((j : ℕ) → list_any (λ m. eqb m j) ms ≡ true → P j) → AllByRecursion P ms
+pub each_member : (P : ℕ → Type 0) (ms : List ℕ) → ((j : ℕ) → list_any (λ m. eqb m j) ms ≡ true → P j) → AllByRecursion P ms
 each_member P [] h = tt
 each_member P (m ∷ ms) h = (h m (or_left _ _ (eq-eqb m m refl)), each_member P ms (λ j a. h j (or_right _ _ a)))
 
@@ -69,12 +69,17 @@ length-members n t below = omega (arith, ap length (members-filter n t below), l
 abbrev pub AllStand : Terms → List Set → Type 0
 AllStand e ts = AllByRecursion (λ t. Stands e t × (inside t (first e.polarity.n) ≡ true)) ts
 
+-- the literals of a term are inputs and their inverters
+pub literals_below : (e : Terms) (t : Set) → Stands e t → inside t (first e.polarity.n) ≡ true → All (λ pin. pin < lines e + length (turned e)) (map (literal_signal e) (members t))
+literals_below e t stands below =
+    All-map (λ pin. pin < lines e + length (turned e)) (literal_signal e) (members t) (All-from_recursion _ (members t) (each_member (λ j. literal_signal e j < lines e + length (turned e)) (members t) (λ j m.
+    let h : has t j ≡ true = sym (members-has t j) ∙ m in
+    literal_below e j (members_below e.polarity.n t below j h) (used_since e t j stands h))))
+
 IsGate-term : (s : ℕ) (e : Terms) (out : List ℕ) (t : Set) → is_name out ≡ true → e.polarity.n ≤ NET_LINES → lines e + and_place e ≤ s → Stands e t → inside t (first e.polarity.n) ≡ true → IsGate s (and_gate out (map (literal_signal e) (members t)))
 IsGate-term s e out t named few low stands below =
     IsGate-and s out _ named
-    (All-map (λ pin. pin < s) (literal_signal e) (members t) (All-from_recursion _ (members t) (each_member (λ j. literal_signal e j < s) (members t) (λ j m.
-    let h : has t j ≡ true = sym (members-has t j) ∙ m in
-    omega (arith, literal_below e j (members_below e.polarity.n t below j h) (used_since e t j stands h), and_place_from e)))))
+    (All-weaker (λ pin. pin < lines e + length (turned e)) (λ pin. pin < s) (λ pin l. omega (arith, and_place_from e)) _ (literals_below e t stands below))
     (omega (arith, length-map (members t) (literal_signal e), length-members e.polarity.n t below))
 
 -- ---- the parts of the network

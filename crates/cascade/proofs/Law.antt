@@ -24,10 +24,11 @@ use Rattle.ae_net.specs.Gates.{and_gate}
 use Rattle.expansion.specs.Terms.{is_used}
 use Rattle.cascade.specs.Reddy.{place_of, gates_for, lines, turned, literal_signal, inverters, has_one, control_gates, start, is_wide, wide_terms, and_place, chain_place, term_signal, and_gates, chain, links, rest, inner_gates, chains, ends, gates, reddy_net}
 use Rattle.cascade.specs.Shows.{Fits as FitsNames}
-use Rattle.ae_net.proofs.Follow.{Fits, Follows, Follows-run, Follows-append}
+use Rattle.ae_net.proofs.Distinct.{each_weaker}
+use Rattle.ae_net.proofs.Follow.{EachGate, EachGate-append, Fits, Follows, Follows-run}
 use Rattle.ae_net.proofs.Tables.{table-inverter, table-and, all_see-none}
-use Rattle.cascade.proofs.Lists.{or_left, or_right, any_weaker, any_flat, any_at, any_kept, any_range, any-in_order, list_all_agree}
-use Rattle.cascade.proofs.Values.{Fits-gates_for, Shows, value-chain}
+use Rattle.cascade.proofs.Lists.{or_left, or_right, any_weaker, any_flat, any_at, any_kept, any_range, any-in_order, list_all_agree, filter_all}
+use Rattle.cascade.proofs.Values.{EachGate-gates_for, Shows, value-chain}
 
 -- some output has the term
 abbrev pub Stands : Terms → Set → Type 0
@@ -62,11 +63,10 @@ narrow_all f (j ∷ k ∷ ms) l some = absurd (omega (arith, l))
 
 -- ---- the values of a run without a fault
 
--- the parts of the network in a run
-pub record Parts (k : ℕ) (e : Terms) (x : Set) (w : List Bool) : Type 0 where
+-- the inputs and their inverters in a run
+pub record Inputs (k : ℕ) (e : Terms) (x : Set) (w : List Bool) : Type 0 where
   pub inputs : (j : ℕ) → j < lines e → value_of w j ≡ has x j
   pub inverted : Follows None w (lines e) 0 (inverters k e)
-  pub control : Follows None w (lines e) (length (turned e)) (control_gates k e)
 
 -- the AND gate of a term
 abbrev pub and_of : ℕ → Terms → ℕ → Set → Gate
@@ -76,14 +76,14 @@ and_of k e i t = and_gate (inner k (codes "t" ++ decimal (suc i))) (map (literal
 abbrev pub FitsAnd : ℕ → Terms → List Bool → Set → Type 0
 FitsAnd k e w t = is_wide t ≡ true → Fits None w (lines e) (and_place e + place_of (wide_terms e) t) (and_of k e (place_of (wide_terms e) t) t)
 
-value-literal : (k : ℕ) (e : Terms) (x : Set) (w : List Bool) → Parts k e x w → (j : ℕ) → j < e.polarity.n → is_used e j ≡ true → value_of w (literal_signal e j) ≡ literal e.polarity j x
+pub value-literal : (k : ℕ) (e : Terms) (x : Set) (w : List Bool) → Inputs k e x w → (j : ℕ) → j < e.polarity.n → is_used e j ≡ true → value_of w (literal_signal e j) ≡ literal e.polarity j x
 unfolding literal_signal
 value-literal k e x w parts j l used = by_sign (has e.polarity.plain j) refl
   where
     by_sign : (b : Bool) → has e.polarity.plain j ≡ b → value_of w (cond b j (lines e + place_of (turned e) j)) ≡ cond b (has x j) (not (has x j))
     by_sign true p = parts.inputs j (omega arith)
     by_sign false p =
-        rw (zero-add (place_of (turned e) j)) at (Fits-gates_for None w (lines e) 0 0 _ (turned e) parts.inverted j (turned_stands e j l used p))
+        rw (zero-add (place_of (turned e) j)) at (EachGate-gates_for (Fits None w (lines e)) 0 0 _ (turned e) parts.inverted j (turned_stands e j l used p))
         ∙ table-inverter None w (place_of (turned e) j) _ j
         ∙ ap not (parts.inputs j (omega arith))
 
@@ -94,21 +94,23 @@ pub and_fits : (fault : Option Fault) (k : ℕ) (e : Terms) (w : List Bool) → 
     → Fits fault w (lines e) (and_place e + place_of (wide_terms e) t) (and_of k e (place_of (wide_terms e) t) t)
 and_fits fault k e w h t stands wide =
     subst (λ i. Fits fault w (lines e) (and_place e + place_of (wide_terms e) t) (and_of k e i t)) (zero-add (place_of (wide_terms e) t))
-    (Fits-gates_for fault w (lines e) (and_place e) 0 (and_of k e) (wide_terms e) h t (wide_stands e t stands wide))
+    (EachGate-gates_for (Fits fault w (lines e)) (and_place e) 0 (and_of k e) (wide_terms e) h t (wide_stands e t stands wide))
 
--- each literal of a term shows its value
-value-literals : (k : ℕ) (e : Terms) (x : Set) (w : List Bool) → Parts k e x w → (t : Set) → Stands e t → inside t (first e.polarity.n) ≡ true
-    → list_all (λ j. value_of w (literal_signal e j)) (members t) ≡ product e.polarity t x
+-- each literal shows its value at the point
+abbrev pub Literals : Terms → Set → List Bool → Type 0
+Literals e x w = (j : ℕ) → j < e.polarity.n → is_used e j ≡ true → value_of w (literal_signal e j) ≡ literal e.polarity j x
+
+value-literals : (e : Terms) (x : Set) (w : List Bool) → Literals e x w → (t : Set) → Stands e t → inside t (first e.polarity.n) ≡ true → list_all (λ j. value_of w (literal_signal e j)) (members t) ≡ product e.polarity t x
 unfolding product
-value-literals k e x w parts t stands below =
+value-literals e x w literals t stands below =
     list_all_agree _ _ (members t) (λ j m.
     let h : has t j ≡ true = sym (members-has t j) ∙ m in
-    value-literal k e x w parts j (members_below e.polarity.n t below j h) (used_since e t j stands h))
+    literals j (members_below e.polarity.n t below j h) (used_since e t j stands h))
 
-pub value-term : (k : ℕ) (e : Terms) (x : Set) (w : List Bool) → Parts k e x w → (t : Set) → FitsAnd k e w t → Stands e t → inside t (first e.polarity.n) ≡ true → (t ≢ empty)
+pub value-term : (k : ℕ) (e : Terms) (x : Set) (w : List Bool) → Literals e x w → (t : Set) → FitsAnd k e w t → Stands e t → inside t (first e.polarity.n) ≡ true → (t ≢ empty)
     → value_of w (term_signal e t) ≡ product e.polarity t x
 unfolding term_signal len
-value-term k e x w parts t fits stands below some = by_width (is_wide t) refl
+value-term k e x w literals t fits stands below some = by_width (is_wide t) refl
   where
     by_width : (b : Bool) → is_wide t ≡ b → value_of w (cond b (lines e + (and_place e + place_of (wide_terms e) t)) (literal_signal e (slice_index (members t) 0))) ≡ product e.polarity t x
     by_width true wide =
@@ -116,20 +118,25 @@ value-term k e x w parts t fits stands below some = by_width (is_wide t) refl
         ∙ table-and None w (and_place e + place_of (wide_terms e) t) _ (map (literal_signal e) (members t))
         ∙ all_see-none w (and_place e + place_of (wide_terms e) t) 0 (map (literal_signal e) (members t))
         ∙ list_all-map (λ s. value_of w s) (literal_signal e) (members t)
-        ∙ value-literals k e x w parts t stands below
+        ∙ value-literals e x w literals t stands below
     by_width false narrow =
         narrow_all (λ j. value_of w (literal_signal e j)) (members t) (ltb-false 1 (len t) narrow) (λ none. some (no_members t none))
-        ∙ value-literals k e x w parts t stands below
+        ∙ value-literals e x w literals t stands below
 
--- so does each term of a list but the empty one
+-- what holds of each term that stands and is not empty holds of the terms of a list but the empty one
+pub each_rest : (e : Terms) (Q : Set → Type 0) → ((t : Set) → Stands e t → inside t (first e.polarity.n) ≡ true → (t ≢ empty) → Q t)
+    → (ts : List Set) → ((t : Set) → list_any (λ u. eqb u t) ts ≡ true → Stands e t) → AllByRecursion (λ t. inside t (first e.polarity.n) ≡ true) ts → AllByRecursion Q (rest ts)
+each_rest e Q each [] stand below = tt
+each_rest e Q each (t ∷ ts) stand (here, below) =
+    elim (cases_eq t empty) [
+      | inl e0 ↦ rw (eq-eqb t empty e0) (each_rest e Q each ts (λ u m. stand u (or_right _ _ m)) below)
+      | inr some ↦ rw (ne_eqb t empty some) (each t (stand t (or_left _ _ (eq-eqb t t refl))) here some, each_rest e Q each ts (λ u m. stand u (or_right _ _ m)) below)
+    ]
+
+-- so these show what they show
 pub shows_rest : (e : Terms) (w : List Bool) (f : Set → Bool) → ((t : Set) → Stands e t → inside t (first e.polarity.n) ≡ true → (t ≢ empty) → value_of w (term_signal e t) ≡ f t)
     → (ts : List Set) → ((t : Set) → list_any (λ u. eqb u t) ts ≡ true → Stands e t) → AllByRecursion (λ t. inside t (first e.polarity.n) ≡ true) ts → Shows e w f (rest ts)
-shows_rest e w f each [] stand below = tt
-shows_rest e w f each (t ∷ ts) stand (here, below) =
-    elim (cases_eq t empty) [
-      | inl e0 ↦ rw (eq-eqb t empty e0) (shows_rest e w f each ts (λ u m. stand u (or_right _ _ m)) below)
-      | inr some ↦ rw (ne_eqb t empty some) (each t (stand t (or_left _ _ (eq-eqb t t refl))) here some, shows_rest e w f each ts (λ u m. stand u (or_right _ _ m)) below)
-    ]
+shows_rest e w f each ts stand below = each_rest e (λ t. value_of w (term_signal e t) ≡ f t) each ts stand below
 
 -- ---- the empty term
 
@@ -143,8 +150,7 @@ product-empty e x = none_all (λ j. literal e.polarity j x) (members empty) (sym
 
 -- terms that are not empty stay
 rest_all : (ts : List Set) → AllByRecursion (λ t. t ≢ empty) ts → rest ts ≡ ts
-rest_all [] h = refl
-rest_all (t ∷ ts) (h, hs) = rw (ne_eqb t empty h) (ap (λ us. t ∷ us) (rest_all ts hs))
+rest_all ts h = filter_all (λ t. not (eqb t empty)) ts (each_weaker (λ t. t ≢ empty) (λ t. not (eqb t empty) ≡ true) (λ t some. ap not (ne_eqb t empty some)) ts h)
 
 no_one : (ts : List Set) → AllByRecursion (λ t. t ≢ empty) ts → has_one ts ≡ false
 no_one [] h = refl
@@ -177,15 +183,15 @@ value-rest e x (t ∷ ts) order =
 
 -- ---- the start of a chain
 
-pub value-start : (k : ℕ) (e : Terms) (x : Set) (w : List Bool) → Parts k e x w → (o : ℕ) (ts : List Set) → slice_get e.outs o ≡ Some ts → value_of w (start e ts) ≡ differ (has_one ts) (has x e.polarity.n)
-unfolding start control_gates Follows
-value-start k e x w parts o ts there = by_one (has_one ts) refl
+pub value-start : (k : ℕ) (e : Terms) (c : Bool) (w : List Bool) → value_of w e.polarity.n ≡ c → Follows None w (lines e) (length (turned e)) (control_gates k e) → (o : ℕ) (ts : List Set) → slice_get e.outs o ≡ Some ts → value_of w (start e ts) ≡ differ (has_one ts) c
+unfolding start control_gates EachGate
+value-start k e c w control inverted o ts there = by_one (has_one ts) refl
   where
-    by_one : (b : Bool) → has_one ts ≡ b → value_of w (cond b (lines e + length (turned e)) e.polarity.n) ≡ differ b (has x e.polarity.n)
+    by_one : (b : Bool) → has_one ts ≡ b → value_of w (cond b (lines e + length (turned e)) e.polarity.n) ≡ differ b c
     by_one true one =
-        let gate = rw (any_at has_one e.outs o ts there one) at parts.control in
-        gate.0 ∙ table-inverter None w (length (turned e)) _ e.polarity.n ∙ ap not (parts.inputs e.polarity.n (omega arith))
-    by_one false none = parts.inputs e.polarity.n (omega arith)
+        let gate = rw (any_at has_one e.outs o ts there one) at inverted in
+        gate.0 ∙ table-inverter None w (length (turned e)) _ e.polarity.n ∙ ap not control
+    by_one false none = control
 
 -- ---- the outputs
 
@@ -203,10 +209,10 @@ value-port k e w f c i [] outs h same o ts there shows = cc
 value-port k e w f c i (us ∷ tss) [] h same o ts there shows = absurd (omega (arith, same))
 value-port k e w f c i (us ∷ tss) (out ∷ outs) h same zero ts there shows =
     let e0 : us ≡ ts = cc in
-    let parts = Follows-append None w (lines e) i (chain k e out c i (start e us) (rest us)) _ h in
+    let parts = EachGate-append (Fits None w (lines e)) i (chain k e out c i (start e us) (rest us)) _ h in
     rw e0 (value-chain k e w f out c i (start e ts) (rest ts) (rw e0 at parts.0) shows)
 value-port k e w f c i (us ∷ tss) (out ∷ outs) h same (suc o) ts there shows =
-    let parts = Follows-append None w (lines e) i (chain k e out c i (start e us) (rest us)) _ h in
+    let parts = EachGate-append (Fits None w (lines e)) i (chain k e out c i (start e us) (rest us)) _ h in
     let z : i + length (chain k e out c i (start e us) (rest us)) ≡ suc (i + inner_gates us) = omega (arith, length-chain k e out c i (start e us) (rest us)) in
     value-port k e w f (c + inner_gates us) (suc (i + inner_gates us)) tss outs (subst (λ p. Follows None w (lines e) p (chains k e (c + inner_gates us) (suc (i + inner_gates us)) tss outs)) z parts.1) (omega (arith, same)) o ts there shows
 
@@ -223,24 +229,24 @@ unfolding control_gates and_place
 length-control_gates k e = elim (cases_Bool (list_any has_one e.outs)) [ inl b ↦ rw b refl | inr b ↦ rw b refl ]
 
 -- the network is built of these parts, in this order
-pub record Built (fault : Option Fault) (k : ℕ) (names : Names) (e : Terms) (w : List Bool) : Type 0 where
-  pub inverted : Follows fault w (lines e) 0 (inverters k e)
-  pub control : Follows fault w (lines e) (length (turned e)) (control_gates k e)
-  pub ands : Follows fault w (lines e) (and_place e) (and_gates k e)
-  pub outputs : Follows fault w (lines e) (chain_place e) (chains k e 0 (chain_place e) e.outs names.outputs)
+pub record Built (P : ℕ → Gate → Type 0) (k : ℕ) (names : Names) (e : Terms) : Type 0 where
+  pub inverted : EachGate P 0 (inverters k e)
+  pub control : EachGate P (length (turned e)) (control_gates k e)
+  pub ands : EachGate P (and_place e) (and_gates k e)
+  pub outputs : EachGate P (chain_place e) (chains k e 0 (chain_place e) e.outs names.outputs)
 
-pub built : (fault : Option Fault) (k : ℕ) (names : Names) (e : Terms) (w : List Bool) → Follows fault w (lines e) 0 (gates k names e) → Built fault k names e w
+pub built : (P : ℕ → Gate → Type 0) (k : ℕ) (names : Names) (e : Terms) → EachGate P 0 (gates k names e) → Built P k names e
 unfolding gates chain_place
-built fault k names e w all =
-    let one = Follows-append fault w (lines e) 0 (inverters k e) _ all in
+built P k names e all =
+    let one = EachGate-append P 0 (inverters k e) _ all in
     let z1 : 0 + length (inverters k e) ≡ length (turned e) = zero-add _ ∙ length-gates_for _ 0 (turned e) in
-    let two = Follows-append fault w (lines e) (length (turned e)) (control_gates k e) _ (subst (λ p. Follows fault w (lines e) p (control_gates k e ++ (and_gates k e ++ chains k e 0 (and_place e + length (wide_terms e)) e.outs names.outputs))) z1 one.1) in
-    let three = Follows-append fault w (lines e) (and_place e) (and_gates k e) _ (subst (λ p. Follows fault w (lines e) p (and_gates k e ++ chains k e 0 (and_place e + length (wide_terms e)) e.outs names.outputs)) (length-control_gates k e) two.1) in
+    let two = EachGate-append P (length (turned e)) (control_gates k e) _ (subst (λ p. EachGate P p (control_gates k e ++ (and_gates k e ++ chains k e 0 (and_place e + length (wide_terms e)) e.outs names.outputs))) z1 one.1) in
+    let three = EachGate-append P (and_place e) (and_gates k e) _ (subst (λ p. EachGate P p (and_gates k e ++ chains k e 0 (and_place e + length (wide_terms e)) e.outs names.outputs)) (length-control_gates k e) two.1) in
     record {
       inverted = one.0;
       control = two.0;
       ands = three.0;
-      outputs = subst (λ p. Follows fault w (lines e) p (chains k e 0 (and_place e + length (wide_terms e)) e.outs names.outputs)) (ap (λ n. and_place e + n) (length-gates_for _ 0 (wide_terms e))) three.1;
+      outputs = subst (λ p. EachGate P p (chains k e 0 (and_place e + length (wide_terms e)) e.outs names.outputs)) (ap (λ n. and_place e + n) (length-gates_for _ 0 (wide_terms e))) three.1;
     }
 
 pub differ-flip : (a b c : Bool) → differ (differ a b) c ≡ differ b (differ a c)
@@ -260,18 +266,18 @@ shows names e terms fits valid x o ts there =
     let is : IsRun n None x w = IsRun-run n None x valid in
     let z : length n.inputs ≡ lines e = omega (arith, length-append names.inputs (inner (lead names) (codes "c") ∷ []), fits.inputs) in
     let all = subst (λ m. Follows None w m 0 n.gates) z (Follows-run n None x w is) in
-    let b : Built None (lead names) names e w = built None (lead names) names e w all in
-    let parts : Parts (lead names) e x w = record { inputs = λ j l. is.inputs j (omega (arith, z, l)); inverted = b.inverted; control = b.control } in
+    let b : Built (Fits None w (lines e)) (lead names) names e = built (Fits None w (lines e)) (lead names) names e all in
+    let inputs : Inputs (lead names) e x w = record { inputs = λ j l. is.inputs j (omega (arith, z, l)); inverted = b.inverted } in
     let inside_outs : o < length e.outs = slice_get_within e.outs o ts there in
     let below = rw (get_or_from_slice_get e.outs o ts [] there) at (terms.below o [] inside_outs) in
     let order = rw (get_or_from_slice_get e.outs o ts [] there) at (terms.order o [] inside_outs) in
     let term = λ (t : Set) (stands : Stands e t) (inner' : inside t (first e.polarity.n) ≡ true) (some : t ≢ empty).
-    value-term (lead names) e x w parts t (λ wide. and_fits None (lead names) e w b.ands t stands wide) stands inner' some in
+    value-term (lead names) e x w (value-literal (lead names) e x w inputs) t (λ wide. and_fits None (lead names) e w b.ands t stands wide) stands inner' some in
     let products = shows_rest e w (λ t. product e.polarity t x) term ts (λ t m. any_at (λ us. list_any (λ u. eqb u t) us) e.outs o ts there m) (recursion_from_All _ ts below) in
     ap (λ s. has s o) (out_of_run n None x valid w is)
     ∙ has-where_below (length n.outputs) (λ p. value_of w (slice_index n.outputs p)) o
     ∙ ap (λ c. c && value_of w (slice_index n.outputs o)) (lt-ltb o (length n.outputs) (omega (arith, length-ends e (chain_place e) e.outs)))
     ∙ value-port (lead names) e w (λ t. product e.polarity t x) 0 (chain_place e) e.outs names.outputs b.outputs fits.outputs o ts there products
-    ∙ ap (λ c. differ c (value e.polarity (rest ts) x)) (value-start (lead names) e x w parts o ts there)
+    ∙ ap (λ c. differ c (value e.polarity (rest ts) x)) (value-start (lead names) e (has x e.polarity.n) w (inputs.inputs e.polarity.n (omega arith)) b.control o ts there)
     ∙ differ-flip (has_one ts) (has x e.polarity.n) (value e.polarity (rest ts) x)
     ∙ ap (differ (has x e.polarity.n)) (sym (value-rest e x ts order))

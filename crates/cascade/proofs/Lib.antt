@@ -11,3 +11,4 @@ pub mod CodeLemmas
 pub mod CodeBounds
 pub mod VectorLemmas
 pub mod Shown
+pub mod Found

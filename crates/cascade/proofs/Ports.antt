@@ -64,7 +64,7 @@ port_at names e fits o name there =
     ∙ ap (λ (g : Gate). g.out) (after (and_gates k e) cs (s - first) d)
     ∙ found.1
 
-length-outputs : (names : Names) (e : Terms) → length ((reddy_net names e).outputs) ≡ length e.outs
+pub length-outputs : (names : Names) (e : Terms) → length ((reddy_net names e).outputs) ≡ length e.outs
 unfolding reddy_net
 length-outputs names e = length-ends e (chain_place e) e.outs
 

@@ -48,7 +48,7 @@ pub few_inner : (tss : List (List Set)) → all_inner tss ≤ length (flat_map (
 few_inner [] = omega arith
 few_inner (ts ∷ tss) = omega (arith, few_inner tss, length_filter_le (λ t. not (eqb t empty)) ts, length-append ts (flat_map (λ us. us) tss))
 
-length-chains : (k : ℕ) (e : Terms) (c i : ℕ) (tss : List (List Set)) (outs : List (List ℕ)) → length tss ≡ length outs → length (chains k e c i tss outs) ≡ all_inner tss + length outs
+pub length-chains : (k : ℕ) (e : Terms) (c i : ℕ) (tss : List (List Set)) (outs : List (List ℕ)) → length tss ≡ length outs → length (chains k e c i tss outs) ≡ all_inner tss + length outs
 length-chains k e c i [] [] same = omega arith
 length-chains k e c i [] (out ∷ outs) same = absurd (omega (arith, same))
 length-chains k e c i (ts ∷ tss) [] same = absurd (omega (arith, same))
@@ -71,7 +71,7 @@ pub length-and_gates : (k : ℕ) (e : Terms) → length (and_gates k e) ≡ leng
 length-and_gates k e = length-gates_for _ 0 (wide_terms e)
 
 -- the number of gates
-length-gates : (k : ℕ) (names : Names) (e : Terms) → Fits names e → length (gates k names e) ≡ chain_place e + (all_inner e.outs + length names.outputs)
+pub length-gates : (k : ℕ) (names : Names) (e : Terms) → Fits names e → length (gates k names e) ≡ chain_place e + (all_inner e.outs + length names.outputs)
 unfolding gates chain_place
 length-gates k names e fits =
     omega (
@@ -87,7 +87,7 @@ length-gates k names e fits =
 
 -- ---- terms that stand
 
-terms_stand : (e : Terms) (ts : List Set) → ((t : Set) → list_any (λ u. eqb u t) ts ≡ true → Stands e t) → AllByRecursion (λ t. inside t (first e.polarity.n) ≡ true) ts → AllStand e ts
+pub terms_stand : (e : Terms) (ts : List Set) → ((t : Set) → list_any (λ u. eqb u t) ts ≡ true → Stands e t) → AllByRecursion (λ t. inside t (first e.polarity.n) ≡ true) ts → AllStand e ts
 terms_stand e [] up below = tt
 terms_stand e (t ∷ ts) up (h, hs) = ((up t (or_left _ _ (eq-eqb t t refl)), h), terms_stand e ts (λ u m. up u (or_right _ _ m)) hs)
 

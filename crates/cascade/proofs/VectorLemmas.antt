@@ -1,21 +1,24 @@
 -- The first vectors, as sets are put together.
-use Rattle.std.proofs.Common.{◌≡◌, ℕ, Bool, true, false, not, ◌&&◌, ◌||◌, cond, inl, inr, List, [], ◌∷◌, ◌++◌, refl, sym, ap, ap₂, ◌∙◌, eqb, eqb-true, eq-eqb, ne_eqb, ltb, append-nil}
+use Rattle.std.proofs.Common.{◌≡◌, ◌≢◌, ℕ, ◌≤◌, Bool, true, false, not, ◌&&◌, ◌||◌, cond, inl, inr, List, [], ◌∷◌, ◌++◌, length, refl, sym, ap, ap₂, ◌∙◌, eqb, eqb-true, eq-eqb, ne_eqb, ltb, append-nil, arith}
 use Rattle.std.specs.Prelude.{filter}
-use Rattle.std.specs.List.{list_any}
+use Rattle.std.specs.List.{list_any, AllByRecursion}
 use Rattle.std.proofs.lemmas.Bool.{cases_Bool, false≢true}
-use Rattle.std.proofs.lemmas.List.Elements.{filter-append}
+use Rattle.std.proofs.lemmas.List.Elements.{All-filter, All-from_recursion, filter-append, filter_passes, recursion_from_All}
+use Rattle.std.proofs.lemmas.List.Kept.{AllPairs-filter}
 use Rattle.ae_base.specs.Mask.{Set, differ, has, both, xor}
 use Rattle.ae_base.specs.Cube.{Signs}
 use Rattle.ae_base.proofs.Sets.{same_set, has-both, has-xor, has-where_below}
+use Rattle.ae_net.proofs.Distinct.{Distinct, AllPairs-from_Distinct, Distinct-from_AllPairs, each_weaker}
 use Rattle.expansion.specs.Terms.{Terms, is_used, used_inputs}
 use Rattle.cascade.specs.FirstVectors.{literals_at, without_repeats}
+use Rattle.cascade.proofs.Lists.{filter_all, length_filter_le}
 
 -- an input has its value, all the used ones being below n
-has-used : (e : Terms) (k : ℕ) → has (used_inputs e) k ≡ (ltb k e.polarity.n && is_used e k)
+pub has-used : (e : Terms) (k : ℕ) → has (used_inputs e) k ≡ (ltb k e.polarity.n && is_used e k)
 unfolding used_inputs
 has-used e k = has-where_below e.polarity.n (is_used e) k
 
-has-literals_at : (p : Signs) (used : Set) (v : Bool) (k : ℕ) → has (literals_at p used v) k ≡ (ltb k p.n && (has used k && cond (has p.plain k) v (not v)))
+pub has-literals_at : (p : Signs) (used : Set) (v : Bool) (k : ℕ) → has (literals_at p used v) k ≡ (ltb k p.n && (has used k && cond (has p.plain k) v (not v)))
 unfolding literals_at
 has-literals_at p used v k = has-where_below p.n (λ j. has used j && cond (has p.plain j) v (not v)) k
 
@@ -79,9 +82,35 @@ others_more x y ys b there =
     other true e = refl
     other false e = ap (λ l. x ∷ l) (filter-append (λ z. not (eqb z x)) ys (y ∷ []) ∙ rw e refl)
 
-add_last : (xs : List Set) (y : Set) → without_repeats (xs ++ y ∷ []) ≡ added y (without_repeats xs)
+pub add_last : (xs : List Set) (y : Set) → without_repeats (xs ++ y ∷ []) ≡ added y (without_repeats xs)
 add_last [] y = refl
 add_last (x ∷ xs) y = ap (λ ys. x ∷ others x ys) (add_last xs y) ∙ others_more x y (without_repeats xs) (list_any (λ z. eqb z y) (without_repeats xs)) refl
+
+-- ---- no repeats is for good
+
+pub once_apart : (xs : List Set) → Distinct (without_repeats xs)
+once_apart [] = tt
+once_apart (x ∷ xs) = (
+  each_weaker (λ y. not (eqb y x) ≡ true) (λ y. x ≢ y) (λ y h same. false≢true (sym (ap not (eq-eqb y x (sym same))) ∙ h)) (others x (without_repeats xs)) (recursion_from_All _ _ (filter_passes (λ y. not (eqb y x)) (without_repeats xs))),
+  Distinct-from_AllPairs _ (AllPairs-filter (λ y z. y ≢ z) (λ y. not (eqb y x)) (without_repeats xs) (AllPairs-from_Distinct _ (once_apart xs))),
+)
+
+once_kept : (xs : List Set) → Distinct xs → without_repeats xs ≡ xs
+once_kept [] d = refl
+once_kept (x ∷ xs) (new, d) = ap (λ ys. x ∷ others x ys) (once_kept xs d) ∙ ap (λ ys. x ∷ ys) (filter_all (λ y. not (eqb y x)) xs (each_weaker (λ y. x ≢ y) (λ y. not (eqb y x) ≡ true) (λ y h. ap not (ne_eqb y x (λ same. h (sym same)))) xs new))
+
+pub once_again : (xs : List Set) → without_repeats (without_repeats xs) ≡ without_repeats xs
+once_again xs = once_kept (without_repeats xs) (once_apart xs)
+
+pub each_once : (P : Set → Type 0) (xs : List Set) → AllByRecursion P xs → AllByRecursion P (without_repeats xs)
+each_once P [] h = tt
+each_once P (x ∷ xs) (h, hs) = (h, recursion_from_All P _ (All-filter (λ y. not (eqb y x)) P (without_repeats xs) (All-from_recursion P _ (each_once P xs hs))))
+
+pub length_once_le : (xs : List Set) → length (without_repeats xs) ≤ length xs
+length_once_le [] = omega arith
+length_once_le (x ∷ xs) = omega (arith, length_filter_le (λ y. not (eqb y x)) (without_repeats xs), length_once_le xs)
+
+-- ---- the first four
 
 -- four elements, one after the other
 pub four : (a b c d : Set) (one two three : List Set) → one ≡ added b (a ∷ []) → two ≡ added c one → three ≡ added d two → three ≡ without_repeats (a ∷ b ∷ c ∷ d ∷ [])

@@ -3,7 +3,7 @@ ghost use Rattle.std.specs.Prelude.{◌≡◌, [], ◌∷◌, IfOk};
 ghost use Rattle.ae_base.specs.Mask.{empty, first};
 ghost use Rattle.ae_net.specs.Names.{inner};
 
-use crate::{first_vectors, reddy};
+use crate::{first_vectors, literals_high, push_new, reddy};
 use ae_base::{Mask, Memory, Polarity, Seq};
 use ae_net::{NetNames, answer, letter_name, scratch_for};
 use expansion::Expansion;
@@ -79,9 +79,13 @@ fn builds_a_complement(rt: HostRuntime) -> Result<(), Fail> {
 fn lists_four_vectors(rt: HostRuntime) -> Result<(), Fail> {
     let alloc = rt.alloc();
     let e = one_complement(alloc)?;
-    let found = first_vectors(alloc, &e)?;
+    let mut found = first_vectors(alloc, &e)?;
     let control = Mask::empty().with(1);
     let wanted = [Mask::first(1), Mask::empty(), Mask::first(2), control];
     assert!(rt; found.as_slice() == wanted.as_slice());
+    push_new(&mut found, literals_high(&e))?;
+    assert!(rt; found.as_slice() == wanted.as_slice());
+    push_new(&mut found, Mask::first(3))?;
+    assert_eq!(rt; found.len(), 5);
     Ok(())
 }

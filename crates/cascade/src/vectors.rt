@@ -8,9 +8,9 @@ use ae_base::{Mask, Memory, Point};
 use expansion::{Expansion, used_inputs};
 use std::alloc::Global;
 
-/// The point with the literals of all used inputs at 1.
+/// The point with the literals of all used inputs at 1, and all else at 0. It takes no memory.
 #[tactic(auto, using(crate::proofs::VectorLemmas::all_high))]
-fn high(e: &Expansion) -> Point
+pub fn literals_high(e: &Expansion) -> Point
     ensures { result ≡ spec.literals_at e.now.polarity (used_inputs e.now) true }
 {
     used_inputs(e).both(e.polarity().plain)
@@ -18,10 +18,10 @@ fn high(e: &Expansion) -> Point
 
 /// The point with the literals of all used inputs at 0.
 #[tactic(auto, using(crate::proofs::VectorLemmas::all_low))]
-fn low(e: &Expansion) -> Point
+fn literals_low(e: &Expansion) -> Point
     ensures { result ≡ spec.literals_at e.now.polarity (used_inputs e.now) false }
 {
-    used_inputs(e).xor(high(e))
+    used_inputs(e).xor(literals_high(e))
 }
 
 /// Whether the list has the vector.
@@ -31,8 +31,8 @@ fn is_listed(list: &[Point], vector: Point) -> bool
     list.iter().any(|x| *x == vector)
 }
 
-/// Adds a vector, where the list has it not yet.
-fn push_new(list: &mut Vec<Point>, vector: Point) -> Result<(), Memory>
+/// Adds a vector at the end, where the list has it not yet.
+pub fn push_new(list: &mut Vec<Point>, vector: Point) -> Result<(), Memory>
     ensures { OnOk result (list.new.items ≡ (if list_any (λ x. x == vector) list.old.items then list.old.items else list.old.items ++ vector ∷ [])) }
 {
     if !is_listed(list.as_slice(), vector) {
@@ -49,8 +49,8 @@ pub fn first_vectors(alloc: Global, e: &Expansion) -> Result<Vec<Point>, Memory>
     ensures { IfOk result (λ list. list.items ≡ spec.first_vectors e.now.polarity (used_inputs e.now)) }
 {
     let control = e.inputs();
-    let low = low(e);
-    let high = high(e);
+    let low = literals_low(e);
+    let high = literals_high(e);
     let mut list = Vec::new(alloc);
     list.push(low)?;
     push_new(&mut list, high)?;

@@ -1,0 +1,129 @@
+-- Elements that stand in a list, and their places.
+use Rattle.std.proofs.Common.{◌≡◌, ◌≢◌, ℕ, zero, suc, ◌<◌, Bool, true, false, not, ◌&&◌, ◌||◌, cond, inl, inr, List, [], ◌∷◌, length, get_or, Less, Equal, Greater, refl, sym, ap, ◌∙◌, subst, arith, eqb, eqb-true, eq-eqb, ne_eqb}
+use Rattle.std.specs.Prelude.{Some, All, AllPairs, filter, slice_get}
+use Rattle.std.specs.List.{list_any, flat_map, AllByRecursion}
+use Rattle.std.specs.Ordering.{is_lt}
+use Rattle.std.specs.declared.cmp.Ordering.{Ordering}
+use Rattle.std.proofs.lemmas.Bool.{cases_eq, cases_Bool, false≢true, or_cases}
+use Rattle.std.proofs.lemmas.List.Elements.{All-from_recursion, recursion_from_All}
+use Rattle.std.proofs.lemmas.List.Folds.{Any-from_list_any}
+use Rattle.std.proofs.lemmas.List.Kept.{AllPairs-cons, AllPairs-from_increasing}
+use Rattle.std.proofs.lemmas.Option.{slice_get_within, slice_get-get_or, get_or_from_slice_get}
+use Rattle.ae_base.specs.Mask.{Set, first, inside, members, cmp_terms}
+use Rattle.ae_base.specs.Terms.{IsInOrder}
+use Rattle.ae_base.proofs.InOrder.{less_from_sorted}
+use Rattle.ae_base.proofs.Members.{members-increasing}
+use Rattle.ae_base.proofs.Order.{less_trans, less_apart}
+use Rattle.ae_net.proofs.Distinct.{Distinct, Distinct-from_AllPairs, each_weaker}
+use Rattle.expansion.specs.Terms.{Terms, IsTerms}
+use Rattle.cascade.specs.Reddy.{place_of, placed, in_order, is_wide, wide_terms}
+use Rattle.cascade.proofs.Law.{Stands, order_tail}
+use Rattle.cascade.proofs.Lists.{or_left, or_right, any_flat, any-in_order}
+use Rattle.cascade.proofs.Valid.{each_placed}
+
+-- ---- elements
+
+pub any_found : {X : Type 0} (q : X → Bool) (xs : List X) → list_any q xs ≡ true → (i : ℕ) × (x : X) × (slice_get xs i ≡ Some x) × (q x ≡ true)
+any_found q xs h = let at = Any-from_list_any q xs h in (at.0, at.1, slice_get-get_or xs at.0 at.1 at.2 ∙ ap Some at.3, at.4)
+
+pub All-get : {X : Type 0} (P : X → Type 0) (xs : List X) (i : ℕ) (x : X) → All P xs → slice_get xs i ≡ Some x → P x
+All-get P xs i x all there = subst P (get_or_from_slice_get xs i x x there) (all i x (slice_get_within xs i x there))
+
+pub each_at : (P : ℕ → Type 0) (x : ℕ) (xs : List ℕ) → AllByRecursion P xs → list_any (λ y. eqb y x) xs ≡ true → P x
+each_at P x [] h there = absurd (false≢true there)
+each_at P x (y ∷ ys) (h, hs) there = elim (or_cases _ _ there) [ inl e ↦ subst P (eqb-true y x e) h | inr later ↦ each_at P x ys hs later ]
+
+-- an element that is kept passes the test, and stood there
+pub any_filter_parts : (p : ℕ → Bool) (x : ℕ) (xs : List ℕ) → list_any (λ y. eqb y x) (filter p xs) ≡ true → (p x ≡ true) × (list_any (λ y. eqb y x) xs ≡ true)
+any_filter_parts p x [] h = absurd (false≢true h)
+any_filter_parts p x (y ∷ ys) h = by_kept (λ k. any_filter_parts p x ys k) (p y) refl h
+  where
+    more : (p x ≡ true) × (list_any (λ z. eqb z x) ys ≡ true) → (p x ≡ true) × ((eqb y x || list_any (λ z. eqb z x) ys) ≡ true)
+    more r = (r.0, or_right _ _ r.1)
+
+    by_kept : (list_any (λ z. eqb z x) (filter p ys) ≡ true → (p x ≡ true) × (list_any (λ z. eqb z x) ys ≡ true)) → (b : Bool) → p y ≡ b → list_any (λ z. eqb z x) (cond b (y ∷ filter p ys) (filter p ys)) ≡ true
+        → (p x ≡ true) × ((eqb y x || list_any (λ z. eqb z x) ys) ≡ true)
+    by_kept later true e k = elim (or_cases _ _ k) [ inl same ↦ (ap p (sym (eqb-true y x same)) ∙ e, or_left _ _ same) | inr l ↦ more (later l) ]
+    by_kept later false e k = more (later k)
+
+-- ---- places
+
+-- the place of an element of a list without repeats
+pub place_at : (xs : List ℕ) → Distinct xs → (i d : ℕ) → i < length xs → place_of xs (get_or xs i d) ≡ i
+place_at [] apart i d l = absurd (omega (arith, l))
+place_at (x ∷ xs) (new, apart) zero d l = rw (eq-eqb x x refl) refl
+place_at (x ∷ xs) (new, apart) (suc i) d l =
+    let within : i < length xs = omega (arith, l) in
+    let other : x ≢ get_or xs i d = All-from_recursion (λ y. x ≢ y) xs new i d within in
+    rw (ne_eqb x (get_or xs i d) other) (ap suc (place_at xs apart i d within))
+
+-- elements with the same place are the same
+pub place_apart : (xs : List ℕ) (x y : ℕ) → list_any (λ u. eqb u x) xs ≡ true → list_any (λ u. eqb u y) xs ≡ true → place_of xs x ≡ place_of xs y → x ≡ y
+place_apart [] x y h k e = absurd (false≢true h)
+place_apart (u ∷ us) x y h k e =
+    elim (cases_eq u x) [
+      | inl a ↦ elim (cases_eq u y) [
+        | inl b ↦ sym a ∙ b
+        | inr b ↦ absurd (nowhere (rw (eq-eqb u x a, ne_eqb u y b) at e))
+      ]
+      | inr a ↦ elim (cases_eq u y) [
+        | inl b ↦ absurd (nowhere (sym (rw (ne_eqb u x a, eq-eqb u y b) at e)))
+        | inr b ↦ place_apart us x y (rw (ne_eqb u x a) at h) (rw (ne_eqb u y b) at k) (back (rw (ne_eqb u x a, ne_eqb u y b) at e))
+      ]
+    ]
+  where
+    nowhere : {n : ℕ} → 0 ≡ suc n → ⊥
+    nowhere z = omega arith
+
+    back : {m n : ℕ} → suc m ≡ suc n → m ≡ n
+    back z = omega arith
+
+-- ---- terms in order
+
+less_is : (t u : Set) → is_lt (cmp_terms t u) ≡ true → cmp_terms t u ≡ Less
+less_is t u h = by_order (cmp_terms t u) refl
+  where
+    by_order : (o : Ordering) → cmp_terms t u ≡ o → cmp_terms t u ≡ Less
+    by_order Less e = e
+    by_order Equal e = absurd (false≢true (sym (ap is_lt e) ∙ h))
+    by_order Greater e = absurd (false≢true (sym (ap is_lt e) ∙ h))
+
+pub placed-order : (t : Set) (us : List Set) → IsInOrder us → IsInOrder (placed t us)
+placed-order t [] order = λ i j d l k. absurd (omega (arith, k, l))
+placed-order t (u ∷ us) order = by_same (eqb t u) refl (is_lt (cmp_terms t u)) refl (placed-order t us (order_tail u us order))
+  where
+    above : AllByRecursion (λ y. cmp_terms u y ≡ Less) us
+    above = recursion_from_All _ us (λ k d l. order 0 (suc k) d (omega arith) (omega (arith, l)))
+
+    by_same : (b : Bool) → eqb t u ≡ b → (c : Bool) → is_lt (cmp_terms t u) ≡ c → IsInOrder (placed t us) → IsInOrder (cond b (u ∷ us) (cond c (t ∷ u ∷ us) (u ∷ placed t us)))
+    by_same true e c f h = order
+    by_same false e true f h =
+        AllPairs-cons (λ s y. cmp_terms s y ≡ Less) t (u ∷ us) (All-from_recursion _ (u ∷ us) (less_is t u f, each_weaker (λ y. cmp_terms u y ≡ Less) (λ y. cmp_terms t y ≡ Less) (λ y l. less_trans t u y (less_is t u f) l) us above)) order
+    by_same false e false f h =
+        AllPairs-cons (λ s y. cmp_terms s y ≡ Less) u (placed t us) (All-from_recursion _ (placed t us) (each_placed (λ y. cmp_terms u y ≡ Less) t us (less_from_sorted u t f (λ same. false≢true (sym e ∙ eq-eqb t u (sym same)))) above)) h
+
+pub in_order-order : (ts : List Set) → IsInOrder (in_order ts)
+in_order-order [] = λ i j d l k. absurd (omega (arith, k, l))
+in_order-order (t ∷ ts) = placed-order t (in_order ts) (in_order-order ts)
+
+-- the terms of two or more members are different
+pub wide_apart : (e : Terms) → Distinct (wide_terms e)
+unfolding wide_terms
+wide_apart e = Distinct-from_AllPairs _ (λ i j d l k. less_apart _ _ (in_order-order (filter is_wide (flat_map (λ ts. ts) e.outs)) i j d l k))
+
+-- so are the members of a term
+pub members_apart : (t : Set) → Distinct (members t)
+members_apart t = Distinct-from_AllPairs _ (λ i j d l k same. let less = AllPairs-from_increasing (members t) (members-increasing t) i j d l k in absurd (omega (arith, less, same)))
+
+-- ---- terms that stand
+
+pub wide_found : (e : Terms) (t : Set) → list_any (λ u. eqb u t) (wide_terms e) ≡ true → (is_wide t ≡ true) × Stands e t
+unfolding wide_terms
+wide_found e t there =
+    let r = any_filter_parts is_wide t (flat_map (λ ts. ts) e.outs) (sym (any-in_order (λ u. eqb u t) (filter is_wide (flat_map (λ ts. ts) e.outs))) ∙ there) in
+    (r.0, sym (any_flat (λ u. eqb u t) e.outs) ∙ r.1)
+
+pub stands_inside : (e : Terms) → IsTerms e → (t : Set) → Stands e t → inside t (first e.polarity.n) ≡ true
+stands_inside e terms t stands =
+    let out = any_found (λ ts. list_any (λ u. eqb u t) ts) e.outs stands in
+    each_at (λ u. inside u (first e.polarity.n) ≡ true) t out.1 (recursion_from_All _ out.1 (All-get (λ ts. All (λ u. inside u (first e.polarity.n) ≡ true) ts) e.outs out.0 out.1 terms.below out.2)) out.3

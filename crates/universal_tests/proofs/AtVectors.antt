@@ -1,0 +1,143 @@
+-- The values of literals and products at the universal vectors, and that each of these vectors is in the list.
+use Rattle.std.proofs.Common.{◌≡◌, ◌≢◌, ℕ, zero, suc, ◌<◌, ◌≤◌, Bool, true, false, not, ◌&&◌, ◌||◌, cond, inl, inr, List, [], ◌∷◌, ◌++◌, length, map, get_or, refl, sym, ap, ap₂, ◌∙◌, arith, eqb, eqb-true, eq-eqb, ne_eqb, ltb}
+use Rattle.std.specs.Prelude.{Contains, filter}
+use Rattle.std.specs.List.{list_any, list_all}
+use Rattle.std.proofs.lemmas.Bool.{cases_eq, cases_Bool, and_parts, false≢true, le-ltb, lt-ltb, or_cases}
+use Rattle.std.proofs.lemmas.List.Folds.{list_any-append, list_any_at}
+use Rattle.ae_base.specs.Mask.{Set, differ, has, empty, with, xor, first, inside, members}
+use Rattle.ae_base.specs.Cube.{Signs}
+use Rattle.ae_base.specs.Terms.{literal, product}
+use Rattle.ae_base.proofs.Members.{members-has}
+use Rattle.ae_base.proofs.Sets.{has-empty, has-with, has-xor}
+use Rattle.cascade.specs.FirstVectors.{literals_at, without_repeats, first_vectors}
+use Rattle.cascade.proofs.Found.{any_found}
+use Rattle.cascade.proofs.Lists.{or_left, or_right, any_kept, list_all_agree}
+use Rattle.cascade.proofs.VectorLemmas.{has-literals_at}
+use Rattle.universal_tests.specs.Universal.{one_low, universal_vectors}
+
+-- all literals at v, and the control at c
+abbrev pub all_at : Signs → Set → Bool → Bool → Set
+all_at p used v c = cond c (with (literals_at p used v) p.n) (literals_at p used v)
+
+-- ---- the control
+
+pub outside : (p : Signs) (used : Set) (v : Bool) → has (literals_at p used v) p.n ≡ false
+outside p used v = has-literals_at p used v p.n ∙ ap (λ b. b && (has used p.n && cond (has p.plain p.n) v (not v))) (le-ltb p.n p.n (omega arith))
+
+pub control-all_at : (p : Signs) (used : Set) (v c : Bool) → has (all_at p used v c) p.n ≡ c
+control-all_at p used v true = has-with (literals_at p used v) p.n p.n ∙ ap (λ b. b || has (literals_at p used v) p.n) (eq-eqb p.n p.n refl)
+control-all_at p used v false = outside p used v
+
+pub has-one_low : (p : Signs) (used : Set) (j k : ℕ) → has (one_low p used j) k ≡ differ (has (literals_at p used true) k) (eqb k j)
+unfolding one_low
+has-one_low p used j k = has-xor (literals_at p used true) (with empty j) k ∙ ap (differ (has (literals_at p used true) k)) (has-with empty j k ∙ ap (λ b. eqb k j || b) (has-empty k) ∙ or_none (eqb k j))
+  where
+    or_none : (b : Bool) → (b || false) ≡ b
+    or_none true = refl
+    or_none false = refl
+
+pub control-one_low : (p : Signs) (used : Set) (j : ℕ) → j < p.n → has (one_low p used j) p.n ≡ false
+control-one_low p used j l = has-one_low p used j p.n ∙ ap₂ differ (outside p used true) (ne_eqb p.n j (λ e. absurd (omega arith)))
+
+-- ---- literals
+
+-- the control is no source input
+pub low_part : (p : Signs) (used : Set) (v c : Bool) (j : ℕ) → j < p.n → has (all_at p used v c) j ≡ has (literals_at p used v) j
+low_part p used v true j l = has-with (literals_at p used v) p.n j ∙ ap (λ b. b || has (literals_at p used v) j) (ne_eqb j p.n (λ e. absurd (omega arith)))
+low_part p used v false j l = refl
+
+pub used_part : (p : Signs) (used : Set) (v : Bool) (j : ℕ) → j < p.n → has used j ≡ true → has (literals_at p used v) j ≡ cond (has p.plain j) v (not v)
+used_part p used v j l u = has-literals_at p used v j ∙ ap₂ (λ a b. a && (b && cond (has p.plain j) v (not v))) (lt-ltb j p.n l) u
+
+pub literal-all_at : (p : Signs) (used : Set) (v c : Bool) (j : ℕ) → j < p.n → has used j ≡ true → literal p j (all_at p used v c) ≡ v
+literal-all_at p used v c j l u = ap (λ b. cond (has p.plain j) b (not b)) (low_part p used v c j l ∙ used_part p used v j l u) ∙ by_sign (has p.plain j) v
+  where
+    by_sign : (s v : Bool) → cond s (cond s v (not v)) (not (cond s v (not v))) ≡ v
+    by_sign true v = refl
+    by_sign false true = refl
+    by_sign false false = refl
+
+pub literal-one_low : (p : Signs) (used : Set) (j k : ℕ) → k < p.n → has used k ≡ true → literal p k (one_low p used j) ≡ not (eqb k j)
+literal-one_low p used j k l u = ap (λ b. cond (has p.plain k) b (not b)) (has-one_low p used j k ∙ ap (λ b. differ b (eqb k j)) (used_part p used true k l u)) ∙ by_sign (has p.plain k) (eqb k j)
+  where
+    by_sign : (s b : Bool) → cond s (differ (cond s true false) b) (not (differ (cond s true false) b)) ≡ not b
+    by_sign true b = refl
+    by_sign false true = refl
+    by_sign false false = refl
+
+-- ---- products
+
+all_true : (f : ℕ → Bool) (xs : List ℕ) → ((j : ℕ) → list_any (λ m. eqb m j) xs ≡ true → f j ≡ true) → list_all f xs ≡ true
+all_true f xs h = list_all_agree f (λ j. true) xs h ∙ none xs
+  where
+    none : (xs : List ℕ) → list_all (λ j. true) xs ≡ true
+    none [] = refl
+    none (x ∷ xs) = none xs
+
+pub product_true : (p : Signs) (t x : Set) → ((j : ℕ) → has t j ≡ true → literal p j x ≡ true) → product p t x ≡ true
+unfolding product
+product_true p t x h = all_true (λ j. literal p j x) (members t) (λ j m. h j (sym (members-has t j) ∙ m))
+
+one_false : (f : ℕ → Bool) (j : ℕ) (xs : List ℕ) → list_any (λ m. eqb m j) xs ≡ true → f j ≡ false → list_all f xs ≡ false
+one_false f j [] there h = absurd (false≢true there)
+one_false f j (x ∷ xs) there h = elim (or_cases _ _ there) [ inl e ↦ ap (λ b. b && list_all f xs) (ap f (eqb-true x j e) ∙ h) | inr later ↦ ap (λ b. f x && b) (one_false f j xs later h) ∙ and_none (f x) ]
+  where
+    and_none : (b : Bool) → (b && false) ≡ false
+    and_none true = refl
+    and_none false = refl
+
+pub product_false : (p : Signs) (t x : Set) (j : ℕ) → has t j ≡ true → literal p j x ≡ false → product p t x ≡ false
+unfolding product
+product_false p t x j m h = one_false (λ k. literal p k x) j (members t) (members-has t j ∙ m) h
+
+-- ---- the list has them
+
+pub Contains-from_any : (x : ℕ) (xs : List ℕ) → list_any (λ y. eqb y x) xs ≡ true → Contains xs x
+Contains-from_any x [] h = absurd (false≢true h)
+Contains-from_any x (y ∷ ys) h =
+    elim (or_cases _ _ h) [
+      | inl e ↦ (0, omega arith, eqb-true y x e)
+      | inr later ↦ let r = Contains-from_any x ys later in (suc r.0, omega (arith, r.1), r.2)
+    ]
+
+unrepeated_has : (x : Set) (xs : List Set) → list_any (λ y. eqb y x) xs ≡ true → list_any (λ y. eqb y x) (without_repeats xs) ≡ true
+unrepeated_has x [] h = h
+unrepeated_has x (y ∷ ys) h =
+    elim (cases_eq y x) [
+      | inl e ↦ or_left _ _ (eq-eqb y x e)
+      | inr other ↦ or_right _ _ (any_kept (λ z. not (eqb z y)) x (ap not (ne_eqb x y (λ e. other (sym e)))) (without_repeats ys) (unrepeated_has x ys (rw (ne_eqb y x other) at h)))
+    ]
+
+any_append_left : (q : Set → Bool) (xs ys : List Set) → list_any q xs ≡ true → list_any q (xs ++ ys) ≡ true
+any_append_left q xs ys h = list_any-append q xs ys ∙ or_left _ _ h
+
+any_append_right : (q : Set → Bool) (xs ys : List Set) → list_any q ys ≡ true → list_any q (xs ++ ys) ≡ true
+any_append_right q xs ys h = list_any-append q xs ys ∙ or_right _ _ h
+
+any_map : (f : ℕ → Set) (j : ℕ) (xs : List ℕ) → list_any (λ m. eqb m j) xs ≡ true → list_any (λ y. eqb y (f j)) (map f xs) ≡ true
+any_map f j [] h = h
+any_map f j (x ∷ xs) h = elim (or_cases _ _ h) [ inl e ↦ or_left _ _ (eq-eqb (f x) (f j) (ap f (eqb-true x j e))) | inr later ↦ or_right _ _ (any_map f j xs later) ]
+
+first_has : (p : Signs) (used : Set) (v c : Bool) → list_any (λ y. eqb y (all_at p used v c)) (first_vectors p used) ≡ true
+unfolding first_vectors
+first_has p used v c = unrepeated_has (all_at p used v c) four (one_of v c)
+  where
+    four : List Set
+    four = literals_at p used false ∷ literals_at p used true ∷ with (literals_at p used false) p.n ∷ with (literals_at p used true) p.n ∷ []
+
+    found : (x : Set) (i : ℕ) → i < 4 → get_or four i x ≡ x → list_any (λ y. eqb y x) four ≡ true
+    found x i l e = list_any_at (λ y. eqb y x) four i x l (eq-eqb (get_or four i x) x e)
+
+    one_of : (v c : Bool) → list_any (λ y. eqb y (all_at p used v c)) four ≡ true
+    one_of false false = found (literals_at p used false) 0 (omega arith) refl
+    one_of true false = found (literals_at p used true) 1 (omega arith) refl
+    one_of false true = found (with (literals_at p used false) p.n) 2 (omega arith) refl
+    one_of true true = found (with (literals_at p used true) p.n) 3 (omega arith) refl
+
+pub Contains-all_at : (p : Signs) (used : Set) (v c : Bool) → Contains (universal_vectors p used) (all_at p used v c)
+unfolding universal_vectors
+Contains-all_at p used v c = Contains-from_any _ _ (unrepeated_has (all_at p used v c) (first_vectors p used ++ map (one_low p used) (members used)) (any_append_left (λ y. eqb y (all_at p used v c)) (first_vectors p used) (map (one_low p used) (members used)) (first_has p used v c)))
+
+pub Contains-one_low : (p : Signs) (used : Set) (j : ℕ) → has used j ≡ true → Contains (universal_vectors p used) (one_low p used j)
+unfolding universal_vectors
+Contains-one_low p used j u = Contains-from_any _ _ (unrepeated_has (one_low p used j) (first_vectors p used ++ map (one_low p used) (members used)) (any_append_right (λ y. eqb y (one_low p used j)) (first_vectors p used) (map (one_low p used) (members used)) (any_map (one_low p used) j (members used) (members-has used j ∙ u))))

@@ -1,0 +1,14 @@
+pub mod AtVectors
+pub mod TwoRuns
+pub mod Products
+pub mod Turns
+pub mod Chains
+pub mod AndFaults
+pub mod ControlFaults
+pub mod ChainFaults
+pub mod Whole
+pub mod CodeLemmas
+pub mod OddInputs
+pub mod OddInverters
+pub mod Literals
+pub mod Small

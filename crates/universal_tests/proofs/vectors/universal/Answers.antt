@@ -1,0 +1,28 @@
+use Rattle.std.proofs.Common.{◌≡◌, ℕ, ap, ◌∙◌, arith}
+use Rattle.expansion.specs.Terms.{used_inputs}
+use Rattle.universal_tests.specs.Universal.{universal_vectors}
+use Rattle.universal_tests.proofs.CodeLemmas.{so_far, more_so_far, all_so_far, universal_few, universal_distinct, universal_points}
+use Rattle.universal_tests.proofs.vectors.universal.Goals as goal
+
+pub loop-j-preserved : goal.loop-j-preserved
+loop-j-preserved c =
+    more_so_far c.args.e.now.polarity (used_inputs c.args.e.now) c.loop-j.j c.loop-j.list.items c.push_turned.new.list.items
+    (rw (c.used_inputs-used.ensures, c.literals_high-high.ensures) at c.in_ok-push_turned.ensures) c.loop-j.invariant
+
+-- after the loop the list is whole
+whole : (c : goal.After-loop-j) → c.loop-j.list.items ≡ universal_vectors c.args.e.now.polarity (used_inputs c.args.e.now)
+whole c =
+    let z : c.loop-j.j ≡ c.args.e.now.polarity.n = omega (arith, c.inputs-j-end.ensures.inputs) in
+    c.loop-j.invariant ∙ ap (so_far c.args.e.now.polarity (used_inputs c.args.e.now)) z ∙ all_so_far c.args.e.now
+
+pub returns-clause-vectors : goal.returns-clause-vectors
+returns-clause-vectors c = whole c
+
+pub returns-clause-few : goal.returns-clause-few
+returns-clause-few c = rw (whole c) (universal_few c.args.e.now)
+
+pub returns-clause-distinct : goal.returns-clause-distinct
+returns-clause-distinct c = rw (whole c) (universal_distinct c.args.e.now.polarity (used_inputs c.args.e.now))
+
+pub returns-clause-points : goal.returns-clause-points
+returns-clause-points c = rw (whole c) (universal_points c.args.e.now)

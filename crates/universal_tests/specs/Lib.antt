@@ -1,0 +1,3 @@
+pub mod Odd
+pub mod Sites
+pub mod Universal

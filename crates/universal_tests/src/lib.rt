@@ -1,0 +1,10 @@
+//! The universal vectors of the Reddy form, and the faults that they detect.
+#![tactic(auto)]
+
+mod laws;
+#[cfg(test)]
+mod tests;
+mod vectors;
+
+pub use laws::universal_law;
+pub use vectors::universal;

@@ -1,0 +1,46 @@
+//! The universal vectors of the Reddy form.
+ghost use Rattle.std.specs.Prelude.{◌≡◌, ◌<◌, ◌≤◌, ◌+◌, ◌==◌, ◌++◌, ◌∷◌, [], if◌then◌else◌, length, All, IfOk, OnOk};
+ghost use Rattle.std.specs.List.{list_any};
+ghost use Rattle.ae_base.specs.declared.limits.TheConstants.{WIDTH};
+ghost use Rattle.ae_base.specs.Mask.{empty, has, with, xor};
+ghost use Rattle.ae_base.specs.Terms.{IsPoint};
+ghost use Rattle.ae_net.specs.Valid.{IsDistinct};
+ghost use Rattle.expansion.specs.Terms.{used_inputs};
+ghost use Rattle.universal_tests.specs.Universal as spec;
+
+use ae_base::{Mask, Memory, Point};
+use cascade::{first_vectors, literals_high, push_new};
+use expansion::{Expansion, used_inputs};
+use std::alloc::Global;
+
+/// Adds the vector that differs from this one at input j alone, where the input is used and the list has the vector not yet.
+fn push_turned(list: &mut Vec<Point>, used: Mask, high: Point, j: u32) -> Result<(), Memory>
+    requires { j < WIDTH }
+    ensures { OnOk result (let vector = xor high (with empty j) in list.new.items ≡ (if has used j then (if list_any (λ x. x == vector) list.old.items then list.old.items else list.old.items ++ vector ∷ []) else list.old.items)) }
+{
+    if used.has(j) {
+        push_new(list, high.xor(Mask::empty().with(j)))?;
+    }
+    Ok(())
+}
+
+/// The universal vectors of the Reddy form, each once: control 0 and all literals 0, control 0 and all literals 1, control 1 and all
+/// literals 0, control 1 and all literals 1, and then for each used input in order control 0, its literal 0 and all others 1. The control
+/// is the number after the inputs, and the literals are those of the used inputs. An input that is not used is 0 in each vector.
+/// They are n + 4 at most, n being the number of inputs (after S. M. Reddy, "Easily Testable Realizations for Logic Functions", 1972).
+/// What they detect `universal_law` says.
+#[tactic(auto, using(crate::proofs::CodeLemmas::none_so_far))]
+pub fn universal(alloc: Global, e: &Expansion) -> Result<Vec<Point>, Memory>
+    ensures vectors { IfOk result (λ list. list.items ≡ spec.universal_vectors e.now.polarity (used_inputs e.now)) }
+    ensures few { IfOk result (λ list. length list.items ≤ e.now.polarity.n + 4) }
+    ensures distinct { IfOk result (λ list. IsDistinct list.items) }
+    ensures points { IfOk result (λ list. All (IsPoint (e.now.polarity.n + 1)) list.items) }
+{
+    let used = used_inputs(e);
+    let high = literals_high(e);
+    let mut list = first_vectors(alloc, e)?;
+    for j in 0..e.inputs() {
+        push_turned(&mut list, used, high, j)?;
+    }
+    Ok(list)
+}
