@@ -1,5 +1,5 @@
 -- Steps of the loops that build the network.
-use Rattle.std.proofs.Common.{◌≡◌, ℕ, zero, suc, ◌+◌, ◌-◌, ◌<◌, ◌≤◌, Bool, true, false, cond, inl, inr, List, [], ◌∷◌, ◌++◌, length, map, get_or, drop, refl, sym, ap, ◌∙◌, arith, append-nil, append_assoc, map-id, length-append}
+use Rattle.std.proofs.Common.{◌≡◌, ℕ, zero, suc, ◌+◌, ◌-◌, ◌<◌, ◌≤◌, Bool, true, cond, inl, inr, List, [], ◌∷◌, ◌++◌, length, map, get_or, drop, refl, sym, ap, ◌∙◌, arith, append-nil, append_assoc, map-id, length-append}
 use Rattle.std.specs.Prelude.{filter, All, slice_index}
 use Rattle.std.specs.List.{range_with_len}
 use Rattle.std.specs.Fmt.{decimal}
@@ -7,14 +7,8 @@ use Rattle.std.proofs.lemmas.Bool.{cases_Bool}
 use Rattle.std.proofs.lemmas.List.FromFn.{map-range_with_len_more}
 use Rattle.std.proofs.lemmas.List.Elements.{filter-append}
 use Rattle.std.proofs.Common.{add-one, drop-cons, ne_eqb, eq-eqb}
-use Rattle.std.proofs.lemmas.List.{length-map, map-append, take-append-drop}
-use Rattle.std.proofs.Math.Seq.{take-suc}
-use Rattle.std.specs.declared.cmp.Ordering.{Ordering}
-use Rattle.std.specs.declared.cmp.Ordering.TheVariants.{Less, Equal, Greater}
-use Rattle.std.specs.Ordering.{is_lt}
-use Rattle.std.proofs.Common.{take}
+use Rattle.std.proofs.lemmas.List.{length-map, map-append}
 use Rattle.std.specs.List.{flat_map}
-use Rattle.cascade.specs.Reddy.{placed, in_order, is_wide}
 use Rattle.std.proofs.Common.{eqb, length-drop}
 use Rattle.std.specs.Prelude.{codes}
 use Rattle.std.proofs.lemmas.Bool.{cases_eq}
@@ -32,7 +26,6 @@ use Rattle.cascade.proofs.NamesApart.{all_inner}
 use Rattle.cascade.proofs.Valid.{each_filter, few_of_all}
 use Rattle.cascade.specs.Left.{links_of}
 use Rattle.cascade.proofs.GatesValid.{length-members}
-use Rattle.ae_base.specs.Mask.{cmp_terms}
 use Rattle.ae_net.specs.declared.net.Gate.{Gate}
 use Rattle.cascade.specs.Reddy.{gates_for, place_of}
 use Rattle.ae_base.specs.declared.limits.TheConstants.{NET_LINES, PINS, GATES}
