@@ -1,37 +1,25 @@
 -- The default names.
-use Rattle.std.proofs.Common.{◌≡◌, ◌≢◌, ℕ, zero, suc, ◌+◌, ◌-◌, ◌%◌, ◌^◌, ◌<◌, ◌≤◌, Bool, true, false, not, ◌&&◌, eqb, leb, List, [], ◌∷◌, ◌++◌, length, get_or, All, Result, Ok, Err, IfOk, refl, sym, ap, ◌∙◌, subst, arith, mod-lt}
+use Rattle.std.proofs.Common.{◌≡◌, ◌≢◌, ℕ, zero, suc, ◌+◌, ◌-◌, ◌%◌, ◌^◌, ◌<◌, ◌≤◌, Bool, true, not, eqb, leb, List, [], ◌∷◌, ◌++◌, length, get_or, All, Result, Ok, Err, IfOk, refl, sym, ap, ◌∙◌, subst, arith, mod-lt}
 use Rattle.std.specs.List.{list_all, AllPairs}
 use Rattle.std.specs.Fmt.{decimal}
-use Rattle.std.proofs.lemmas.Bool.{le-leb, ne_eqb}
-use Rattle.std.proofs.lemmas.List.{get_or_at, length_push, append-nil, append_assoc}
-use Rattle.std.proofs.lemmas.List.Elements.{All-nil, All-push, All-append}
+use Rattle.std.proofs.lemmas.Bool.{and_from, le-leb, ne_eqb}
+use Rattle.std.proofs.lemmas.List.{get_or_at, length_push}
+use Rattle.std.proofs.lemmas.List.Elements.{All-nil, All-push}
+use Rattle.std.proofs.lemmas.List.Folds.{list_all-append}
 use Rattle.std.proofs.lemmas.List.Quantifiers.{all_pairs_push}
 use Rattle.std.proofs.lemmas.Fmt.{decimal_by_steps, length-decimal-le, decimal_injective}
+use Rattle.ae_base.specs.declared.limits.TheConstants.{NAME_BYTES, SOURCE_NAME_BYTES}
 use Rattle.ae_base.specs.Name.{is_allowed, is_name, is_source_name}
 use Rattle.pla_read.specs.Pla.{default_names}
 use Rattle.pla_read.specs.Sound.{AreLabels}
 
 -- ---- they are names
 
-and_true : (a b : Bool) → a ≡ true → b ≡ true → (a && b) ≡ true
-and_true true b h k = k
-and_true false b h k = h
-
-and_left : (a b : Bool) → (a && b) ≡ true → a ≡ true
-and_left true b h = refl
-and_left false b h = h
-
-and_right : (a b : Bool) → (a && b) ≡ true → b ≡ true
-and_right true b h = h
-and_right false b h = absurd cc
-
 digit_allowed : (d : ℕ) → is_allowed (48 + d) ≡ true
-digit_allowed d = and_true (leb 33 (48 + d)) (not (eqb (48 + d) 35)) (le-leb 33 (48 + d) (omega arith)) (ap not (ne_eqb (48 + d) 35 (λ e. omega (arith, e))))
+digit_allowed d = and_from (leb 33 (48 + d)) (not (eqb (48 + d) 35)) (le-leb 33 (48 + d) (omega arith)) (ap not (ne_eqb (48 + d) 35 (λ e. omega (arith, e))))
 
 all_push : (p : ℕ → Bool) (xs : List ℕ) (x : ℕ) → list_all p xs ≡ true → p x ≡ true → list_all p (xs ++ x ∷ []) ≡ true
-all_push p [] x h k = and_true (p x) true k refl
-all_push p (y ∷ ys) x h k =
-    and_true (p y) (list_all p (ys ++ x ∷ [])) (and_left (p y) (list_all p ys) h) (all_push p ys x (and_right (p y) (list_all p ys) h) k)
+all_push p xs x h k = list_all-append p xs (x ∷ []) ∙ and_from (list_all p xs) (list_all p (x ∷ [])) h (and_from (p x) true k refl)
 
 -- the bytes of a decimal number can stand at the end of a name
 record EndsName (n : ℕ) (ds : List ℕ) : Type 0 where
@@ -52,23 +40,23 @@ named : (letter n : ℕ) (ds : List ℕ) → is_allowed letter ≡ true → Ends
 named letter n [] first h short = absurd (omega (arith, h.some))
 named letter n (d ∷ ds) first h short =
     let some : not (eqb (length (letter ∷ d ∷ ds)) 0) ≡ true = ap not (ne_eqb (length (letter ∷ d ∷ ds)) 0 (λ e. omega (arith, e))) in
-    let few : leb (length (letter ∷ d ∷ ds)) 511 ≡ true = le-leb _ _ (omega (arith, short)) in
+    let few : leb (length (letter ∷ d ∷ ds)) NAME_BYTES ≡ true = le-leb _ _ (omega (arith, short)) in
     let place : length (letter ∷ d ∷ ds) - 1 ≡ suc (length (d ∷ ds) - 1) = omega arith in
     let last : not (eqb (get_or (letter ∷ d ∷ ds) (length (letter ∷ d ∷ ds) - 1) 0) 92) ≡ true =
     ap not (ne_eqb _ 92 (λ e. let same : get_or (letter ∷ d ∷ ds) (length (letter ∷ d ∷ ds) - 1) 0 ≡ get_or (d ∷ ds) (length (d ∷ ds) - 1) 0 = ap (λ (k : ℕ). get_or (letter ∷ d ∷ ds) k 0) place in omega (arith, e, same, h.last))) in
-    and_true _ _ (and_true _ _ (and_true _ _ some few) last) (and_true (is_allowed letter) (list_all is_allowed (d ∷ ds)) first h.all)
+    and_from _ _ (and_from _ _ (and_from _ _ some few) last) (and_from (is_allowed letter) (list_all is_allowed (d ∷ ds)) first h.all)
 
 pub default_is_name : (letter n : ℕ) → is_allowed letter ≡ true → n < 2 ^ 64 → is_name (letter ∷ decimal n) ≡ true
 default_is_name letter n first small = named letter n (decimal n) first (ends_decimal n small) (length-decimal-le 20 n (omega arith) (omega arith) (omega arith))
 
-short : (letter n : ℕ) → n < 2 ^ 64 → leb (length (letter ∷ decimal n)) 255 ≡ true
+short : (letter n : ℕ) → n < 2 ^ 64 → leb (length (letter ∷ decimal n)) SOURCE_NAME_BYTES ≡ true
 short letter n small = le-leb _ _ (omega (arith, length-decimal-le 20 n (omega arith) (omega arith) (omega arith)))
 
 all_named : (letter n : ℕ) → is_allowed letter ≡ true → n < 2 ^ 64 → All (λ name. is_source_name name ≡ true) (default_names letter n)
 all_named letter zero first small = All-nil _
 all_named letter (suc n) first small =
     All-push (λ name. is_source_name name ≡ true) (default_names letter n) (letter ∷ decimal (suc n)) (all_named letter n first (omega arith))
-    (and_true (is_name (letter ∷ decimal (suc n))) (leb (length (letter ∷ decimal (suc n))) 255) (default_is_name letter (suc n) first small) (short letter (suc n) small))
+    (and_from (is_name (letter ∷ decimal (suc n))) (leb (length (letter ∷ decimal (suc n))) SOURCE_NAME_BYTES) (default_is_name letter (suc n) first small) (short letter (suc n) small))
 
 -- ---- they differ
 

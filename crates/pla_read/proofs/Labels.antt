@@ -1,15 +1,12 @@
 -- Lists of names that differ.
-use Rattle.std.proofs.Common.{◌≡◌, ◌≢◌, ℕ, zero, suc, ◌+◌, ◌<◌, ◌≤◌, Bool, true, false, ◌||◌, List, [], ◌∷◌, ◌++◌, length, get_or, All, refl, sym, ◌∙◌, arith}
+use Rattle.std.proofs.Common.{◌≡◌, ◌≢◌, suc, true, false, List, [], ◌∷◌, ◌++◌, All, arith}
 use Rattle.std.specs.List.{list_any, AllPairs}
 use Rattle.std.specs.Str.{bytes_eq}
+use Rattle.std.proofs.lemmas.Bool.{or_parts}
 use Rattle.std.proofs.lemmas.List.Elements.{All-append, All-cons}
 use Rattle.std.proofs.lemmas.List.Kept.{AllPairs-cons}
 use Rattle.std.proofs.lemmas.Slice.Eq.{bytes_eq-Decides}
 use Rattle.pla_read.specs.Words.{Word, has_twins, share}
-
-or_parts : (a b : Bool) → (a || b) ≡ false → (a ≡ false) × (b ≡ false)
-or_parts false b h = (refl, h)
-or_parts true b h = absurd cc
 
 -- a name that is none of these differs from each
 apart_of : (name : Word) (names : List Word) → list_any (bytes_eq name) names ≡ false → All (λ other. name ≢ other) names

@@ -1,5 +1,5 @@
 -- The whole text.
-use Rattle.std.proofs.Common.{◌≡◌, ℕ, true, false, List, [], ◌∷◌, ◌++◌, length, map, Option, Some, None, All, refl, sym, ap, ap₂, ◌∙◌, subst}
+use Rattle.std.proofs.Common.{◌≡◌, ℕ, true, false, List, [], length, map, Option, Some, None, All, sym, ap, ap₂, ◌∙◌, subst}
 use Rattle.std.specs.Prelude.{IfSome, unwrap_or}
 use Rattle.std.proofs.lemmas.List.Elements.{All-append}
 use Rattle.ae_base.specs.Name.{is_source_name}

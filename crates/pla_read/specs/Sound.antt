@@ -1,5 +1,5 @@
 -- For private contracts alone: what is true of what lines without a fault say.
-use Rattle.std.specs.Prelude.{◌≡◌, ◌≢◌, ℕ, ◌≤◌, List, length, Some, IfSome, unwrap_or, true, All, AllPairs}
+use Rattle.std.specs.Prelude.{◌≡◌, ◌≢◌, ◌≤◌, List, length, Some, IfSome, unwrap_or, true, All, AllPairs}
 use Rattle.ae_base.specs.Name.{is_source_name}
 use Rattle.ae_cover.specs.declared.cover.TheConstants.{PLA_ROWS}
 use Rattle.ae_cover.specs.Cover.{IsCount, IsRow}

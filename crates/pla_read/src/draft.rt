@@ -62,10 +62,7 @@ impl Draft {
     fn read_inputs(&mut self, words: &[&[u8]]) -> Result<(), LineErr>
         ensures { Takes self.old (spec.Heads header.Inputs (texts words.now)) result self.new }
     {
-        if self.inputs.is_some() {
-            return Err(LineErr::Fault(PlaFault::Late));
-        }
-        if self.has_rows() {
+        if self.inputs.is_some() || self.has_rows() {
             return Err(LineErr::Fault(PlaFault::Late));
         }
         let Some(n) = read_number(words) else {
@@ -82,10 +79,7 @@ impl Draft {
     fn read_outputs(&mut self, words: &[&[u8]]) -> Result<(), LineErr>
         ensures { Takes self.old (spec.Heads header.Outputs (texts words.now)) result self.new }
     {
-        if self.outputs.is_some() {
-            return Err(LineErr::Fault(PlaFault::Late));
-        }
-        if self.has_rows() {
+        if self.outputs.is_some() || self.has_rows() {
             return Err(LineErr::Fault(PlaFault::Late));
         }
         let Some(n) = read_number(words) else {
@@ -102,10 +96,7 @@ impl Draft {
     fn read_kind(&mut self, words: &[&[u8]]) -> Result<(), LineErr>
         ensures { Takes self.old (spec.Heads header.Type (texts words.now)) result self.new }
     {
-        if self.kind.is_some() {
-            return Err(LineErr::Fault(PlaFault::Late));
-        }
-        if self.has_rows() {
+        if self.kind.is_some() || self.has_rows() {
             return Err(LineErr::Fault(PlaFault::Late));
         }
         let Some(kind) = read_kind(words) else {
@@ -119,10 +110,7 @@ impl Draft {
     fn read_input_names(&mut self, alloc: Global, words: &[&[u8]]) -> Result<(), LineErr>
         ensures { Takes self.old (spec.Heads header.InputNames (texts words.now)) result self.new }
     {
-        if self.input_names.is_some() {
-            return Err(LineErr::Fault(PlaFault::Late));
-        }
-        if self.has_rows() {
+        if self.input_names.is_some() || self.has_rows() {
             return Err(LineErr::Fault(PlaFault::Late));
         }
         let Some(n) = self.inputs else {
@@ -142,10 +130,7 @@ impl Draft {
     fn read_output_names(&mut self, alloc: Global, words: &[&[u8]]) -> Result<(), LineErr>
         ensures { Takes self.old (spec.Heads header.OutputNames (texts words.now)) result self.new }
     {
-        if self.output_names.is_some() {
-            return Err(LineErr::Fault(PlaFault::Late));
-        }
-        if self.has_rows() {
+        if self.output_names.is_some() || self.has_rows() {
             return Err(LineErr::Fault(PlaFault::Late));
         }
         let Some(m) = self.outputs else {
@@ -175,10 +160,7 @@ impl Draft {
             return Err(LineErr::Fault(PlaFault::BadWidth));
         }
         let (front, back) = chars.split_at(n as usize);
-        if !are_inputs(front) {
-            return Err(LineErr::Fault(PlaFault::BadChar));
-        }
-        if !are_outputs(back) {
+        if !are_inputs(front) || !are_outputs(back) {
             return Err(LineErr::Fault(PlaFault::BadChar));
         }
         if self.rows.len() >= PLA_ROWS {

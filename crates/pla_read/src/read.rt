@@ -5,10 +5,10 @@ ghost use Rattle.pla_read.specs.Pla as spec;
 ghost use Rattle.pla_read.specs.Reads.{Gives};
 ghost use Rattle.pla_read.specs.Step.{texts, Reads};
 
-use crate::names::names_or;
 use crate::draft::Draft;
 use crate::fault::{LineErr, PlaErr, PlaFault};
 use crate::header::{Header, header_of};
+use crate::names::names_or;
 use crate::words::share;
 use ae_base::{Memory, TEXT_BYTES};
 use ae_cover::{Cover, Kind};
