@@ -145,7 +145,9 @@ fn read_line(
     }
 }
 
-/// The lines of a text.
+/// The lines of a text that have words, each word by its place in the text, and the number of physical lines.
+///
+/// A text has at most `TEXT_BYTES` bytes. `Memory` comes only for want of memory. What the lines are in words is said by `words_law`.
 pub fn lines(alloc: Global, bytes: &[u8], style: Style) -> Result<LineList, Memory>
     requires { length bytes.now ≤ TEXT_BYTES }
     ensures lines { IfOk result (λ found. found ≡ spec.lines_of style bytes.now) }
