@@ -29,14 +29,16 @@ use Rattle.fn_store.proofs.Expansions.{means, terms_inside}
 use Rattle.cascade.specs.declared.limits.TheConstants.{REDDY_TERMS}
 use Rattle.cascade.specs.Reddy.{reddy_net}
 use Rattle.cascade.specs.Shows.{Fits, CanBuild}
-use Rattle.cascade.specs.FirstVectors.{first_vectors, literals_at, without_repeats}
+use Rattle.universal_tests.specs.Odd.{is_odd, DetectsLiterals}
+use Rattle.universal_tests.specs.Sites.{DetectsAllBut}
+use Rattle.universal_tests.specs.Universal.{universal_vectors}
 use Rattle.cascade.proofs.Shown as reddy
 use Rattle.ae_cover.specs.Cover.{Table, IsCover, source_of}
 use Rattle.synth_cmd.specs.declared.job.Summary.{Summary}
 use Rattle.synth_cmd.specs.declared.vector_file.Vector.{Vector}
 use Rattle.synth_cmd.specs.VectorFile.{VectorFile, IsValidVectorFile, vector_text}
 use Rattle.synth_cmd.specs.Steps.{vectors_of, file_over}
-use Rattle.synth_cmd.specs.Synthesis.{AreExpansions, ShowsBoth, IsNetworkOf, IsFileOf, IsSynthesised, all_plain, names_of}
+use Rattle.synth_cmd.specs.Synthesis.{AreExpansions, ShowsBoth, IsNetworkOf, IsFileOf, IsTested, IsSynthesised, all_plain, names_of}
 use Rattle.synth_cmd.proofs.Meaning.{value-with, control_low, control_high}
 use Rattle.synth_cmd.proofs.Shown.{meets, listed_distinct}
 use Rattle.synth_cmd.proofs.Used.{are_used}
@@ -46,43 +48,6 @@ use Rattle.synth_cmd.proofs.Used.{are_used}
 -- a set of numbers below n that pass a test is a point of n inputs
 where_point : (n : ℕ) (test : ℕ → Bool) → IsPoint n (where_below n test)
 where_point n test = has-inside (where_below n test) (first n) (λ k h. has-first n k ∙ (and_parts _ _ (sym (has-where_below n test k) ∙ h)).0)
-
--- a point is one of one more input
-wider : (n : ℕ) (x : Set) → IsPoint n x → IsPoint (suc n) x
-wider n x h = has-inside x (first (suc n)) (λ k m. let l : k < n = ltb-true k n (sym (has-first n k) ∙ inside-has x (first n) h k m) in has-first (suc n) k ∙ lt-ltb k (suc n) (omega (arith, l)))
-
-with_last : (n : ℕ) (x : Set) → IsPoint n x → IsPoint (suc n) (with x n)
-with_last n x h = has-inside (with x n) (first (suc n)) (λ k m. has-first (suc n) k ∙ lt-ltb k (suc n) (at_most k (or_cases (eqb k n) (has x k) (sym (has-with x n k) ∙ m))))
-  where
-    at_most : (k : ℕ) → (eqb k n ≡ true) ⊎ (has x k ≡ true) → k < suc n
-    at_most k (inl e) = omega (arith, eqb-true k n e)
-    at_most k (inr m) = let l : k < n = ltb-true k n (sym (has-first n k) ∙ inside-has x (first n) h k m) in omega (arith, l)
-
-all_but : (P : Set → Type 0) (test : Set → Bool) (xs : List Set) → AllByRecursion P xs → AllByRecursion P (filter test xs)
-all_but P test [] h = tt
-all_but P test (x ∷ xs) (here, h) = keep (test x) (all_but P test xs h)
-  where
-    keep : (b : Bool) → AllByRecursion P (filter test xs) → AllByRecursion P (cond b (x ∷ filter test xs) (filter test xs))
-    keep true rest = (here, rest)
-    keep false rest = rest
-
-once : (P : Set → Type 0) (xs : List Set) → AllByRecursion P xs → AllByRecursion P (without_repeats xs)
-once P [] h = tt
-once P (x ∷ xs) (here, h) = (here, all_but P (λ y. not (eqb y x)) (without_repeats xs) (once P xs h))
-
-literals_point : (p : Signs) (used : Set) (v : Bool) → IsPoint p.n (literals_at p used v)
-unfolding literals_at
-literals_point p used v = where_point p.n (λ j. has used j && cond (has p.plain j) v (not v))
-
--- the first vectors are points of the network
-first_points : (p : Signs) (used : Set) → AllByRecursion (IsPoint (suc p.n)) (first_vectors p used)
-unfolding first_vectors
-first_points p used =
-    let low = literals_point p used false in
-    let high = literals_point p used true in
-    let l : Set = literals_at p used false in
-    let h : Set = literals_at p used true in
-    once (IsPoint (suc p.n)) (l ∷ h ∷ with l p.n ∷ with h p.n ∷ []) (wider p.n l low, (wider p.n h high, (with_last p.n l low, (with_last p.n h high, tt))))
 
 -- ---- vectors
 
@@ -120,7 +85,7 @@ module _ (t : Table) (e : Terms) (cover : IsCover t) (cheap : cost e ≤ REDDY_T
   net = reddy_net (names_of s) e
 
   abbrev file : VectorFile
-  file = file_over net s.outputs e.polarity (first_vectors e.polarity (used_inputs e))
+  file = file_over net s.outputs e.polarity (universal_vectors e.polarity (used_inputs e))
 
   pub is_names : IsNames (names_of s)
   is_names = record {
@@ -202,10 +167,13 @@ module _ (t : Table) (e : Terms) (cover : IsCover t) (cheap : cost e ≤ REDDY_T
   outputs_named = subst (All (λ name. is_name name ≡ true)) (drop-append_seam s.inputs s.outputs) (All-drop (λ name. is_name name ≡ true) (length s.inputs) (s.inputs ++ s.outputs) (All-weaker (λ name. is_source_name name ≡ true) (λ name. is_name name ≡ true) are_names (s.inputs ++ s.outputs) cover.named))
 
   abbrev points : List Set
-  points = first_vectors e.polarity (used_inputs e)
+  points = universal_vectors e.polarity (used_inputs e)
 
-  pub is_valid_file : IsValidVectorFile file
-  is_valid_file = record {
+  control_is : e.polarity.n + 1 ≡ length net.inputs
+  control_is = omega (arith, n_is, length-inputs)
+
+  pub is_valid_file : All (IsPoint (e.polarity.n + 1)) points → IsValidVectorFile file
+  is_valid_file are_points = record {
     some_input = omega (arith, n_is, cover.inputs.0);
     polarity = length-inputs ∙ ap suc (sym n_is);
     few_inputs = omega (arith, length-inputs, cover.inputs.1);
@@ -213,33 +181,42 @@ module _ (t : Table) (e : Terms) (cover : IsCover t) (cheap : cost e ≤ REDDY_T
     few_outputs = omega (arith, cover.outputs.1);
     named = All-append (λ name. is_name name ≡ true) net.inputs s.outputs valid.inputs_named outputs_named;
     distinct = subst (λ names. IsDistinct (net.inputs ++ names)) ports (listed_distinct net valid);
-    points = All-map (λ v. IsPoint (length net.inputs) v.point) _ (first_vectors e.polarity (used_inputs e))
-        (All-from_recursion _ _ (subst (λ m. AllByRecursion (IsPoint m) (first_vectors e.polarity (used_inputs e))) (ap suc n_is ∙ sym length-inputs) (first_points e.polarity (used_inputs e))));
-    responses = All-map (λ v. IsPoint (length s.outputs) v.outs) _ (first_vectors e.polarity (used_inputs e)) (λ i d l. subst (λ m. IsPoint m (out net None (get_or points i d))) length-outputs (out_point net (get_or points i d)));
+    points = All-map (λ v. IsPoint (length net.inputs) v.point) _ points (subst (λ m. All (IsPoint m) points) control_is are_points);
+    responses = All-map (λ v. IsPoint (length s.outputs) v.outs) _ (universal_vectors e.polarity (used_inputs e)) (λ i d l. subst (λ m. IsPoint m (out net None (get_or points i d))) length-outputs (out_point net (get_or points i d)));
   }
 
-  is_file : IsFileOf s net file
-  is_file = record {
-    valid = is_valid_file;
+  is_file : All (IsPoint (e.polarity.n + 1)) points → IsFileOf s net file
+  is_file are_points = record {
+    valid = is_valid_file are_points;
     form = refl;
     inputs = refl;
     outputs = sym ports;
     polarity = are.polarity;
     used = used_inputs e;
     are_used = are_used s k refl e are;
-    points = points-vectors_of net (first_vectors e.polarity (used_inputs e));
-    responses = All-map (λ v. v.outs ≡ out net None v.point) _ (first_vectors e.polarity (used_inputs e)) (λ i d l. refl);
+    points = points-vectors_of net (universal_vectors e.polarity (used_inputs e));
+    responses = All-map (λ v. v.outs ≡ out net None v.point) _ (universal_vectors e.polarity (used_inputs e)) (λ i d l. refl);
   }
 
-  pub is_synthesised : (net_bytes vector_bytes : List ℕ) (summary : Summary) → blif_says Written (blif_text net) ≡ Ok net → net_bytes ≡ blif_text net → vector_bytes ≡ vector_text file → summary.terms ≡ cost e
+  -- what the vectors detect, said of those that the file lists
+  is_tested : DetectsAllBut net e.polarity.n points → DetectsLiterals net e.polarity.n (is_odd e) points → IsTested net e file
+  is_tested others literals =
+      let listed = sym (points-vectors_of net points) in
+      record {
+        others = subst (λ xs. DetectsAllBut net e.polarity.n xs) listed others;
+        literals = subst (λ xs. DetectsLiterals net e.polarity.n (is_odd e) xs) listed literals;
+      }
+
+  pub is_synthesised : All (IsPoint (e.polarity.n + 1)) points → DetectsAllBut net e.polarity.n points → DetectsLiterals net e.polarity.n (is_odd e) points → (net_bytes vector_bytes : List ℕ) (summary : Summary) → blif_says Written (blif_text net) ≡ Ok net → net_bytes ≡ blif_text net → vector_bytes ≡ vector_text file → summary.terms ≡ cost e
       → summary.gates ≡ length net.gates → summary.vectors ≡ length file.vectors → IsSynthesised s net_bytes vector_bytes summary
-  is_synthesised net_bytes vector_bytes summary again net_is file_is terms_are gates_are vectors_are = record {
+  is_synthesised are_points others literals net_bytes vector_bytes summary again net_is file_is terms_are gates_are vectors_are = record {
     net = net;
     expansions = e;
     file = file;
     is_network = is_network;
     has_form = record { expansions = are; cascade = refl };
-    is_file = is_file;
+    is_file = is_file are_points;
+    is_tested = is_tested others literals;
     reads_back = ap (blif_says Written) net_is ∙ again;
     net_text = net_is;
     vector_text = file_is;

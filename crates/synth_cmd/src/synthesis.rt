@@ -14,11 +14,12 @@ use ae_base::{Cube, Memory, Name, Point, Polarity, Seq};
 use ae_cover::{Cover, Mark, Row};
 use ae_net::{Net, NetNames, answer, scratch_for};
 use blif_write::{blif_text, said_again};
-use cascade::{REDDY_TERMS, first_vectors, reddy};
+use cascade::{REDDY_TERMS, reddy};
 use expansion::{Expansion, pairs};
 use fn_store::cubes_expansion;
 
 use std::alloc::Global;
+use universal_tests::{universal, universal_law};
 
 /// Why a source is not synthesised.
 #[derive(Clone, Copy, Debug, PartialEq, Eq)]
@@ -169,7 +170,7 @@ fn vector_file(
     })
 }
 
-/// The network of a source and its first vectors, as texts.
+/// The network of a source and its universal vectors, as texts.
 pub fn synthesise(alloc: Global, cover: &Cover) -> Result<Made, ExpandErr>
     ensures made { IfOk result (λ made. IsSynthesised (source_of cover.now) made.net_text.items made.vector_text.items made.summary) }
     ensures too_many { (output : ℕ) → IsErrOf result (expand_err.TooManyTerms output) → HasTooMany (source_of cover.now) output }
@@ -177,11 +178,12 @@ pub fn synthesise(alloc: Global, cover: &Cover) -> Result<Made, ExpandErr>
     let names = net_names(alloc, cover)?;
     let expansions = expansions(alloc, cover)?;
     let net = reddy(alloc, &names, &expansions)?;
-    let points = first_vectors(alloc, &expansions)?;
+    let points = universal(alloc, &expansions)?;
     let file = vector_file(alloc, &net, cover.outputs(), expansions.polarity(), &points)?;
     let net_text = blif_text(alloc, &net)?;
-    // The text says the network again: what a reader of NET sees is what is proved here.
+    // What a reader of NET sees is this network, and its faults are the ones that the vectors detect.
     said_again();
+    universal_law();
     let vector_text = vector_text(alloc, &file)?;
     Ok(Made {
         net_text,
