@@ -103,3 +103,18 @@ fn seventeen_complemented_inputs(rt: HostRuntime) -> Result<(), Fail> {
     assert!(rt; refused);
     Ok(())
 }
+
+/// Each output has a term for each set of the sixteen inputs: 65,536, as many as there may be in all.
+static SIXTEEN_TWICE: &[u8] = b".i 16\n.o 2\n0000000000000000 11\n.e\n";
+
+#[test]
+fn the_terms_of_all_outputs_count(rt: HostRuntime) -> Result<(), Fail> {
+    let refused = ends(
+        rt.alloc(),
+        SIXTEEN_TWICE,
+        TOO_MANY_TERMS,
+        b"too many terms: output 2\n",
+    )?;
+    assert!(rt; refused);
+    Ok(())
+}
