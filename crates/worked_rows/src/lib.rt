@@ -2,8 +2,24 @@
 #![tactic(auto)]
 
 #[cfg(test)]
+mod cut_texts;
+#[cfg(test)]
 mod files;
+#[cfg(test)]
+mod header_faults;
+#[cfg(test)]
+mod profile;
+#[cfg(test)]
+mod refused;
+#[cfg(test)]
+mod row_faults;
 #[cfg(test)]
 mod rows;
 #[cfg(test)]
+mod sizes;
+#[cfg(test)]
 mod statuses;
+#[cfg(test)]
+mod text_faults;
+#[cfg(test)]
+mod written;

@@ -4,11 +4,9 @@ use crate::files::run_words;
 use ae_outside::{MemFiles, MemSink};
 use std::alloc::{AllocError, Global};
 use std::test::Fail;
-use synth_cmd::{DONE, READ_FAULT, REFUSED, WORDS, WRITE_FAULT};
+use synth_cmd::{DONE, READ_FAULT, WORDS, WRITE_FAULT};
 
 static AND: &[u8] = b".i 2\n.o 1\n11 1\n.e\n";
-
-static REFUSAL: &[u8] = b"refused: in.pla: narrow form\n";
 
 static USAGE: &[u8] =
     b"usage: andexor synth IN NET VEC, grade NET VEC, check NET VEC, demo NUMBER NET VEC\n";
@@ -79,54 +77,6 @@ fn a_missing_source_is_a_read_fault(rt: HostRuntime) -> Result<(), Fail> {
     assert_eq!(rt; status, READ_FAULT);
     assert_eq!(rt; report.bytes(), b"read fault: in.pla\n".as_slice());
     assert!(rt; files.held("n.blif").is_none());
-    Ok(())
-}
-
-/// Whether a text is refused as not of the narrow form, and nothing is written.
-fn refuses_text(alloc: Global, source: &[u8]) -> Result<bool, AllocError> {
-    let mut files = MemFiles::new(alloc);
-    let mut report = MemSink::new(alloc);
-    files.put("in.pla", source).map_err(|_| AllocError)?;
-    let status = run_words(alloc, "synth in.pla n.blif v.vec", &mut files, &mut report)?;
-    Ok(status == REFUSED && report.bytes() == REFUSAL && holds_no_text(&files))
-}
-
-#[test]
-fn a_text_without_its_end(rt: HostRuntime) -> Result<(), Fail> {
-    let alloc = rt.alloc();
-    let refused = refuses_text(alloc, b"")?;
-    assert!(rt; refused);
-    let refused = refuses_text(alloc, b".i 2\n.o 1\n11 1\n")?;
-    assert!(rt; refused);
-    let refused = refuses_text(alloc, b".i 2\n.o 1\n11 1\n.e")?;
-    assert!(rt; refused);
-    Ok(())
-}
-
-#[test]
-fn a_text_with_a_ninth_input(rt: HostRuntime) -> Result<(), Fail> {
-    let alloc = rt.alloc();
-    let refused = refuses_text(alloc, b".i 9\n.o 1\n111111111 1\n.e\n")?;
-    assert!(rt; refused);
-    Ok(())
-}
-
-#[test]
-fn a_text_with_a_stray_byte(rt: HostRuntime) -> Result<(), Fail> {
-    let alloc = rt.alloc();
-    let refused = refuses_text(alloc, b".i 2\n.o 1\n12 1\n.e\n")?;
-    assert!(rt; refused);
-    let refused = refuses_text(alloc, b".i 2\n.o 1\n11 1\n.e\n\n")?;
-    assert!(rt; refused);
-    Ok(())
-}
-
-#[test]
-fn a_text_longer_than_any(rt: HostRuntime) -> Result<(), Fail> {
-    let alloc = rt.alloc();
-    let long = vec![in alloc; b'1'; 4622]?;
-    let refused = refuses_text(alloc, &long)?;
-    assert!(rt; refused);
     Ok(())
 }
 

@@ -1,0 +1,120 @@
+//! Texts at the limits, and past them.
+
+use crate::refused::ends;
+use crate::written::{AND, ONE_INPUT, gives_for};
+use std::alloc::{AllocError, Global};
+use std::test::Fail;
+use synth_cmd::{REFUSED, TOO_LONG, TOO_MANY_TERMS};
+
+/// The number of bytes of the longest text.
+const LONGEST: usize = 16_777_216;
+
+/// A text that ends with `.e`, and after it bytes 10 up to this number of bytes.
+fn filled(alloc: Global, count: usize) -> Result<Vec<u8>, AllocError> {
+    let mut text = Vec::from_slice(alloc, AND.source)?;
+    text.resize(count, b'\n')?;
+    Ok(text)
+}
+
+#[test]
+fn a_text_of_the_greatest_length(rt: HostRuntime) -> Result<(), Fail> {
+    let alloc = rt.alloc();
+    let text = filled(alloc, LONGEST)?;
+    let given = gives_for(alloc, &text, &AND)?;
+    assert!(rt; given);
+    Ok(())
+}
+
+#[test]
+fn a_text_of_one_byte_more(rt: HostRuntime) -> Result<(), Fail> {
+    let alloc = rt.alloc();
+    let text = filled(alloc, LONGEST + 1)?;
+    let refused = ends(alloc, &text, TOO_LONG, b"too long: in.pla\n")?;
+    assert!(rt; refused);
+    Ok(())
+}
+
+/// A text of one input, one output and this number of rows.
+fn rows(alloc: Global, count: usize) -> Result<Vec<u8>, AllocError> {
+    let mut text = Vec::from_slice(alloc, b".i 1\n.o 1\n")?;
+    for _ in 0..count {
+        text.extend_from_slice(b"1 1\n")?;
+    }
+    Ok(text)
+}
+
+#[test]
+fn as_many_rows_as_there_may_be(rt: HostRuntime) -> Result<(), Fail> {
+    let alloc = rt.alloc();
+    let text = rows(alloc, 65_536)?;
+    let given = gives_for(alloc, &text, &ONE_INPUT)?;
+    assert!(rt; given);
+    Ok(())
+}
+
+#[test]
+fn one_row_more_than_there_may_be(rt: HostRuntime) -> Result<(), Fail> {
+    let alloc = rt.alloc();
+    let text = rows(alloc, 65_537)?;
+    let line = b"refused: in.pla: line 65539: TooManyRows\n".as_slice();
+    let refused = ends(alloc, &text, REFUSED, line)?;
+    assert!(rt; refused);
+    Ok(())
+}
+
+/// A text whose input has a name of this number of bytes.
+fn named(alloc: Global, count: usize) -> Result<Vec<u8>, AllocError> {
+    let mut text = Vec::from_slice(alloc, b".i 1\n.o 1\n.ilb ")?;
+    for _ in 0..count {
+        text.push(b'a')?;
+    }
+    text.extend_from_slice(b"\n1 2\n.type f\n")?;
+    Ok(text)
+}
+
+#[test]
+fn the_longest_name_and_one_byte_more(rt: HostRuntime) -> Result<(), Fail> {
+    let alloc = rt.alloc();
+    let text = named(alloc, 255)?;
+    let refused = ends(alloc, &text, REFUSED, b"refused: in.pla: line 5: Late\n")?;
+    assert!(rt; refused);
+    let text = named(alloc, 256)?;
+    let refused = ends(
+        alloc,
+        &text,
+        REFUSED,
+        b"refused: in.pla: line 3: BadNames\n",
+    )?;
+    assert!(rt; refused);
+    Ok(())
+}
+
+/// With every literal plain the expansion has a term for each set of the seventeen inputs: 131,072.
+static SEVENTEEN: &[u8] = b".i 17\n.o 1\n00000000000000000 1\n.e\n";
+
+#[test]
+fn seventeen_complemented_inputs(rt: HostRuntime) -> Result<(), Fail> {
+    let refused = ends(
+        rt.alloc(),
+        SEVENTEEN,
+        TOO_MANY_TERMS,
+        b"too many terms: output 1\n",
+    )?;
+    assert!(rt; refused);
+    Ok(())
+}
+
+/// Each output has a term for each set of the sixteen inputs: 65,536, as many as there may be in all.
+static SIXTEEN_TWICE: &[u8] = b".i 16\n.o 2\n0000000000000000 11\n.e\n";
+
+#[test]
+fn the_terms_of_all_outputs_count(rt: HostRuntime) -> Result<(), Fail> {
+    let refused = ends(
+        rt.alloc(),
+        SIXTEEN_TWICE,
+        TOO_MANY_TERMS,
+        b"too many terms: output 2\n",
+    )?;
+    assert!(rt; refused);
+    Ok(())
+}

@@ -1,0 +1,65 @@
+//! Runs on a source that is accepted.
+
+use crate::files::{holds, run_words};
+use ae_outside::{MemFiles, MemSink};
+use std::alloc::{AllocError, Global};
+use synth_cmd::DONE;
+
+/// A source, and what is written for it.
+pub struct Row {
+    pub source: &'static [u8],
+    pub net: &'static [u8],
+    pub vectors: &'static [u8],
+    pub report: &'static [u8],
+}
+
+/// The AND of two inputs.
+pub static AND: Row = Row {
+    source: b".i 2\n.o 1\n11 1\n.e\n",
+    net: b".model andexor\n.inputs x1 x2 _c\n.outputs f1\n.names x1 x2 _t1\n11 1\n.names _c _t1 f1\n10 1\n01 1\n.end\n",
+    vectors: b"andexor-vectors 1\nform reddy\ninputs x1 x2 _c\noutputs f1\npolarity 11\nvector 000 0\nvector 110 1\nvector 001 1\nvector 111 0\nend\n",
+    report: b"terms 1\ngates 2\nvectors 4\n",
+};
+
+/// One input, and its value.
+pub static ONE_INPUT: Row = Row {
+    source: b".i 1\n.o 1\n1 1\n.e\n",
+    net: b".model andexor\n.inputs x1 _c\n.outputs f1\n.names _c x1 f1\n10 1\n01 1\n.end\n",
+    vectors: b"andexor-vectors 1\nform reddy\ninputs x1 _c\noutputs f1\npolarity 1\nvector 00 0\nvector 10 1\nvector 01 1\nvector 11 0\nend\n",
+    report: b"terms 1\ngates 1\nvectors 4\n",
+};
+
+/// Runs `synth` on a text, and tells whether all that is written and held is as for the row's source.
+pub fn gives_for(alloc: Global, source: &[u8], row: &Row) -> Result<bool, AllocError> {
+    let mut files = MemFiles::new(alloc);
+    let mut report = MemSink::new(alloc);
+    files.put("in.pla", source).map_err(|_| AllocError)?;
+    let status = run_words(alloc, "synth in.pla n.blif v.vec", &mut files, &mut report)?;
+    Ok(
+        status == DONE
+            && holds(&files, "n.blif", row.net)
+            && holds(&files, "v.vec", row.vectors)
+            && holds(&files, "in.pla", source)
+            && report.bytes() == row.report,
+    )
+}
+
+/// Runs `synth` on the row's source, and tells whether all that is written and held is as the row says.
+pub fn gives(alloc: Global, row: &Row) -> Result<bool, AllocError> {
+    gives_for(alloc, row.source, row)
+}
+
+/// The place of the first text for which something else is written than for the row's source, where there is one.
+pub fn first_other(
+    alloc: Global,
+    texts: &[&'static [u8]],
+    row: &Row,
+) -> Result<Option<usize>, AllocError> {
+    for (i, text) in texts.iter().enumerate() {
+        let given = gives_for(alloc, text, row)?;
+        if !given {
+            return Ok(Some(i));
+        }
+    }
+    Ok(None)
+}
