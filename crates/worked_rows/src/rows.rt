@@ -6,15 +6,15 @@ use std::test::Fail;
 static MAJORITY: Row = Row {
     source: b".i 3\n.o 1\n11- 1\n1-1 1\n-11 1\n.e\n",
     net: b".model andexor\n.inputs x1 x2 x3 _c\n.outputs f1\n.names x1 x2 _t1\n11 1\n.names x1 x3 _t2\n11 1\n.names x2 x3 _t3\n11 1\n.names _c _t1 _x1\n10 1\n01 1\n.names _x1 _t2 _x2\n10 1\n01 1\n.names _x2 _t3 f1\n10 1\n01 1\n.end\n",
-    vectors: b"andexor-vectors 1\nform reddy\ninputs x1 x2 x3 _c\noutputs f1\npolarity 111\nvector 0000 0\nvector 1110 1\nvector 0001 1\nvector 1111 0\nend\n",
-    report: b"terms 3\ngates 6\nvectors 4\n",
+    vectors: b"andexor-vectors 1\nform reddy\ninputs x1 x2 x3 _c\noutputs f1\npolarity 111\nvector 0000 0\nvector 1110 1\nvector 0001 1\nvector 1111 0\nvector 0110 1\nvector 1010 1\nvector 1100 1\nend\n",
+    report: b"terms 3\ngates 6\nvectors 7\n",
 };
 
 static EXOR: Row = Row {
     source: b".i 2\n.o 1\n10 1\n01 1\n.e\n",
     net: b".model andexor\n.inputs x1 x2 _c\n.outputs f1\n.names _c x1 _x1\n10 1\n01 1\n.names _x1 x2 f1\n10 1\n01 1\n.end\n",
-    vectors: b"andexor-vectors 1\nform reddy\ninputs x1 x2 _c\noutputs f1\npolarity 11\nvector 000 0\nvector 110 0\nvector 001 1\nvector 111 1\nend\n",
-    report: b"terms 2\ngates 2\nvectors 4\n",
+    vectors: b"andexor-vectors 1\nform reddy\ninputs x1 x2 _c\noutputs f1\npolarity 11\nvector 000 0\nvector 110 0\nvector 001 1\nvector 111 1\nvector 010 1\nvector 100 1\nend\n",
+    report: b"terms 2\ngates 2\nvectors 6\n",
 };
 
 static CONSTANT_0: Row = Row {
@@ -34,15 +34,15 @@ static CONSTANT_1: Row = Row {
 static SHARED: Row = Row {
     source: b".i 2\n.o 2\n0- 11\n-0 10\n-1 01\n.e\n",
     net: b".model andexor\n.inputs x1 x2 _c\n.outputs f1 f2\n.names _c _m\n0 1\n.names x1 x2 _t1\n11 1\n.names _m _t1 f1\n10 1\n01 1\n.names _m x1 _x1\n10 1\n01 1\n.names _x1 _t1 f2\n10 1\n01 1\n.end\n",
-    vectors: b"andexor-vectors 1\nform reddy\ninputs x1 x2 _c\noutputs f1 f2\npolarity 11\nvector 000 11\nvector 110 01\nvector 001 00\nvector 111 10\nend\n",
-    report: b"terms 5\ngates 5\nvectors 4\n",
+    vectors: b"andexor-vectors 1\nform reddy\ninputs x1 x2 _c\noutputs f1 f2\npolarity 11\nvector 000 11\nvector 110 01\nvector 001 00\nvector 111 10\nvector 010 11\nvector 100 10\nend\n",
+    report: b"terms 5\ngates 5\nvectors 6\n",
 };
 
 static UNREAD_INPUT: Row = Row {
     source: b".i 3\n.o 1\n1-1 1\n.e\n",
     net: b".model andexor\n.inputs x1 x2 x3 _c\n.outputs f1\n.names x1 x3 _t1\n11 1\n.names _c _t1 f1\n10 1\n01 1\n.end\n",
-    vectors: b"andexor-vectors 1\nform reddy\ninputs x1 x2 x3 _c\noutputs f1\npolarity 111\nvector 0000 0\nvector 1010 1\nvector 0001 1\nvector 1011 0\nend\n",
-    report: b"terms 1\ngates 2\nvectors 4\n",
+    vectors: b"andexor-vectors 1\nform reddy\ninputs x1 x2 x3 _c\noutputs f1\npolarity 111\nvector 0000 0\nvector 1010 1\nvector 0001 1\nvector 1011 0\nvector 0010 0\nvector 1000 0\nend\n",
+    report: b"terms 1\ngates 2\nvectors 6\n",
 };
 
 #[test]

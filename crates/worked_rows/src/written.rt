@@ -17,8 +17,8 @@ pub struct Row {
 pub static AND: Row = Row {
     source: b".i 2\n.o 1\n11 1\n.e\n",
     net: b".model andexor\n.inputs x1 x2 _c\n.outputs f1\n.names x1 x2 _t1\n11 1\n.names _c _t1 f1\n10 1\n01 1\n.end\n",
-    vectors: b"andexor-vectors 1\nform reddy\ninputs x1 x2 _c\noutputs f1\npolarity 11\nvector 000 0\nvector 110 1\nvector 001 1\nvector 111 0\nend\n",
-    report: b"terms 1\ngates 2\nvectors 4\n",
+    vectors: b"andexor-vectors 1\nform reddy\ninputs x1 x2 _c\noutputs f1\npolarity 11\nvector 000 0\nvector 110 1\nvector 001 1\nvector 111 0\nvector 010 0\nvector 100 0\nend\n",
+    report: b"terms 1\ngates 2\nvectors 6\n",
 };
 
 /// One input, and its value.
