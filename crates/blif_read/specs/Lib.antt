@@ -6,3 +6,6 @@ pub mod Placing
 pub mod Says
 pub mod Gives
 pub mod Limits
+pub mod Step
+pub mod Reads
+pub mod Build

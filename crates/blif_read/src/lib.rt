@@ -1,7 +1,18 @@
 //! What a BLIF text says (Berkeley Logic Interchange Format), and why one is refused.
 #![tactic(auto)]
 
+mod build;
+mod declare;
+mod draft;
 mod fault;
 mod head;
+mod line_err;
+mod net;
+mod order;
+mod read;
+mod seen;
+mod statement;
+mod table;
 
 pub use fault::{BlifErr, BlifFault, NetLimits};
+pub use read::read_blif;

@@ -1,0 +1,53 @@
+-- Cubes of rows.
+use Rattle.std.proofs.Common.{◌≡◌, ℕ, ◌+◌, ◌<◌, Bool, true, false, ◌&&◌, eqb, ltb, List, [], ◌∷◌, ◌++◌, length, get_or, drop, map, Option, Some, None, refl, sym, ap, ◌∙◌, arith}
+use Rattle.std.proofs.lemmas.List.{append-nil, append_assoc}
+use Rattle.std.proofs.lemmas.Bool.{and_parts, and_right, eqb-true, ne_eqb, ltb-true}
+use Rattle.ae_base.specs.Mask.{has, where_below}
+use Rattle.ae_base.specs.Cube.{Product}
+use Rattle.ae_base.proofs.Sets.{has-where_below}
+use Rattle.ae_lex.specs.Words.{WordLine}
+use Rattle.blif_read.specs.Statement.{Said, said}
+use Rattle.blif_read.specs.Statement.Said.{Model, Inputs, Outputs, Names, End, Unsupported, Unknown, Row}
+use Rattle.blif_read.specs.Says.{onto_rows, rows_at, row_cube}
+use Rattle.blif_read.specs.Build.{row_chars}
+use Rattle.blif_read.proofs.Reading.{rest_more}
+
+-- no pin has two characters
+pub row_is_product : (k : ℕ) (chars : List ℕ) (j : ℕ) → has (where_below k (λ i. eqb (get_or chars i 0) 49)) j ≡ true → has (where_below k (λ i. eqb (get_or chars i 0) 48)) j ≡ false
+row_is_product k chars j h =
+    let one = and_parts (ltb j k) (eqb (get_or chars j 0) 49) (sym (has-where_below k (λ i. eqb (get_or chars i 0) 49) j) ∙ h) in
+    let is_one : get_or chars j 0 ≡ 49 = eqb-true _ _ one.1 in
+    has-where_below k (λ i. eqb (get_or chars i 0) 48) j ∙ and_right (ltb j k) (eqb (get_or chars j 0) 48) (ne_eqb _ _ (λ e. omega (arith, e, is_one)))
+
+-- ---- rows at the front
+
+onto_row : (s : Said) (r : List ℕ) (rows : List (List ℕ)) → row_chars s ≡ Some r → onto_rows s rows ≡ r ∷ rows
+onto_row (Row q) r rows h = (let e : q ≡ r = cc in ap (λ (x : List ℕ). x ∷ rows) e)
+onto_row (Model ws) r rows h = absurd cc
+onto_row (Inputs ws) r rows h = absurd cc
+onto_row (Outputs ws) r rows h = absurd cc
+onto_row (Names ws) r rows h = absurd cc
+onto_row End r rows h = absurd cc
+onto_row Unsupported r rows h = absurd cc
+onto_row Unknown r rows h = absurd cc
+
+onto_none : (s : Said) (rows : List (List ℕ)) → row_chars s ≡ None → onto_rows s rows ≡ []
+onto_none (Row q) rows h = absurd cc
+onto_none (Model ws) rows h = refl
+onto_none (Inputs ws) rows h = refl
+onto_none (Outputs ws) rows h = refl
+onto_none (Names ws) rows h = refl
+onto_none End rows h = refl
+onto_none Unsupported rows h = refl
+onto_none Unknown rows h = refl
+
+pub rows_more : (pins : ℕ) (all : List WordLine) (k : ℕ) (line : WordLine) (rows cubes : List Product) (r : List ℕ) → k < length all → get_or all k line ≡ line → row_chars (said line.words) ≡ Some r
+    → rows ++ map (row_cube pins) (rows_at (drop k all)) ≡ cubes → (rows ++ row_cube pins r ∷ []) ++ map (row_cube pins) (rows_at (drop (k + 1) all)) ≡ cubes
+rows_more pins all k line rows cubes r lt e h t =
+    append_assoc rows (row_cube pins r ∷ []) (map (row_cube pins) (rows_at (drop (k + 1) all)))
+    ∙ ap (λ (rs : List (List ℕ)). rows ++ map (row_cube pins) rs) (sym (onto_row (said line.words) r (rows_at (drop (k + 1) all)) h) ∙ ap rows_at (sym (rest_more all k line lt e))) ∙ t
+
+pub rows_stop : (pins : ℕ) (all : List WordLine) (k : ℕ) (line : WordLine) (rows cubes : List Product) → k < length all → get_or all k line ≡ line → row_chars (said line.words) ≡ None
+    → rows ++ map (row_cube pins) (rows_at (drop k all)) ≡ cubes → rows ≡ cubes
+rows_stop pins all k line rows cubes lt e h t =
+    sym (append-nil rows) ∙ ap (λ (rs : List (List ℕ)). rows ++ map (row_cube pins) rs) (sym (onto_none (said line.words) (rows_at (drop (k + 1) all)) h) ∙ ap rows_at (sym (rest_more all k line lt e))) ∙ t

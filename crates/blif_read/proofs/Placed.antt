@@ -1,0 +1,183 @@
+-- What an order of placing is.
+use Rattle.std.proofs.Common.{◌≡◌, ◌≢◌, ℕ, zero, suc, ◌+◌, ◌-◌, ◌<◌, ◌≤◌, Bool, true, false, not, cond, ◌||◌, eqb, ltb, Option, Some, None, Result, Ok, Err, List, [], ◌∷◌, ◌++◌, length, map, get_or, All, refl, sym, ap, subst, ◌∙◌, arith, inl, inr}
+use Rattle.std.specs.Prelude.{bytes_eq, position, slice_get, is_none, is_some, unwrap_or}
+use Rattle.std.specs.List.{find, list_any, position_or_len, AllByRecursion}
+use Rattle.std.proofs.lemmas.Bool.{cases_Bool, cases_lt, cond-true, cond-false, lt-ltb, le-ltb, ltb-true, ltb-false, false≢true, both_ways}
+use Rattle.std.proofs.lemmas.List.{length-map, length_push, get_or_default}
+use Rattle.std.proofs.lemmas.List.Folds.{find_at, list_any-append, list_any_at}
+use Rattle.ae_net.specs.Valid.{IsDistinct}
+use Rattle.blif_read.specs.Words.{is_among}
+use Rattle.blif_read.specs.Placing as names
+use Rattle.blif_read.specs.Placing.{Unplaced, outs, placed, unless_left}
+use Rattle.blif_read.specs.Says.{place_of}
+use Rattle.blif_read.specs.Build.{rank_in, renumbered, IsRankBelow}
+use Rattle.blif_read.proofs.Tables.{place_of-append}
+use Rattle.blif_read.proofs.Places.{place_at, same_name, AllBelow, below_more}
+use Rattle.blif_read.proofs.Link.{gate_at, blank, out_at, among_placed, next_below, cases_Option}
+use Rattle.blif_place.specs.Order as by_place
+use Rattle.blif_place.proofs.Steps as steps
+
+-- ---- how long an order is, and what stands in it
+
+pub order_below : (needs : List (List ℕ)) (n : ℕ) (done : List ℕ) → AllBelow (length needs) done → AllBelow (length needs) (by_place.place needs n done)
+order_below needs zero done h = subst (AllBelow (length needs)) (sym (steps.place_done needs done)) h
+order_below needs (suc n) done h = elim (cases_Option (by_place.next needs done)) [
+  | inl e ↦ subst (AllBelow (length needs)) (sym (steps.place_stops needs (suc n) done e)) h
+  | inr (k, e) ↦ subst (AllBelow (length needs)) (sym (steps.place_some needs n done k e)) (order_below needs n (done ++ k ∷ []) (below_more (length needs) done k h (next_below needs done k e)))
+]
+
+pub order_short : (needs : List (List ℕ)) (n : ℕ) (done : List ℕ) → length (by_place.place needs n done) ≤ length done + n
+order_short needs zero done = omega (arith, ap length (steps.place_done needs done))
+order_short needs (suc n) done = elim (cases_Option (by_place.next needs done)) [
+  | inl e ↦ omega (arith, ap length (steps.place_stops needs (suc n) done e))
+  | inr (k, e) ↦ omega (arith, ap length (steps.place_some needs n done k e), order_short needs n (done ++ k ∷ []), length_push done k)
+]
+
+pub all_from_below : (n : ℕ) (ss : List ℕ) → AllBelow n ss → All (λ s. s < n) ss
+all_from_below n [] h k d lt = absurd (omega arith)
+all_from_below n (s ∷ ss) h zero d lt = h.0
+all_from_below n (s ∷ ss) h (suc k) d lt = all_from_below n ss h.1 k d (omega arith)
+
+-- ---- the first that passes
+
+any_within : {X : Type 0} (p : X → Bool) (xs : List X) → ltb (position_or_len p xs) (length xs) ≡ list_any p xs
+any_within p [] = le-ltb 0 0 (omega arith)
+any_within p (x ∷ xs) = elim (cases_Bool (p x)) [
+  | inl t ↦ rw t (lt-ltb 0 (suc (length xs)) (omega arith))
+  | inr f ↦ rw f (ltb_suc (position_or_len p xs) (length xs) ∙ any_within p xs)
+]
+  where
+  ltb_suc : (a b : ℕ) → ltb (1 + a) (suc b) ≡ ltb a b
+  ltb_suc a b = elim (cases_lt a b) [
+    | inl lt ↦ lt-ltb (1 + a) (suc b) (omega arith) ∙ sym (lt-ltb a b lt)
+    | inr le ↦ le-ltb (1 + a) (suc b) (omega arith) ∙ sym (le-ltb a b le)
+  ]
+
+same_first : {X Y : Type 0} (p : X → Bool) (q : Y → Bool) (xs : List X) (ys : List Y) (d : X) (e : Y) → length xs ≡ length ys → ((k : ℕ) → k < length xs → p (get_or xs k d) ≡ q (get_or ys k e)) → position_or_len p xs ≡ position_or_len q ys
+same_first p q [] [] d e l h = refl
+same_first p q [] (y ∷ ys) d e l h = absurd (omega arith)
+same_first p q (x ∷ xs) [] d e l h = absurd (omega arith)
+same_first p q (x ∷ xs) (y ∷ ys) d e l h = rw (h 0 (omega arith), same_first p q xs ys d e (omega arith) (λ k lt. h (suc k) (omega arith))) refl
+
+get_in : {X : Type 0} (xs : List X) (k : ℕ) (d : X) → k < length xs → slice_get xs k ≡ Some (get_or xs k d)
+get_in [] k d lt = absurd (omega arith)
+get_in (x ∷ xs) zero d lt = refl
+get_in (x ∷ xs) (suc k) d lt = get_in xs k d (omega arith)
+
+get_past : {X : Type 0} (xs : List X) (k : ℕ) → length xs ≤ k → slice_get xs k ≡ None
+get_past [] k le = refl
+get_past (x ∷ xs) zero le = absurd (omega arith)
+get_past (x ∷ xs) (suc k) le = get_past xs k (omega arith)
+
+-- ---- ranks
+
+pub record AreRanks (cs : List Unplaced) (order : List ℕ) (ranks : List (Option ℕ)) : Type 0 where
+  pub below : AllBelow (length cs) order
+  pub short : length order ≤ length cs
+  pub size : length ranks ≡ length cs
+  pub rank : (g : ℕ) → get_or ranks g None ≡ rank_in order g
+
+pub rank_below : (order : List ℕ) (g k : ℕ) → rank_in order g ≡ Some k → (position_or_len (λ h. eqb h g) order ≡ k) × (k < length order)
+rank_below order g k h = at (ltb (position_or_len (λ h. eqb h g) order) (length order)) refl h
+  where
+  at : (b : Bool) → ltb (position_or_len (λ h. eqb h g) order) (length order) ≡ b → cond b (Some (position_or_len (λ h. eqb h g) order)) None ≡ Some k → (position_or_len (λ h. eqb h g) order ≡ k) × (k < length order)
+  at true e h = (let s : position_or_len (λ h. eqb h g) order ≡ k = cc in (s, omega (arith, ltb-true _ _ e, s)))
+  at false e h = absurd cc
+
+pub ranks_below : (cs : List Unplaced) (order : List ℕ) (ranks : List (Option ℕ)) → AreRanks cs order ranks → All (IsRankBelow (length ranks)) ranks
+ranks_below cs order ranks r = λ g d lt. at g d lt (get_or ranks g d) refl
+  where
+  at : (g : ℕ) (d : Option ℕ) → g < length ranks → (o : Option ℕ) → get_or ranks g d ≡ o → IsRankBelow (length ranks) o
+  at g d lt None e = tt
+  at g d lt (Some k) e =
+      (let here : rank_in order g ≡ Some k = sym (r.rank g) ∙ sym (get_or_default ranks g d None lt) ∙ e in
+      omega (arith, (rank_below order g k here).1, r.short, r.size))
+
+pub placed_is : (order : List ℕ) (g : ℕ) → by_place.is_placed order g ≡ is_some (rank_in order g)
+placed_is order g = sym (any_within (λ h. eqb h g) order) ∙ pick (ltb (position_or_len (λ h. eqb h g) order) (length order)) (position_or_len (λ h. eqb h g) order)
+  where
+  pick : (b : Bool) (n : ℕ) → b ≡ is_some (cond b (Some n) None)
+  pick true n = refl
+  pick false n = refl
+
+none_is : (o : Option ℕ) → not (is_some o) ≡ is_none o
+none_is None = refl
+none_is (Some n) = refl
+
+-- a gate is left exactly where it has no rank
+left_is : (cs : List Unplaced) (order : List ℕ) (ranks : List (Option ℕ)) → IsDistinct (outs cs) → AreRanks cs order ranks → (g : ℕ) → g < length cs → not (is_among (gate_at cs g).out (outs (map (gate_at cs) order))) ≡ is_none (get_or ranks g None)
+left_is cs order ranks apart r g lt =
+    ap (λ (w : List ℕ). not (is_among w (outs (map (gate_at cs) order)))) (out_at cs g lt)
+    ∙ ap not (among_placed cs order g apart r.below lt ∙ placed_is order g) ∙ none_is (rank_in order g) ∙ ap is_none (sym (r.rank g))
+
+abbrev pub left : List Unplaced → List ℕ → Unplaced → Bool
+left cs order c = not (is_among c.out (outs (map (gate_at cs) order)))
+
+first_left : (cs : List Unplaced) (order : List ℕ) (ranks : List (Option ℕ)) → IsDistinct (outs cs) → AreRanks cs order ranks → position_or_len (left cs order) cs ≡ position_or_len (λ o. is_none o) ranks
+first_left cs order ranks apart r = same_first (left cs order) (λ o. is_none o) cs ranks blank None (sym r.size) (λ k lt. left_is cs order ranks apart r k lt)
+
+pub one_left : (cs : List Unplaced) (order : List ℕ) (ranks : List (Option ℕ)) (g : ℕ) → IsDistinct (outs cs) → AreRanks cs order ranks → position (λ o. is_none o) ranks ≡ Some g
+    → (g < length cs) × (find (left cs order) cs ≡ Some (gate_at cs g))
+one_left cs order ranks g apart r h = at (ltb (position_or_len (λ o. is_none o) ranks) (length ranks)) refl h
+  where
+  at : (b : Bool) → ltb (position_or_len (λ o. is_none o) ranks) (length ranks) ≡ b → cond b (Some (position_or_len (λ o. is_none o) ranks)) None ≡ Some g → (g < length cs) × (find (left cs order) cs ≡ Some (gate_at cs g))
+  at true e h =
+      (let s : position_or_len (λ o. is_none o) ranks ≡ g = cc in
+      let lt : g < length cs = omega (arith, ltb-true _ _ e, s, r.size) in
+      (lt, find_at (left cs order) cs ∙ ap (slice_get cs) (first_left cs order ranks apart r ∙ s) ∙ get_in cs g blank lt))
+  at false e h = absurd cc
+
+pub none_left : (cs : List Unplaced) (order : List ℕ) (ranks : List (Option ℕ)) → IsDistinct (outs cs) → AreRanks cs order ranks → position (λ o. is_none o) ranks ≡ None
+    → (find (left cs order) cs ≡ None) × ((g : ℕ) → g < length cs → is_none (rank_in order g) ≡ false)
+none_left cs order ranks apart r h = at (ltb (position_or_len (λ o. is_none o) ranks) (length ranks)) refl h
+  where
+  at : (b : Bool) → ltb (position_or_len (λ o. is_none o) ranks) (length ranks) ≡ b → cond b (Some (position_or_len (λ o. is_none o) ranks)) None ≡ None → (find (left cs order) cs ≡ None) × ((g : ℕ) → g < length cs → is_none (rank_in order g) ≡ false)
+  at true e h = absurd cc
+  at false e h =
+      (find_at (left cs order) cs ∙ ap (slice_get cs) (first_left cs order ranks apart r) ∙ get_past cs (position_or_len (λ o. is_none o) ranks) (omega (arith, ltb-false _ _ e, r.size)),
+       λ g lt. elim (cases_Bool (is_none (rank_in order g))) [
+         | inl t ↦
+             (let any : list_any (λ o. is_none o) ranks ≡ true = list_any_at (λ o. is_none o) ranks g None (omega (arith, r.size)) (ap is_none (r.rank g) ∙ t) in
+             absurd (both_ways _ (sym (any_within (λ o. is_none o) ranks) ∙ e) any))
+         | inr f ↦ f
+       ])
+
+-- ---- the number of a name in the network
+
+pub place_ordered : (cs : List Unplaced) (order : List ℕ) (w : List ℕ) (g : ℕ) → IsDistinct (outs cs) → AllBelow (length cs) order → g < length cs → get_or (outs cs) g [] ≡ w
+    → place_of w (outs (map (gate_at cs) order)) ≡ position_or_len (λ h. eqb h g) order
+place_ordered cs [] w g apart below lt e = refl
+place_ordered cs (h ∷ order) w g apart below lt e =
+    let size : length (outs cs) ≡ length cs = length-map cs (λ (c : Unplaced). c.out) in
+    let same : bytes_eq w (gate_at cs h).out ≡ eqb h g = ap (bytes_eq w) (out_at cs h below.0) ∙ ap (λ (v : List ℕ). bytes_eq v (get_or (outs cs) h [])) (sym e) ∙ same_name (outs cs) g h apart (omega arith) (omega (arith, below.0)) in
+    rw (same, place_ordered cs order w g apart below.1 lt e) refl
+
+pub some_rank : (o : Option ℕ) → is_none o ≡ false → (k : ℕ) × (o ≡ Some k)
+some_rank None h = absurd cc
+some_rank (Some k) h = (k, refl)
+
+pub renumber_same : (inputs : List (List ℕ)) (cs : List Unplaced) (order : List ℕ) (ranks : List (Option ℕ)) (w : List ℕ) → IsDistinct (outs cs) → AreRanks cs order ranks → ((g : ℕ) → g < length cs → is_none (rank_in order g) ≡ false)
+    → is_among w (inputs ++ outs cs) ≡ true → renumbered (length inputs) ranks (place_of w (inputs ++ outs cs)) ≡ place_of w (inputs ++ outs (map (gate_at cs) order))
+renumber_same inputs cs order ranks w apart r all known =
+    let n = length inputs in
+    let old = place_of-append w inputs (outs cs) in
+    let new = place_of-append w inputs (outs (map (gate_at cs) order)) in
+    let size : length (outs cs) ≡ length cs = length-map cs (λ (c : Unplaced). c.out) in
+    elim (cases_Bool (is_among w inputs)) [
+      | inl t ↦
+          (let before : place_of w (inputs ++ outs cs) ≡ place_of w inputs = old ∙ cond-true _ _ _ t in
+          let low : ltb (place_of w (inputs ++ outs cs)) n ≡ true = lt-ltb _ n (omega (arith, before, (place_at w inputs t).0)) in
+          cond-true _ _ _ low ∙ before ∙ sym (new ∙ cond-true _ _ _ t))
+      | inr f ↦
+          (let gate : is_among w (outs cs) ≡ true = sym (ap (λ (b : Bool). b || is_among w (outs cs)) f) ∙ sym (list_any-append (bytes_eq w) inputs (outs cs)) ∙ known in
+          let g = place_of w (outs cs) in
+          let at = place_at w (outs cs) gate in
+          let lt : g < length cs = omega (arith, at.0) in
+          let before : place_of w (inputs ++ outs cs) ≡ n + g = old ∙ cond-false _ _ _ f in
+          let high : ltb (place_of w (inputs ++ outs cs)) n ≡ false = le-ltb _ n (omega (arith, before)) in
+          let less : place_of w (inputs ++ outs cs) - n ≡ g = omega (arith, before) in
+          let k = some_rank (rank_in order g) (all g lt) in
+          let rank : get_or ranks (place_of w (inputs ++ outs cs) - n) None ≡ Some k.0 = ap (λ i. get_or ranks i None) less ∙ r.rank g ∙ k.1 in
+          let after : place_of w (outs (map (gate_at cs) order)) ≡ k.0 = place_ordered cs order w g apart r.below lt at.1 ∙ (rank_below order g k.0 k.1).0 in
+          cond-false _ _ _ high ∙ ap (λ (o : Option ℕ). n + unwrap_or o 0) rank ∙ ap (λ m. n + m) (sym after) ∙ sym (new ∙ cond-false _ _ _ f))
+    ]

@@ -1,0 +1,52 @@
+-- Places of names in a list.
+use Rattle.std.proofs.Common.{◌≡◌, ◌≢◌, ℕ, zero, suc, ◌+◌, ◌-◌, ◌<◌, ◌≤◌, Bool, true, false, cond, eqb, ltb, ◌||◌, List, [], ◌∷◌, ◌++◌, length, map, get_or, refl, sym, ap, ◌∙◌, arith, inl, inr}
+use Rattle.std.specs.Prelude.{bytes_eq}
+use Rattle.std.proofs.lemmas.Bool.{cases_Bool, cases_eq, eq-eqb, ne_eqb, false≢true, ltb-true}
+use Rattle.std.proofs.lemmas.Slice.Eq.{bytes_eq-Decides}
+use Rattle.ae_net.specs.Valid.{IsDistinct}
+use Rattle.blif_read.specs.Words.{is_among}
+use Rattle.blif_read.specs.Says.{place_of}
+use Rattle.blif_read.proofs.Tables.{bytes_apart, bytes_same, place_within}
+
+-- a name that is one of the list is the one at its place
+pub place_at : (w : List ℕ) (ws : List (List ℕ)) → is_among w ws ≡ true → (place_of w ws < length ws) × (get_or ws (place_of w ws) [] ≡ w)
+place_at w [] h = absurd (false≢true h)
+place_at w (v ∷ ws) h = elim (cases_Bool (bytes_eq w v)) [
+  | inl t ↦ (rw t (omega arith), rw t (sym ((bytes_eq-Decides w v).0 t)))
+  | inr f ↦ (let r = place_at w ws (sym (ap (λ (b : Bool). b || is_among w ws) f) ∙ h) in (rw f (omega (arith, r.0)), rw f (next w v ws (place_of w ws) r.1)))
+]
+  where
+  next : (w v : List ℕ) (ws : List (List ℕ)) (n : ℕ) → get_or ws n [] ≡ w → get_or (v ∷ ws) (1 + n) [] ≡ w
+  next w v ws n h = (let e : 1 + n ≡ suc n = omega arith in ap (λ k. get_or (v ∷ ws) k []) e ∙ h)
+
+-- the place of a name in a list without equal names
+pub place_back : (names : List (List ℕ)) (s : ℕ) → IsDistinct names → s < length names → place_of (get_or names s []) names ≡ s
+place_back [] s h lt = absurd (omega arith)
+place_back (v ∷ names) zero h lt = rw (bytes_same v) refl
+place_back (v ∷ names) (suc s) h lt =
+    let w = get_or names s [] in
+    let apart : bytes_eq w v ≡ false = bytes_apart w v (λ e. h 0 (suc s) [] (omega arith) (omega arith) (sym e)) in
+    let rest : place_of w names ≡ s = place_back names s (λ i j d a b. h (suc i) (suc j) d (omega arith) (omega arith)) (omega arith) in
+    rw apart (omega (arith, rest))
+
+-- names at different places differ
+pub names_apart : (names : List (List ℕ)) (s t : ℕ) → IsDistinct names → s < length names → t < length names → s ≢ t → get_or names s [] ≢ get_or names t []
+names_apart names s t h a b ne e = ne (sym (place_back names s h a) ∙ ap (λ w. place_of w names) e ∙ place_back names t h b)
+
+pub same_name : (ws : List (List ℕ)) (i j : ℕ) → IsDistinct ws → i < length ws → j < length ws → bytes_eq (get_or ws i []) (get_or ws j []) ≡ eqb j i
+same_name ws i j apart a b = elim (cases_eq j i) [
+  | inl e ↦ ap (λ k. bytes_eq (get_or ws i []) (get_or ws k [])) e ∙ bytes_same (get_or ws i []) ∙ sym (eq-eqb j i e)
+  | inr ne ↦ bytes_apart (get_or ws i []) (get_or ws j []) (λ e. names_apart ws i j apart a b (λ q. ne (sym q)) e) ∙ sym (ne_eqb j i ne)
+]
+
+-- all below a bound
+abbrev pub AllBelow : ℕ → List ℕ → Type 0
+AllBelow n [] = Unit {0}
+AllBelow n (s ∷ ss) = (s < n) × AllBelow n ss
+
+pub below_more : (n : ℕ) (ss : List ℕ) (k : ℕ) → AllBelow n ss → k < n → AllBelow n (ss ++ k ∷ [])
+below_more n [] k h lt = (lt, tt)
+below_more n (s ∷ ss) k h lt = (h.0, below_more n ss k h.1 lt)
+
+pub place_bound : (w : List ℕ) (ws : List (List ℕ)) → is_among w ws ≡ true → place_of w ws < length ws
+place_bound w ws h = (place_at w ws h).0

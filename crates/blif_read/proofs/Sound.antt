@@ -1,0 +1,216 @@
+-- What is true of what lines without a fault say.
+use Rattle.std.proofs.Common.{◌≡◌, ◌≢◌, ℕ, zero, suc, ◌+◌, ◌-◌, ◌<◌, ◌≤◌, Bool, true, false, not, cond, eqb, ltb, leb, ◌||◌, List, [], ◌∷◌, ◌++◌, length, get_or, map, Option, Some, None, All, refl, sym, ap, subst, ◌∙◌, arith, inl, inr, length-append, append_assoc, append-nil}
+use Rattle.std.specs.Prelude.{bytes_eq}
+use Rattle.std.specs.List.{list_any, list_all}
+use Rattle.std.specs.Option.{option_or}
+use Rattle.std.proofs.lemmas.Bool.{both_ways, or_from, or_parts, cases_Bool, not-false, leb-false, ltb-false, eqb-false}
+use Rattle.std.proofs.lemmas.List.Elements.{All-push}
+use Rattle.std.proofs.lemmas.List.Quantifiers.{all_pairs_push}
+use Rattle.std.proofs.lemmas.List.Folds.{list_any-append, list_any_at}
+use Rattle.ae_base.specs.declared.limits.TheConstants.{PINS, GATES}
+use Rattle.ae_lex.specs.Words.{WordLine}
+use Rattle.ae_net.specs.Valid.{IsDistinct}
+use Rattle.blif_read.specs.declared.fault.NetLimits.{NetLimits}
+use Rattle.blif_read.specs.declared.fault.BlifFault.{BlifFault}
+use Rattle.blif_read.specs.declared.seen.Seen.{Seen}
+use Rattle.blif_read.specs.Words.{most_lines, is_name_under, is_among}
+use Rattle.blif_read.specs.Statement.{Said, said, gate_name}
+use Rattle.blif_read.specs.Statement.Said.{Model, Inputs, Outputs, Names, End, Unsupported, Unknown, Row}
+use Rattle.blif_read.specs.Faults.{first_of, input_fault, output_fault, word_fault, names_fault, line_fault, first_fault}
+use Rattle.blif_read.specs.Step.{seen_by, says_of, fault_in, line_fault_in, with_line}
+use Rattle.blif_read.proofs.Steps.{fault_same, seen_push}
+use Rattle.blif_read.proofs.Tables.{bytes_apart, bytes_same}
+use Rattle.blif_read.proofs.Words.{last_is_no_name}
+
+-- ---- names in a list
+
+pub apart_at : (w : List ℕ) (vs : List (List ℕ)) (k : ℕ) (d : List ℕ) → is_among w vs ≡ false → k < length vs → get_or vs k d ≢ w
+apart_at w vs k d h lt = λ e. both_ways (is_among w vs) h (list_any_at (bytes_eq w) vs k d lt (ap (bytes_eq w) e ∙ bytes_same w))
+
+pub distinct_push : (vs : List (List ℕ)) (w : List ℕ) → IsDistinct vs → is_among w vs ≡ false → IsDistinct (vs ++ w ∷ [])
+distinct_push vs w h f = all_pairs_push (λ x y. x ≢ y) vs w h (λ k d lt. apart_at w vs k d f lt)
+
+-- none of these is among those, nor among one more that is none of these
+still_new : (w : List ℕ) (i vs : List (List ℕ)) → is_among w vs ≡ false → All (λ v. is_among v i ≡ false) vs → All (λ v. is_among v (i ++ w ∷ []) ≡ false) vs
+still_new w i vs f h = λ k d lt.
+    let v = get_or vs k d in
+    list_any-append (bytes_eq v) i (w ∷ []) ∙ or_from (is_among v i) (bytes_eq v w || false) (h k d lt) (or_from (bytes_eq v w) false (bytes_apart v w (apart_at w vs k d f lt)) refl)
+
+-- ---- faults
+
+pub first_none : (b : Bool) (f : BlifFault) (rest : Option BlifFault) → cond b (Some f) rest ≡ None → (b ≡ false) × (rest ≡ None)
+first_none true f rest h = absurd cc
+first_none false f rest h = (refl, h)
+
+pub or_none : {X : Type 0} (a b : Option X) → option_or a b ≡ None → (a ≡ None) × (b ≡ None)
+or_none None b h = (refl, h)
+or_none (Some x) b h = absurd cc
+
+-- ---- what is sound
+
+pub record IsSound (limits : NetLimits) (inputs outputs driven : List (List ℕ)) : Type 0 where
+  pub inputs_named : All (λ w. is_name_under limits w ≡ true) inputs
+  pub driven_named : All (λ w. is_name_under limits w ≡ true) driven
+  pub few_inputs : length inputs ≤ most_lines limits
+  pub few_outputs : length outputs ≤ most_lines limits
+  pub few_gates : length driven ≤ GATES
+  pub inputs_apart : IsDistinct inputs
+  pub outputs_apart : IsDistinct outputs
+  pub driven_apart : IsDistinct driven
+  pub driven_new : All (λ w. is_among w inputs ≡ false) driven
+  pub outputs_new : All (λ w. is_among w inputs ≡ false) outputs
+
+input_sound : (limits : NetLimits) (i o d : List (List ℕ)) (w : List ℕ) → IsSound limits i o d → input_fault limits o d i w ≡ None → IsSound limits (i ++ w ∷ []) o d
+input_sound limits i o d w s h =
+    let a = first_none (not (is_name_under limits w)) _ _ h in
+    let b = first_none (is_among w i) _ _ a.1 in
+    let c = first_none (is_among w o) _ _ b.1 in
+    let e = first_none (is_among w d) _ _ c.1 in
+    let f = first_none _ _ _ e.1 in
+    record {
+      inputs_named = All-push (λ v. is_name_under limits v ≡ true) i w s.inputs_named (not-false _ a.0);
+      driven_named = s.driven_named;
+      few_inputs = omega (arith, leb-false (most_lines limits) (length i) f.0, length-append i (w ∷ []));
+      few_outputs = s.few_outputs;
+      few_gates = s.few_gates;
+      inputs_apart = distinct_push i w s.inputs_apart b.0;
+      outputs_apart = s.outputs_apart;
+      driven_apart = s.driven_apart;
+      driven_new = still_new w i d e.0 s.driven_new;
+      outputs_new = still_new w i o c.0 s.outputs_new;
+    }
+
+inputs_sound : (limits : NetLimits) (i o d ws : List (List ℕ)) → IsSound limits i o d → word_fault (input_fault limits o d) i ws ≡ None → IsSound limits (i ++ ws) o d
+inputs_sound limits i o d [] s h = subst (λ (xs : List (List ℕ)). IsSound limits xs o d) (sym (append-nil i)) s
+inputs_sound limits i o d (w ∷ ws) s h =
+    let p = or_none (input_fault limits o d i w) (word_fault (input_fault limits o d) (i ++ w ∷ []) ws) h in
+    subst (λ (xs : List (List ℕ)). IsSound limits xs o d) (append_assoc i (w ∷ []) ws) (inputs_sound limits (i ++ w ∷ []) o d ws (input_sound limits i o d w s p.0) p.1)
+
+output_sound : (limits : NetLimits) (i o d : List (List ℕ)) (w : List ℕ) → IsSound limits i o d → output_fault limits i o w ≡ None → IsSound limits i (o ++ w ∷ []) d
+output_sound limits i o d w s h =
+    let a = first_none (not (is_name_under limits w)) _ _ h in
+    let b = first_none (is_among w o) _ _ a.1 in
+    let c = first_none (is_among w i) _ _ b.1 in
+    let f = first_none _ _ _ c.1 in
+    record {
+      inputs_named = s.inputs_named;
+      driven_named = s.driven_named;
+      few_inputs = s.few_inputs;
+      few_outputs = omega (arith, leb-false (most_lines limits) (length o) f.0, length-append o (w ∷ []));
+      few_gates = s.few_gates;
+      inputs_apart = s.inputs_apart;
+      outputs_apart = distinct_push o w s.outputs_apart b.0;
+      driven_apart = s.driven_apart;
+      driven_new = s.driven_new;
+      outputs_new = All-push (λ v. is_among v i ≡ false) o w s.outputs_new c.0;
+    }
+
+outputs_sound : (limits : NetLimits) (i o d ws : List (List ℕ)) → IsSound limits i o d → word_fault (output_fault limits i) o ws ≡ None → IsSound limits i (o ++ ws) d
+outputs_sound limits i o d [] s h = subst (λ (xs : List (List ℕ)). IsSound limits i xs d) (sym (append-nil o)) s
+outputs_sound limits i o d (w ∷ ws) s h =
+    let p = or_none (output_fault limits i o w) (word_fault (output_fault limits i) (o ++ w ∷ []) ws) h in
+    subst (λ (xs : List (List ℕ)). IsSound limits i xs d) (append_assoc o (w ∷ []) ws) (outputs_sound limits i (o ++ w ∷ []) d ws (output_sound limits i o d w s p.0) p.1)
+
+-- of `.names` without a fault: it has a word, all are names, and it has not too many pins
+pub record AreGateWords (limits : NetLimits) (ws : List (List ℕ)) : Type 0 where
+  pub some : 0 < length ws
+  pub names : list_all (is_name_under limits) ws ≡ true
+  pub out : is_name_under limits (gate_name ws) ≡ true
+  pub few : length ws - 1 ≤ PINS
+
+pub gate_words : (limits : NetLimits) (i d ws : List (List ℕ)) → names_fault limits i d ws ≡ None → AreGateWords limits ws
+gate_words limits i d ws h =
+    let a = first_none _ _ _ h in
+    let p = or_parts _ _ a.0 in
+    let b = first_none _ _ _ a.1 in
+    let all : list_all (is_name_under limits) ws ≡ true = not-false _ p.1 in
+    let some : 0 < length ws = omega (arith, eqb-false (length ws) 0 p.0) in
+    record {
+      some = some;
+      names = all;
+      out = elim (cases_Bool (is_name_under limits (gate_name ws))) [ inl t ↦ t | inr f ↦ absurd (both_ways _ (last_is_no_name limits ws some f) all) ];
+      few = ltb-false PINS (length ws - 1) b.0;
+    }
+
+gate_sound : (limits : NetLimits) (i o d ws : List (List ℕ)) → IsSound limits i o d → names_fault limits i d ws ≡ None → IsSound limits i o (d ++ gate_name ws ∷ [])
+gate_sound limits i o d ws s h =
+    let a = first_none (eqb (length ws) 0 || not (list_all (is_name_under limits) ws)) _ _ h in
+    let b = first_none (ltb PINS (length ws - 1)) _ _ a.1 in
+    let c = first_none (leb GATES (length d)) _ _ b.1 in
+    let e = first_none (is_among (gate_name ws) i || is_among (gate_name ws) d) _ _ c.1 in
+    let q = or_parts (is_among (gate_name ws) i) (is_among (gate_name ws) d) e.0 in
+    let w = gate_name ws in
+    record {
+      inputs_named = s.inputs_named;
+      driven_named = All-push (λ v. is_name_under limits v ≡ true) d w s.driven_named (gate_words limits i d ws h).out;
+      few_inputs = s.few_inputs;
+      few_outputs = s.few_outputs;
+      few_gates = omega (arith, leb-false GATES (length d) c.0, length-append d (w ∷ []));
+      inputs_apart = s.inputs_apart;
+      outputs_apart = s.outputs_apart;
+      driven_apart = distinct_push d w s.driven_apart q.1;
+      driven_new = All-push (λ v. is_among v i ≡ false) d w s.driven_new q.0;
+      outputs_new = s.outputs_new;
+    }
+
+abbrev pub SeenIsSound : NetLimits → Seen → Type 0
+SeenIsSound limits seen = IsSound limits seen.inputs seen.outputs seen.driven
+
+-- a statement that has no fault stands before `.end`, save a further `.end`
+sound_step_at : (limits : NetLimits) (ended : Bool) (seen : Seen) (s : Said) → seen.ended ≡ ended → SeenIsSound limits seen → line_fault_in limits seen s ≡ None → SeenIsSound limits (with_line seen s)
+unfolding line_fault_in
+sound_step_at limits true seen (Model ws) e h f = h
+sound_step_at limits true seen End e h f = h
+sound_step_at limits true seen (Inputs ws) e h f = (let bad = rw e at f in absurd cc)
+sound_step_at limits true seen (Outputs ws) e h f = (let bad = rw e at f in absurd cc)
+sound_step_at limits true seen (Names ws) e h f = (let bad = rw e at f in absurd cc)
+sound_step_at limits true seen Unsupported e h f = h
+sound_step_at limits true seen Unknown e h f = h
+sound_step_at limits true seen (Row r) e h f = h
+sound_step_at limits false seen (Model ws) e h f = h
+sound_step_at limits false seen End e h f = h
+sound_step_at limits false seen (Inputs ws) e h f = inputs_sound limits seen.inputs seen.outputs seen.driven ws h (rw e at f)
+sound_step_at limits false seen (Outputs ws) e h f = outputs_sound limits seen.inputs seen.outputs seen.driven ws h (rw e at f)
+sound_step_at limits false seen (Names ws) e h f = gate_sound limits seen.inputs seen.outputs seen.driven ws h (rw e at f)
+sound_step_at limits false seen Unsupported e h f = h
+sound_step_at limits false seen Unknown e h f = h
+sound_step_at limits false seen (Row r) e h f = h
+
+pub sound_step : (limits : NetLimits) (seen : Seen) (s : Said) → SeenIsSound limits seen → line_fault_in limits seen s ≡ None → SeenIsSound limits (with_line seen s)
+sound_step limits seen s h f = sound_step_at limits seen.ended seen s refl h f
+
+pub line_none : (limits : NetLimits) (done : List Said) (line : WordLine) (lines : List WordLine) → first_fault limits done (line ∷ lines) ≡ None
+    → (line_fault limits done (said line.words) ≡ None) × (first_fault limits (done ++ said line.words ∷ []) lines ≡ None)
+unfolding first_fault
+line_none limits done line lines h = parts (line_fault limits done (said line.words)) h
+  where
+  parts : (o : Option BlifFault) → option_or (elim o [ None ↦ None | Some f ↦ Some (line.number, f) ]) (first_fault limits (done ++ said line.words ∷ []) lines) ≡ None → (o ≡ None) × (first_fault limits (done ++ said line.words ∷ []) lines ≡ None)
+  parts None h = (refl, h)
+  parts (Some f) h = absurd cc
+
+sound_rest : (limits : NetLimits) (done : List Said) (lines : List WordLine) → SeenIsSound limits (seen_by done) → first_fault limits done lines ≡ None → SeenIsSound limits (seen_by (done ++ says_of lines))
+sound_rest limits done [] h f = subst (λ (ss : List Said). SeenIsSound limits (seen_by ss)) (sym (append-nil done)) h
+sound_rest limits done (line ∷ lines) h f =
+    let p = line_none limits done line lines f in
+    let s = said line.words in
+    let next : SeenIsSound limits (seen_by (done ++ s ∷ [])) = subst (SeenIsSound limits) (sym (seen_push limits done s p.0)) (sound_step limits (seen_by done) s h (sym (fault_same limits done s) ∙ p.0)) in
+    subst (λ (ss : List Said). SeenIsSound limits (seen_by ss)) (append_assoc done (s ∷ []) (says_of lines)) (sound_rest limits (done ++ s ∷ []) lines next p.1)
+
+sound_start : (limits : NetLimits) → SeenIsSound limits (seen_by [])
+unfolding seen_by
+sound_start limits =
+    record {
+      inputs_named = λ k d lt. absurd (omega arith);
+      driven_named = λ k d lt. absurd (omega arith);
+      few_inputs = omega arith;
+      few_outputs = omega arith;
+      few_gates = omega arith;
+      inputs_apart = λ i j d lt in'. absurd (omega arith);
+      outputs_apart = λ i j d lt in'. absurd (omega arith);
+      driven_apart = λ i j d lt in'. absurd (omega arith);
+      driven_new = λ k d lt. absurd (omega arith);
+      outputs_new = λ k d lt. absurd (omega arith);
+    }
+
+pub sound_all : (limits : NetLimits) (lines : List WordLine) → first_fault limits [] lines ≡ None → SeenIsSound limits (seen_by (says_of lines))
+sound_all limits lines f = sound_rest limits [] lines (sound_start limits) f

@@ -1,0 +1,167 @@
+//! Gates from their lines.
+ghost use Rattle.std.specs.Prelude.{◌≡◌, ℕ, ◌+◌, ◌<◌, ◌≤◌, ◌==◌, ◌^◌, length, map, drop, All, None, Some, option_map, slice_index, slice_index_or, IfOk, OnOk};
+ghost use Rattle.ae_base.specs.Mask.{where_below};
+ghost use Rattle.ae_lex.specs.Lines.{IsInside};
+ghost use Rattle.ae_lex.specs.Words.{cut_line};
+ghost use Rattle.blif_read.specs.Statement as statement;
+ghost use Rattle.blif_read.specs.Says as says;
+ghost use Rattle.blif_read.specs.Build as spec;
+ghost use Rattle.blif_read.specs.Reads.{texts};
+
+use crate::draft::Draft;
+use crate::head::Head;
+use crate::read::words_of;
+use crate::statement::{head_of, joined, row_end};
+use ae_base::{Cube, Mask, Memory, Name, PINS, Seq};
+use ae_lex::Line;
+use ae_net::{Gate, Pins};
+use std::alloc::Global;
+
+/// The character at a place of a row, and 0 past its end.
+fn char_at(chars: &[u8], place: u32) -> u8
+    ensures { result ≡ slice_index chars.now place }
+{
+    let place = place as usize;
+    if place < chars.len() { chars[place] } else { 0 }
+}
+
+/// Of so many pins those that have this character.
+fn pins_with(pins: u32, b: u8, chars: &[u8]) -> Mask
+    requires { pins ≤ PINS }
+    ensures { result ≡ where_below pins (λ j. slice_index chars.now j == b) }
+{
+    let mut found = Mask::empty();
+    for j in 0..pins {
+        if char_at(chars, j) == b {
+            found = found.with(j);
+        }
+    }
+    found
+}
+
+/// The cube of a row over so many pins.
+#[tactic(auto, using(crate::proofs::Cubes::row_is_product))]
+fn row_cube(pins: u32, chars: &[u8]) -> Cube
+    requires { pins ≤ PINS }
+    ensures { result ≡ says.row_cube pins chars.now }
+{
+    Cube {
+        pos: pins_with(pins, b'1', chars),
+        neg: pins_with(pins, b'0', chars),
+    }
+}
+
+/// The characters of the words of a line, if it is a row.
+#[tactic(auto, unfolding(crate::specs::Statement::head_of))]
+fn row_chars(alloc: Global, words: &[&[u8]]) -> Result<Option<Seq<u8>>, Memory>
+    ensures { IfOk result (λ found. found ≡ spec.row_chars (statement.said (texts words.now))) }
+{
+    match words {
+        [] => Ok(None),
+        [first, others @ ..] => {
+            if head_of(first) == Head::Row {
+                Ok(Some(Seq::from_vec(joined(alloc, first, others)?)))
+            } else {
+                Ok(None)
+            }
+        }
+    }
+}
+
+/// The characters of a line, if it is a row.
+fn row_of_line(alloc: Global, bytes: &[u8], line: &Line) -> Result<Option<Seq<u8>>, Memory>
+    requires { All (IsInside bytes.now) line.now.words }
+    ensures { IfOk result (λ found. found ≡ spec.row_chars (statement.said (cut_line bytes.now line.now).words)) }
+{
+    let words = words_of(alloc, bytes, line)?;
+    row_chars(alloc, words.as_slice())
+}
+
+/// The rows at the front of lines, over so many pins.
+fn rows_at(alloc: Global, bytes: &[u8], lines: &[Line], pins: u32) -> Result<Seq<Cube>, Memory>
+    requires few { pins ≤ PINS }
+    requires inside { All (λ line. All (IsInside bytes.now) line.words) lines.now }
+    ensures { IfOk result (λ rows. rows ≡ map (says.row_cube pins) (says.rows_at (map (cut_line bytes.now) lines.now))) }
+{
+    let mut rows = Seq::new(alloc);
+    for line in lines {
+        match row_of_line(alloc, bytes, line)? {
+            Some(chars) => rows.push(row_cube(pins, chars.as_slice()))?,
+            None => return Ok(rows),
+        }
+    }
+    Ok(rows)
+}
+
+/// Whether the rows at the front of lines end with 1, or there is none.
+fn is_on(alloc: Global, bytes: &[u8], lines: &[Line]) -> Result<bool, Memory>
+    requires { All (λ line. All (IsInside bytes.now) line.words) lines.now }
+    ensures { IfOk result (λ on. on ≡ says.is_on (says.rows_at (map (cut_line bytes.now) lines.now))) }
+{
+    if lines.is_empty() {
+        return Ok(true);
+    }
+    match row_of_line(alloc, bytes, &lines[0])? {
+        Some(chars) => Ok(row_end(chars.as_slice()) == b'1'),
+        None => Ok(true),
+    }
+}
+
+/// The number of a signal in the network: inputs keep theirs, and gates have the place of their rank.
+pub fn renumbered(inputs: u32, ranks: &[Option<u32>], signal: u32) -> u32
+    requires known { signal < inputs + length ranks.now }
+    requires short { inputs + length ranks.now < 2 ^ 32 }
+    requires ranked { All (spec.IsRankBelow (length ranks.now)) ranks.now }
+    ensures { result ≡ spec.renumbered inputs ranks.now signal }
+{
+    if signal < inputs {
+        return signal;
+    }
+    match ranks[(signal - inputs) as usize] {
+        Some(rank) => inputs + rank,
+        None => inputs,
+    }
+}
+
+fn renumbered_pins(
+    alloc: Global,
+    inputs: u32,
+    ranks: &[Option<u32>],
+    signals: &[u32],
+) -> Result<Pins, Memory>
+    requires known { All (λ s. s < inputs + length ranks.now) signals.now }
+    requires short { inputs + length ranks.now < 2 ^ 32 }
+    requires ranked { All (spec.IsRankBelow (length ranks.now)) ranks.now }
+    ensures { IfOk result (λ pins. pins ≡ map (spec.renumbered inputs ranks.now) signals.now) }
+{
+    let mut pins = Pins::new(alloc);
+    for signal in signals {
+        pins.push(renumbered(inputs, ranks, *signal))?;
+    }
+    Ok(pins)
+}
+
+/// The gate of a draft, with the lines after its `.names`.
+pub fn gate_of(
+    alloc: Global,
+    bytes: &[u8],
+    after: &[Line],
+    name: &Name,
+    signals: &[u32],
+    inputs: u32,
+    ranks: &[Option<u32>],
+) -> Result<Gate, Memory>
+    requires few { length signals.now ≤ PINS }
+    requires inside { All (λ line. All (IsInside bytes.now) line.words) after.now }
+    requires known { All (λ s. s < inputs + length ranks.now) signals.now }
+    requires short { inputs + length ranks.now < 2 ^ 32 }
+    requires ranked { All (spec.IsRankBelow (length ranks.now)) ranks.now }
+    ensures { IfOk result (λ gate. gate ≡ spec.built (says.rows_at (map (cut_line bytes.now) after.now)) name.now signals.now inputs ranks.now) }
+{
+    Ok(Gate {
+        out: name.copy(alloc)?,
+        pins: renumbered_pins(alloc, inputs, ranks, signals)?,
+        rows: rows_at(alloc, bytes, after, signals.len() as u32)?,
+        on: is_on(alloc, bytes, after)?,
+    })
+}

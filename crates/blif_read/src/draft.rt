@@ -1,0 +1,219 @@
+//! The gates of a text by their lines.
+ghost use Rattle.std.specs.Prelude.{◌≡◌, ◌++◌, ◌+◌, ◌<◌, ◌^◌, length, map, All, [], false, MatchOption, IfOk, IfSome};
+ghost use Rattle.ae_base.specs.Name.{is_name};
+ghost use Rattle.ae_lex.specs.Lines.{IsInside};
+ghost use Rattle.ae_lex.specs.Words.{cut_line};
+ghost use Rattle.blif_read.specs.Statement as statement;
+ghost use Rattle.blif_read.specs.Build as spec;
+ghost use Rattle.blif_read.specs.Reads.{texts};
+
+use crate::fault::{BlifErr, BlifFault};
+use crate::head::Head;
+use crate::read::words_of;
+use crate::statement::head_of;
+use crate::table::NameTable;
+use ae_base::{Memory, Name, Seq};
+use ae_lex::Line;
+use std::alloc::Global;
+
+/// A gate before all are placed: the place of its `.names` among the lines, and the signals of its pins in file order.
+#[derive(Drop)]
+pub struct Draft {
+    pub line: usize,
+    pub pins: Seq<u32>,
+}
+
+/// The signal of a name in file order, where it has one.
+#[tactic(auto, using(crate::proofs::Tables::place_in_both))]
+pub fn signal_of(inputs: &NameTable, driven: &NameTable, name: &Name) -> Option<u32>
+    requires { length (inputs.now ++ driven.now) < 2 ^ 32 }
+    ensures signal { result ≡ spec.signal_in (inputs.now ++ driven.now) name.now }
+    ensures within { IfSome result (λ s. s < length inputs.now + length driven.now) }
+{
+    let count = inputs.len();
+    if let Some(i) = inputs.place(name) {
+        return Some(i as u32);
+    }
+    let g = driven.place(name)?;
+    Some((count + g) as u32)
+}
+
+/// The signals of these words in file order, where each has one.
+#[tactic(auto, using(crate::proofs::Signals::one_unknown, crate::proofs::Signals::one_more))]
+fn signals_of(
+    alloc: Global,
+    inputs: &NameTable,
+    driven: &NameTable,
+    words: &[&[u8]],
+) -> Result<Option<Seq<u32>>, Memory>
+    requires { spec.AreSignals (inputs.now ++ driven.now) }
+    ensures { IfOk result (λ found. found ≡ spec.signals_in (inputs.now ++ driven.now) (texts words.now)) }
+{
+    let mut signals = Seq::new(alloc);
+    for word in words {
+        let Some(signal) = signal_of_word(alloc, inputs, driven, word)? else {
+            return Ok(None);
+        };
+        signals.push(signal)?;
+    }
+    Ok(Some(signals))
+}
+
+#[tactic(auto, using(crate::proofs::Tables::not_a_name))]
+fn signal_of_word(
+    alloc: Global,
+    inputs: &NameTable,
+    driven: &NameTable,
+    word: &[u8],
+) -> Result<Option<u32>, Memory>
+    requires { spec.AreSignals (inputs.now ++ driven.now) }
+    ensures { IfOk result (λ found. found ≡ spec.signal_in (inputs.now ++ driven.now) word.now) }
+{
+    let Some(name) = Name::from_bytes(alloc, word)? else {
+        return Ok(None);
+    };
+    Ok(signal_of(inputs, driven, &name))
+}
+
+/// The words after `.names`, where a line begins so.
+#[tactic(auto, unfolding(crate::specs::Statement::head_of))]
+pub fn names_of<'a, 'b>(words: &'a [&'b [u8]]) -> Option<&'a [&'b [u8]]>
+    ensures { MatchOption result (spec.is_names (statement.said (texts words.now)) ≡ false) (λ ws. statement.said (texts words.now) ≡ statement.Said.Names (texts ws.now)) }
+{
+    match words {
+        [] => None,
+        [first, others @ ..] => {
+            if head_of(first) == Head::Names {
+                Some(others)
+            } else {
+                None
+            }
+        }
+    }
+}
+
+/// The words after `.outputs`, where a line begins so.
+#[tactic(auto, unfolding(crate::specs::Statement::head_of))]
+fn outputs_of<'a, 'b>(words: &'a [&'b [u8]]) -> Option<&'a [&'b [u8]]>
+    ensures { MatchOption result (spec.is_outputs (statement.said (texts words.now)) ≡ false) (λ ws. statement.said (texts words.now) ≡ statement.Said.Outputs (texts ws.now)) }
+{
+    match words {
+        [] => None,
+        [first, others @ ..] => {
+            if head_of(first) == Head::Outputs {
+                Some(others)
+            } else {
+                None
+            }
+        }
+    }
+}
+
+/// Of the words after `.names` those of the pins.
+#[tactic(auto, using(crate::proofs::Words::pins_cut))]
+fn pin_words<'a, 'b>(words: &'a [&'b [u8]]) -> &'a [&'b [u8]]
+    ensures { texts result.now ≡ statement.pin_names (texts words.now) }
+{
+    match words {
+        [] => words,
+        [pins @ .., _] => pins,
+    }
+}
+
+/// Drafts the gate of the line at a place, if that is a `.names`.
+fn draft_line(
+    alloc: Global,
+    bytes: &[u8],
+    lines: &[Line],
+    place: usize,
+    inputs: &NameTable,
+    driven: &NameTable,
+    drafts: &mut Seq<Draft>,
+) -> Result<(), BlifErr>
+    requires within { place < length lines.now }
+    requires inside { All (λ line. All (IsInside bytes.now) line.words) lines.now }
+    requires signals { spec.AreSignals (inputs.now ++ driven.now) }
+    ensures { spec.Drafts (inputs.now ++ driven.now) place (spec.line_at (map (cut_line bytes.now) lines.now) place) drafts.old result drafts.new }
+{
+    let line = &lines[place];
+    let words = words_of(alloc, bytes, line)?;
+    let Some(names) = names_of(words.as_slice()) else {
+        return Ok(());
+    };
+    match signals_of(alloc, inputs, driven, pin_words(names))? {
+        Some(pins) => {
+            drafts.push(Draft {
+                line: place,
+                pins,
+            })?;
+            Ok(())
+        }
+        None => Err(BlifErr::At {
+            line: line.number,
+            what: BlifFault::Undefined,
+        }),
+    }
+}
+
+/// Checks that the names of a line are signals, if it is an `.outputs`.
+fn check_line(
+    alloc: Global,
+    bytes: &[u8],
+    line: &Line,
+    inputs: &NameTable,
+    driven: &NameTable,
+) -> Result<(), BlifErr>
+    requires inside { All (IsInside bytes.now) line.now.words }
+    requires signals { spec.AreSignals (inputs.now ++ driven.now) }
+    ensures { spec.Shows (inputs.now ++ driven.now) (cut_line bytes.now line.now) result }
+{
+    let words = words_of(alloc, bytes, line)?;
+    let Some(names) = outputs_of(words.as_slice()) else {
+        return Ok(());
+    };
+    match signals_of(alloc, inputs, driven, names)? {
+        Some(_) => Ok(()),
+        None => Err(BlifErr::At {
+            line: line.number,
+            what: BlifFault::Undefined,
+        }),
+    }
+}
+
+/// Drafts the gates of all lines, or answers the first that reads a name which nothing defines.
+pub fn draft_gates(
+    alloc: Global,
+    bytes: &[u8],
+    lines: &[Line],
+    inputs: &NameTable,
+    driven: &NameTable,
+    drafts: &mut Seq<Draft>,
+) -> Result<(), BlifErr>
+    requires inside { All (λ line. All (IsInside bytes.now) line.words) lines.now }
+    requires signals { spec.AreSignals (inputs.now ++ driven.now) }
+    requires none { drafts.old ≡ [] }
+    ensures { spec.DraftsAll (inputs.now ++ driven.now) (map (cut_line bytes.now) lines.now) result drafts.new }
+{
+    for place in 0..lines.len() {
+        draft_line(alloc, bytes, lines, place, inputs, driven, drafts)?;
+    }
+    Ok(())
+}
+
+/// Checks that the names of all `.outputs` are signals.
+pub fn check_outputs(
+    alloc: Global,
+    bytes: &[u8],
+    lines: &[Line],
+    inputs: &NameTable,
+    driven: &NameTable,
+) -> Result<(), BlifErr>
+    requires inside { All (λ line. All (IsInside bytes.now) line.words) lines.now }
+    requires signals { spec.AreSignals (inputs.now ++ driven.now) }
+    ensures { spec.ShowsAll (inputs.now ++ driven.now) (map (cut_line bytes.now) lines.now) result }
+{
+    for line in lines {
+        check_line(alloc, bytes, line, inputs, driven)?;
+    }
+    Ok(())
+}
