@@ -8,6 +8,7 @@ static MAJORITY: Row = Row {
     net: b".model andexor\n.inputs x1 x2 x3 _c\n.outputs f1\n.names x1 x2 _t1\n11 1\n.names x1 x3 _t2\n11 1\n.names x2 x3 _t3\n11 1\n.names _c _t1 _x1\n10 1\n01 1\n.names _x1 _t2 _x2\n10 1\n01 1\n.names _x2 _t3 f1\n10 1\n01 1\n.end\n",
     vectors: b"andexor-vectors 1\nform reddy\ninputs x1 x2 x3 _c\noutputs f1\npolarity 111\nvector 0000 0\nvector 1110 1\nvector 0001 1\nvector 1111 0\nvector 0110 1\nvector 1010 1\nvector 1100 1\nend\n",
     report: b"terms 3\ngates 6\nvectors 7\n",
+    faults: 46,
 };
 
 static EXOR: Row = Row {
@@ -15,6 +16,7 @@ static EXOR: Row = Row {
     net: b".model andexor\n.inputs x1 x2 _c\n.outputs f1\n.names _c x1 _x1\n10 1\n01 1\n.names _x1 x2 f1\n10 1\n01 1\n.end\n",
     vectors: b"andexor-vectors 1\nform reddy\ninputs x1 x2 _c\noutputs f1\npolarity 11\nvector 000 0\nvector 110 0\nvector 001 1\nvector 111 1\nvector 010 1\nvector 100 1\nend\n",
     report: b"terms 2\ngates 2\nvectors 6\n",
+    faults: 20,
 };
 
 static CONSTANT_0: Row = Row {
@@ -22,6 +24,7 @@ static CONSTANT_0: Row = Row {
     net: b".model andexor\n.inputs x1 x2 _c\n.outputs f1\n.names _c f1\n1 1\n.end\n",
     vectors: b"andexor-vectors 1\nform reddy\ninputs x1 x2 _c\noutputs f1\npolarity 11\nvector 000 0\nvector 001 1\nend\n",
     report: b"terms 0\ngates 1\nvectors 2\n",
+    faults: 8,
 };
 
 static CONSTANT_1: Row = Row {
@@ -29,6 +32,7 @@ static CONSTANT_1: Row = Row {
     net: b".model andexor\n.inputs x1 x2 _c\n.outputs f1\n.names _c _m\n0 1\n.names _m f1\n1 1\n.end\n",
     vectors: b"andexor-vectors 1\nform reddy\ninputs x1 x2 _c\noutputs f1\npolarity 11\nvector 000 1\nvector 001 0\nend\n",
     report: b"terms 1\ngates 2\nvectors 2\n",
+    faults: 12,
 };
 
 static SHARED: Row = Row {
@@ -36,6 +40,7 @@ static SHARED: Row = Row {
     net: b".model andexor\n.inputs x1 x2 _c\n.outputs f1 f2\n.names _c _m\n0 1\n.names x1 x2 _t1\n11 1\n.names _m _t1 f1\n10 1\n01 1\n.names _m x1 _x1\n10 1\n01 1\n.names _x1 _t1 f2\n10 1\n01 1\n.end\n",
     vectors: b"andexor-vectors 1\nform reddy\ninputs x1 x2 _c\noutputs f1 f2\npolarity 11\nvector 000 11\nvector 110 01\nvector 001 00\nvector 111 10\nvector 010 11\nvector 100 10\nend\n",
     report: b"terms 5\ngates 5\nvectors 6\n",
+    faults: 38,
 };
 
 static UNREAD_INPUT: Row = Row {
@@ -43,6 +48,7 @@ static UNREAD_INPUT: Row = Row {
     net: b".model andexor\n.inputs x1 x2 x3 _c\n.outputs f1\n.names x1 x3 _t1\n11 1\n.names _c _t1 f1\n10 1\n01 1\n.end\n",
     vectors: b"andexor-vectors 1\nform reddy\ninputs x1 x2 x3 _c\noutputs f1\npolarity 111\nvector 0000 0\nvector 1010 1\nvector 0001 1\nvector 1011 0\nvector 0010 0\nvector 1000 0\nend\n",
     report: b"terms 1\ngates 2\nvectors 6\n",
+    faults: 20,
 };
 
 #[test]

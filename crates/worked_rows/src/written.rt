@@ -1,16 +1,20 @@
 //! Runs on a source that is accepted.
 
 use crate::files::{holds, run_words};
+use ae_base::TEXT_BYTES;
+use ae_net::faults;
 use ae_outside::{MemFiles, MemSink};
+use blif_read::{NetLimits, read_blif};
 use std::alloc::{AllocError, Global};
 use synth_cmd::DONE;
 
-/// A source, and what is written for it.
+/// A source, what is written for it, and the number of the network's stuck-at faults.
 pub struct Row {
     pub source: &'static [u8],
     pub net: &'static [u8],
     pub vectors: &'static [u8],
     pub report: &'static [u8],
+    pub faults: usize,
 }
 
 /// The AND of two inputs.
@@ -19,6 +23,7 @@ pub static AND: Row = Row {
     net: b".model andexor\n.inputs x1 x2 _c\n.outputs f1\n.names x1 x2 _t1\n11 1\n.names _c _t1 f1\n10 1\n01 1\n.end\n",
     vectors: b"andexor-vectors 1\nform reddy\ninputs x1 x2 _c\noutputs f1\npolarity 11\nvector 000 0\nvector 110 1\nvector 001 1\nvector 111 0\nvector 010 0\nvector 100 0\nend\n",
     report: b"terms 1\ngates 2\nvectors 6\n",
+    faults: 20,
 };
 
 /// One input, and its value.
@@ -27,7 +32,22 @@ pub static ONE_INPUT: Row = Row {
     net: b".model andexor\n.inputs x1 _c\n.outputs f1\n.names _c x1 f1\n10 1\n01 1\n.end\n",
     vectors: b"andexor-vectors 1\nform reddy\ninputs x1 _c\noutputs f1\npolarity 1\nvector 00 0\nvector 10 1\nvector 01 1\nvector 11 0\nend\n",
     report: b"terms 1\ngates 1\nvectors 4\n",
+    faults: 12,
 };
+
+/// Whether a text of BLIF is accepted as a written netlist, and the network that it says has so many faults.
+fn reads_back(alloc: Global, text: &[u8], count: usize) -> bool {
+    if text.len() > TEXT_BYTES {
+        return false;
+    }
+    match read_blif(alloc, text, NetLimits::Written) {
+        Ok(net) => match faults(alloc, &net) {
+            Ok(list) => list.len() == count,
+            Err(_) => false,
+        },
+        Err(_) => false,
+    }
+}
 
 /// Runs `synth` on a text, and tells whether all that is written and held is as for the row's source.
 pub fn gives_for(alloc: Global, source: &[u8], row: &Row) -> Result<bool, AllocError> {
@@ -40,7 +60,8 @@ pub fn gives_for(alloc: Global, source: &[u8], row: &Row) -> Result<bool, AllocE
             && holds(&files, "n.blif", row.net)
             && holds(&files, "v.vec", row.vectors)
             && holds(&files, "in.pla", source)
-            && report.bytes() == row.report,
+            && report.bytes() == row.report
+            && reads_back(alloc, row.net, row.faults),
     )
 }
 
