@@ -5,7 +5,12 @@ ghost use Rattle.ae_base.specs.declared.limits.TheConstants.{WIDTH};
 ghost use Rattle.ae_base.specs.Mask.{empty, has, with, xor};
 ghost use Rattle.ae_base.specs.Terms.{IsPoint};
 ghost use Rattle.ae_net.specs.Valid.{IsDistinct};
+ghost use Rattle.ae_net.specs.Names.{Names};
+ghost use Rattle.cascade.specs.Reddy.{reddy_net};
+ghost use Rattle.cascade.specs.Shows.{CanBuild};
 ghost use Rattle.expansion.specs.Terms.{used_inputs};
+ghost use Rattle.universal_tests.specs.Odd.{is_odd, DetectsLiterals};
+ghost use Rattle.universal_tests.specs.Sites.{DetectsAllBut};
 ghost use Rattle.universal_tests.specs.Universal as spec;
 
 use ae_base::{Mask, Memory, Point};
@@ -28,13 +33,17 @@ fn push_turned(list: &mut Vec<Point>, used: Mask, high: Point, j: u32) -> Result
 /// literals 0, control 1 and all literals 1, and then for each used input in order control 0, its literal 0 and all others 1. The control
 /// is the number after the inputs, and the literals are those of the used inputs. An input that is not used is 0 in each vector.
 /// They are n + 4 at most, n being the number of inputs (after S. M. Reddy, "Easily Testable Realizations for Logic Functions", 1972).
-/// What they detect `universal_law` says.
+///
+/// On the Reddy network of the expansions they detect every stuck-at fault but those of the literals of the source's inputs, and of these
+/// each whose input some output's expansion holds an odd number of times; `universal_law` says the same of the definitions.
 #[tactic(auto, using(crate::proofs::CodeLemmas::none_so_far))]
 pub fn universal(alloc: Global, e: &Expansion) -> Result<Vec<Point>, Memory>
     ensures vectors { IfOk result (λ list. list.items ≡ spec.universal_vectors e.now.polarity (used_inputs e.now)) }
     ensures few { IfOk result (λ list. length list.items ≤ e.now.polarity.n + 4) }
     ensures distinct { IfOk result (λ list. IsDistinct list.items) }
     ensures points { IfOk result (λ list. All (IsPoint (e.now.polarity.n + 1)) list.items) }
+    ensures others { IfOk result (λ list. (names : Names) → CanBuild names e.now → DetectsAllBut (reddy_net names e.now) e.now.polarity.n list.items) }
+    ensures literals { IfOk result (λ list. (names : Names) → CanBuild names e.now → DetectsLiterals (reddy_net names e.now) e.now.polarity.n (is_odd e.now) list.items) }
 {
     let used = used_inputs(e);
     let high = literals_high(e);

@@ -2,6 +2,8 @@ use Rattle.std.proofs.Common.{◌≡◌, ℕ, ap, ◌∙◌, arith}
 use Rattle.expansion.specs.Terms.{used_inputs}
 use Rattle.universal_tests.specs.Universal.{universal_vectors}
 use Rattle.universal_tests.proofs.CodeLemmas.{so_far, more_so_far, all_so_far, universal_few, universal_distinct, universal_points}
+use Rattle.universal_tests.proofs.Literals.{detects_odd}
+use Rattle.universal_tests.proofs.Whole.{detects}
 use Rattle.universal_tests.proofs.vectors.universal.Goals as goal
 
 pub loop-j-preserved : goal.loop-j-preserved
@@ -26,3 +28,9 @@ returns-clause-distinct c = rw (whole c) (universal_distinct c.args.e.now.polari
 
 pub returns-clause-points : goal.returns-clause-points
 returns-clause-points c = rw (whole c) (universal_points c.args.e.now)
+
+pub returns-clause-others : goal.returns-clause-others
+returns-clause-others c = rw (whole c) (λ names can. detects names c.args.e.now can)
+
+pub returns-clause-literals : goal.returns-clause-literals
+returns-clause-literals c = rw (whole c) (λ names can. detects_odd names c.args.e.now can)
