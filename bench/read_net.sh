@@ -65,8 +65,10 @@ for line in open(folder + "/in.pla"):
 with open(folder + "/source.blif", "w") as source:
     source.write(".model andexor\n" + lines[1] + "\n" + lines[2] + "\n")
     for o, output in enumerate(outputs):
-        source.write(".names " + " ".join(inputs[1:-1]) + " " + output + "\n")
-        source.writelines(literals + " 1\n" for literals, marks in rows if marks[o] in "14")
+        on = [literals + " 1\n" for literals, marks in rows if marks[o] in "14"]
+        # ABC takes no table with pins and without rows
+        source.write(".names " + " ".join((inputs[1:-1] if on else []) + [output]) + "\n")
+        source.writelines(on)
     source.write(".end\n")
 TEXTS
     if [ -n "$abc" ]; then
