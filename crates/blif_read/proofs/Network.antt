@@ -26,7 +26,8 @@ use Rattle.blif_read.proofs.Cubes.{row_is_product}
 use Rattle.blif_read.proofs.Sound.{IsSound, apart_at}
 use Rattle.blif_read.proofs.Covers.{IsFit}
 use Rattle.blif_read.proofs.Tables.{place_of-append, place_within}
-use Rattle.blif_read.proofs.Places.{place_at, names_apart, AllBelow}
+use Rattle.blif_read.proofs.WrittenNames.{names_apart}
+use Rattle.blif_read.proofs.Places.{place_at, AllBelow}
 use Rattle.blif_read.proofs.Link.{gate_at, blank, out_at, AreKnown, gates_of, needs_of}
 use Rattle.blif_read.proofs.Placed.{AreRanks, place_ordered, rank_below, some_rank}
 use Rattle.blif_read.proofs.Ordered.{IsOrder, place_in_front}

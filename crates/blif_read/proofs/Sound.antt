@@ -19,7 +19,7 @@ use Rattle.blif_read.specs.Statement.Said.{Model, Inputs, Outputs, Names, End, U
 use Rattle.blif_read.specs.Faults.{first_of, input_fault, output_fault, word_fault, names_fault, line_fault, first_fault}
 use Rattle.blif_read.specs.Step.{seen_by, says_of, fault_in, line_fault_in, with_line}
 use Rattle.blif_read.proofs.Steps.{fault_same, seen_push}
-use Rattle.blif_read.proofs.Tables.{bytes_apart, bytes_same}
+use Rattle.blif_read.proofs.WrittenNames.{bytes_apart, bytes_same}
 use Rattle.blif_read.proofs.Words.{last_is_no_name}
 
 -- ---- names in a list

@@ -6,16 +6,11 @@ use Rattle.std.proofs.lemmas.Bool.{both_ways, false_from_ne_true, cases_Bool, lt
 use Rattle.std.proofs.lemmas.List.Folds.{list_any-append, list_any_none}
 use Rattle.std.proofs.lemmas.Slice.Eq.{bytes_eq-Decides}
 use Rattle.ae_base.specs.Name.{is_name}
+use Rattle.blif_read.proofs.WrittenNames.{bytes_apart}
 use Rattle.blif_read.specs.Words.{is_among}
 use Rattle.blif_read.specs.Build.{signal_in}
 use Rattle.blif_read.specs.Says.{place_of}
 use Rattle.blif_read.specs.Statement.{unsupported}
-
-pub bytes_apart : (v w : List ℕ) → v ≢ w → bytes_eq v w ≡ false
-bytes_apart v w h = false_from_ne_true (bytes_eq v w) (λ t. h ((bytes_eq-Decides v w).0 t))
-
-pub bytes_same : (v : List ℕ) → bytes_eq v v ≡ true
-bytes_same v = (bytes_eq-Decides v v).1 refl
 
 pub place_within : (w : List ℕ) (ws : List (List ℕ)) → ltb (place_of w ws) (length ws) ≡ is_among w ws
 place_within w [] = le-ltb 0 0 (omega arith)
