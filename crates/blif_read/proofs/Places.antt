@@ -16,8 +16,8 @@ place_at w (v ∷ ws) h = elim (cases_Bool (bytes_eq w v)) [
   | inr f ↦ (let r = place_at w ws (sym (ap (λ (b : Bool). b || is_among w ws) f) ∙ h) in (rw f (omega (arith, r.0)), rw f (next w v ws (place_of w ws) r.1)))
 ]
   where
-  next : (w v : List ℕ) (ws : List (List ℕ)) (n : ℕ) → get_or ws n [] ≡ w → get_or (v ∷ ws) (1 + n) [] ≡ w
-  next w v ws n h = (let e : 1 + n ≡ suc n = omega arith in ap (λ k. get_or (v ∷ ws) k []) e ∙ h)
+    next : (w v : List ℕ) (ws : List (List ℕ)) (n : ℕ) → get_or ws n [] ≡ w → get_or (v ∷ ws) (1 + n) [] ≡ w
+    next w v ws n h = (let e : 1 + n ≡ suc n = omega arith in ap (λ k. get_or (v ∷ ws) k []) e ∙ h)
 
 pub same_name : (ws : List (List ℕ)) (i j : ℕ) → IsDistinct ws → i < length ws → j < length ws → bytes_eq (get_or ws i []) (get_or ws j []) ≡ eqb j i
 same_name ws i j apart a b = elim (cases_eq j i) [

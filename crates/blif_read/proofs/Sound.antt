@@ -184,9 +184,9 @@ pub line_none : (limits : NetLimits) (done : List Said) (line : WordLine) (lines
 unfolding first_fault
 line_none limits done line lines h = parts (line_fault limits done (said line.words)) h
   where
-  parts : (o : Option BlifFault) → option_or (elim o [ None ↦ None | Some f ↦ Some (line.number, f) ]) (first_fault limits (done ++ said line.words ∷ []) lines) ≡ None → (o ≡ None) × (first_fault limits (done ++ said line.words ∷ []) lines ≡ None)
-  parts None h = (refl, h)
-  parts (Some f) h = absurd cc
+    parts : (o : Option BlifFault) → option_or (elim o [ None ↦ None | Some f ↦ Some (line.number, f) ]) (first_fault limits (done ++ said line.words ∷ []) lines) ≡ None → (o ≡ None) × (first_fault limits (done ++ said line.words ∷ []) lines ≡ None)
+    parts None h = (refl, h)
+    parts (Some f) h = absurd cc
 
 sound_rest : (limits : NetLimits) (done : List Said) (lines : List WordLine) → SeenIsSound limits (seen_by done) → first_fault limits done lines ≡ None → SeenIsSound limits (seen_by (done ++ says_of lines))
 sound_rest limits done [] h f = subst (λ (ss : List Said). SeenIsSound limits (seen_by ss)) (sym (append-nil done)) h

@@ -6,7 +6,8 @@ use std::test::Fail;
 #[test]
 fn half_adder(rt: HostRuntime) -> Result<(), Fail> {
     let text = b".model adder   # half adder\n.inputs a \\\nb\n.outputs s c\n.names n1 n2 s\n11 1\n\
-        .names a b n1\n00 0\n.names a b n2\n11 0\n.names n2 c\n0 1\n".as_slice();
+        .names a b n1\n00 0\n.names a b n2\n11 0\n.names n2 c\n0 1\n"
+        .as_slice();
     let net = read_blif(rt.alloc(), text, NetLimits::Source)?;
     assert_eq!(rt; net.model().bytes(), b"adder".as_slice());
     assert_eq!(rt; net.inputs().len(), 2);
@@ -126,7 +127,12 @@ fn limits_of_both_columns(rt: HostRuntime) -> Result<(), Fail> {
     let alloc = rt.alloc();
     for (statement, count, source, written) in [
         (".inputs", 64, BlifFault::NoOutputs, BlifFault::NoOutputs),
-        (".inputs", 65, BlifFault::TooManyInputs, BlifFault::NoOutputs),
+        (
+            ".inputs",
+            65,
+            BlifFault::TooManyInputs,
+            BlifFault::NoOutputs,
+        ),
         (
             ".inputs",
             66,
@@ -157,9 +163,21 @@ fn limits_of_both_columns(rt: HostRuntime) -> Result<(), Fail> {
         let text = declared(alloc, statement, count)?;
         assert!(rt; text.len() <= 4096);
         let refusal = read_blif(alloc, text.as_bytes(), NetLimits::Source).err();
-        assert_eq!(rt; refusal, Some(BlifErr::At { line: 1, what: source }));
+        assert_eq!(rt;
+            refusal,
+            Some(BlifErr::At {
+                line: 1,
+                what: source
+            })
+        );
         let refusal = read_blif(alloc, text.as_bytes(), NetLimits::Written).err();
-        assert_eq!(rt; refusal, Some(BlifErr::At { line: 1, what: written }));
+        assert_eq!(rt;
+            refusal,
+            Some(BlifErr::At {
+                line: 1,
+                what: written
+            })
+        );
     }
     Ok(())
 }
