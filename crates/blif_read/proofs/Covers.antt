@@ -36,9 +36,10 @@ row_fits limits done c r e h = elim (cases_Bool (list_any is_end done)) [
 rows_at_fit : (limits : NetLimits) (done : List Said) (lines : List WordLine) (c : Cover) (ws : List (List ℕ)) (s : Said) → open_cover None done ≡ Some c → c.words ≡ ws → line_fault limits done s ≡ None → first_fault limits (done ++ s ∷ []) lines ≡ None
     → ((next : List Said) (d : Cover) → open_cover None next ≡ Some d → d.words ≡ ws → first_fault limits next lines ≡ None → AllByRecursion (λ r. is_row (length ws - 1) r ≡ true) (rows_at lines))
     → AllByRecursion (λ r. is_row (length ws - 1) r ≡ true) (onto_rows s (rows_at lines))
-rows_at_fit limits done lines c ws (Row r) e w f g rest =
-    (ap (λ (vs : List (List ℕ)). is_row (length vs - 1) r) (sym w) ∙ row_fits limits done c r e f,
-     rest (done ++ Row r ∷ []) (with_row r c) (open-append None done (Row r) ∙ ap (λ (o : Option Cover). cover_after o (Row r)) e) w g)
+rows_at_fit limits done lines c ws (Row r) e w f g rest = (
+  ap (λ (vs : List (List ℕ)). is_row (length vs - 1) r) (sym w) ∙ row_fits limits done c r e f,
+  rest (done ++ Row r ∷ []) (with_row r c) (open-append None done (Row r) ∙ ap (λ (o : Option Cover). cover_after o (Row r)) e) w g,
+)
 rows_at_fit limits done lines c ws (Model vs) e w f g rest = tt
 rows_at_fit limits done lines c ws (Inputs vs) e w f g rest = tt
 rows_at_fit limits done lines c ws (Outputs vs) e w f g rest = tt
@@ -67,13 +68,15 @@ covers_at_fit : (limits : NetLimits) (done : List Said) (lines : List WordLine) 
     → AllByRecursion (IsFit limits) (cover_of n s (rows_at lines) ++ covers lines)
 covers_at_fit limits done lines n (Names ws) f g rest =
     let fine = gate_words limits (inputs_of done) (driven_of done) ws (names_none limits done ws f) in
-    let size : length (pin_names ws) ≡ length ws - 1 = length-take-le (length ws - 1) ws (omega arith) in
-    (record {
-      few = omega (arith, fine.few, size);
-      out = fine.out;
-      rows = subst (λ (n : ℕ). AllByRecursion (λ r. is_row n r ≡ true) (rows_at lines)) (sym size)
-        (rows_fit limits lines ws (done ++ Names ws ∷ []) (record { words = ws; rows = [] }) (open-append None done (Names ws)) refl g);
-    }, rest)
+    let size : length (pin_names ws) ≡ length ws - 1 = length-take-le (length ws - 1) ws (omega arith) in (
+      record {
+        few = omega (arith, fine.few, size);
+        out = fine.out;
+        rows = subst (λ (n : ℕ). AllByRecursion (λ r. is_row n r ≡ true) (rows_at lines)) (sym size)
+            (rows_fit limits lines ws (done ++ Names ws ∷ []) (record { words = ws; rows = [] }) (open-append None done (Names ws)) refl g);
+      },
+      rest,
+    )
 covers_at_fit limits done lines n (Model vs) f g rest = rest
 covers_at_fit limits done lines n (Inputs vs) f g rest = rest
 covers_at_fit limits done lines n (Outputs vs) f g rest = rest

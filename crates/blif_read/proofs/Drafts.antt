@@ -28,9 +28,9 @@ first_err test all k line (errors.At n f) lt e h found =
     let here : drop k all ≡ line ∷ drop (k + 1) all = drop_more all k line lt ∙ ap (λ (l : WordLine). l ∷ drop (k + 1) all) e in
     at (test (said line.words)) (ap undefined (sym h ∙ ap (first_line test) here)) found
   where
-  at : (b : Bool) → undefined (first_line test all) ≡ undefined (cond b (Some line.number) (first_line test (drop (k + 1) all))) → undefined_if b line.number ≡ Some (n, f) → undefined (first_line test all) ≡ Some (n, f)
-  at true e found = e ∙ found
-  at false e found = absurd cc
+    at : (b : Bool) → undefined (first_line test all) ≡ undefined (cond b (Some line.number) (first_line test (drop (k + 1) all))) → undefined_if b line.number ≡ Some (n, f) → undefined (first_line test all) ≡ Some (n, f)
+    at true e found = e ∙ found
+    at false e found = absurd cc
 first_err test all k line errors.Memory lt e h found = tt
 
 pub first_end : (test : Said → Bool) (all : List WordLine) (k : ℕ) → length all ≤ k → first_line test (drop k all) ≡ first_line test all → first_line test all ≡ None
@@ -56,9 +56,9 @@ drafts_more known all k old new d lt h =
     let one : suc k ≡ k + 1 = omega arith in
     record {
       so_far = ap (λ (ds : List Draft). ds ++ drafts_of known (k + 1) (drop (k + 1) all)) h.1
-        ∙ append_assoc old (drafted known k (said line.words)) (drafts_of known (k + 1) (drop (k + 1) all))
-        ∙ ap (λ n. old ++ (drafted known k (said line.words) ++ drafts_of known n (drop (k + 1) all))) (sym one)
-        ∙ ap (λ (ls : List WordLine). old ++ drafts_of known k ls) (sym here) ∙ d.so_far;
+          ∙ append_assoc old (drafted known k (said line.words)) (drafts_of known (k + 1) (drop (k + 1) all))
+          ∙ ap (λ n. old ++ (drafted known k (said line.words) ++ drafts_of known n (drop (k + 1) all))) (sym one)
+          ∙ ap (λ (ls : List WordLine). old ++ drafts_of known k ls) (sym here) ∙ d.so_far;
       first = first_more (reads_unknown known) all k line lt (line_here all k lt) h.0 d.first;
     }
 
@@ -67,9 +67,10 @@ pub drafts_err : (known : List (List ℕ)) (all : List WordLine) (k : ℕ) (old 
 drafts_err known all k old e d lt h = first_err (reads_unknown known) all k (line_at all k) e lt (line_here all k lt) d.first h
 
 pub drafts_end : (known : List (List ℕ)) (all : List WordLine) (k : ℕ) (drafts : List Draft) → IsDrafted known all k drafts → length all ≤ k → (first_line (reads_unknown known) all ≡ None) × (drafts ≡ drafts_of known 0 all)
-drafts_end known all k drafts d le =
-    (first_end (reads_unknown known) all k le d.first,
-     sym (append-nil drafts) ∙ ap (λ (ls : List WordLine). drafts ++ drafts_of known k ls) (sym (drop_all k all le)) ∙ d.so_far)
+drafts_end known all k drafts d le = (
+  first_end (reads_unknown known) all k le d.first,
+  sym (append-nil drafts) ∙ ap (λ (ls : List WordLine). drafts ++ drafts_of known k ls) (sym (drop_all k all le)) ∙ d.so_far,
+)
 
 -- ---- drafts and covers
 

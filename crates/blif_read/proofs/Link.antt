@@ -125,7 +125,7 @@ next_same inputs cs placed apart below known =
     let size : length (needs_of inputs cs) ≡ length cs = length-map cs (λ (u : Unplaced). gates_of inputs (outs cs) u.pins) in
     ap (find p) (sym (whole_list cs)) ∙ find_map p (gate_at cs) (range_with_len 0 (length cs))
     ∙ ap (option_map (gate_at cs)) (find_same (λ j. p (gate_at cs j)) (order.can_go (needs_of inputs cs) placed) (length cs) 0 (λ j x y. go_same inputs cs placed j apart below known (omega arith))
-        ∙ ap (λ n. find (order.can_go (needs_of inputs cs) placed) (range_with_len 0 n)) (sym size))
+    ∙ ap (λ n. find (order.can_go (needs_of inputs cs) placed) (range_with_len 0 n)) (sym size))
 
 pub next_below : (needs : List (List ℕ)) (placed : List ℕ) (k : ℕ) → order.next needs placed ≡ Some k → k < length needs
 unfolding order.next

@@ -26,7 +26,8 @@ use Rattle.blif_read.proofs.Cubes.{row_is_product}
 use Rattle.blif_read.proofs.Sound.{IsSound, apart_at}
 use Rattle.blif_read.proofs.Covers.{IsFit}
 use Rattle.blif_read.proofs.Tables.{place_of-append, place_within}
-use Rattle.blif_read.proofs.Places.{place_at, names_apart, AllBelow}
+use Rattle.blif_read.proofs.WrittenNames.{names_apart}
+use Rattle.blif_read.proofs.Places.{place_at, AllBelow}
 use Rattle.blif_read.proofs.Link.{gate_at, blank, out_at, AreKnown, gates_of, needs_of}
 use Rattle.blif_read.proofs.Placed.{AreRanks, place_ordered, rank_below, some_rank}
 use Rattle.blif_read.proofs.Ordered.{IsOrder, place_in_front}
@@ -115,7 +116,7 @@ outs_distinct cs order apart below distinct = λ a b d lt in'.
     let ga = below_at (length cs) order a below in-a in
     let gb = below_at (length cs) order b below in-b in
     λ e. names_apart (outs cs) (get_or order a 0) (get_or order b 0) apart (omega (arith, ga)) (omega (arith, gb)) (distinct a b 0 lt in-b)
-        (sym (out_at cs (get_or order a 0) ga) ∙ sym (ordered_at cs order a d in-a) ∙ e ∙ ordered_at cs order b d in-b ∙ out_at cs (get_or order b 0) gb)
+    (sym (out_at cs (get_or order a 0) ga) ∙ sym (ordered_at cs order a d in-a) ∙ e ∙ ordered_at cs order b d in-b ∙ out_at cs (get_or order b 0) gb)
 
 -- two lists without equal names, of which none is among the other
 both_distinct : (xs ys : List (List ℕ)) → IsDistinct xs → IsDistinct ys → All (λ y. is_among y xs ≡ false) ys → IsDistinct (xs ++ ys)
@@ -125,13 +126,13 @@ both_distinct xs ys hx hy new = λ a b d lt in'.
       | inl low ↦ (let in-a : a < length xs = omega arith in
           λ e. hx a b d lt low (sym (get_or_append_left xs ys d a in-a) ∙ e ∙ get_or_append_left xs ys d b low))
       | inr high ↦ elim (cases_lt a (length xs)) [
-          | inl low ↦
-              (let in-b : b - length xs < length ys = omega arith in
-              λ e. apart_at (get_or ys (b - length xs) d) xs a d (new (b - length xs) d in-b) low (sym (get_or_append_left xs ys d a low) ∙ e ∙ get_or-append_right xs ys (length xs) b d refl high))
-          | inr up ↦
-              (let in-b : b - length xs < length ys = omega arith in
-              λ e. hy (a - length xs) (b - length xs) d (omega arith) in-b (sym (get_or-append_right xs ys (length xs) a d refl up) ∙ e ∙ get_or-append_right xs ys (length xs) b d refl high))
-        ]
+        | inl low ↦
+            (let in-b : b - length xs < length ys = omega arith in
+            λ e. apart_at (get_or ys (b - length xs) d) xs a d (new (b - length xs) d in-b) low (sym (get_or_append_left xs ys d a low) ∙ e ∙ get_or-append_right xs ys (length xs) b d refl high))
+        | inr up ↦
+            (let in-b : b - length xs < length ys = omega arith in
+            λ e. hy (a - length xs) (b - length xs) d (omega arith) in-b (sym (get_or-append_right xs ys (length xs) a d refl up) ∙ e ∙ get_or-append_right xs ys (length xs) b d refl high))
+      ]
     ]
 
 ordered_new : (i : List (List ℕ)) (cs : List Unplaced) (order : List ℕ) → AllBelow (length cs) order → All (λ w. is_among w i ≡ false) (outs cs) → All (λ w. is_among w i ≡ false) (outs (in_order cs order))
@@ -235,21 +236,21 @@ is_valid limits model i o cs order ranks m h =
       some_input = h.some_input;
       few_inputs = omega (arith, h.sound.few_inputs, few);
       names = subst (λ (ws : List (List ℕ)). IsDistinct (i ++ ws)) (sym (out_of_gates names (in_order cs order)))
-        (both_distinct i (outs (in_order cs order)) h.sound.inputs_apart (outs_distinct cs order h.sound.driven_apart h.ranked.below h.ordered.distinct) (ordered_new i cs order h.ranked.below h.sound.driven_new));
+          (both_distinct i (outs (in_order cs order)) h.sound.inputs_apart (outs_distinct cs order h.sound.driven_apart h.ranked.below h.ordered.distinct) (ordered_new i cs order h.ranked.below h.sound.driven_new));
       few_gates = omega (arith, size, h.ranked.short, h.sound.few_gates, total);
       gates = λ k gate at.
-        let got = get_map (λ g. gate_of names (gate_at cs g)) order k 0 gate (sym (ap (λ (gs : List Gate). slice_get gs k) gates) ∙ at) in
-        subst (IsGate (length i + k)) (sym got.1) (gate_valid limits i o cs order ranks h k got.0);
+          let got = get_map (λ g. gate_of names (gate_at cs g)) order k 0 gate (sym (ap (λ (gs : List Gate). slice_get gs k) gates) ∙ at) in
+          subst (IsGate (length i + k)) (sym got.1) (gate_valid limits i o cs order ranks h k got.0);
       some_output = omega (arith, ports, h.some_output);
       few_outputs = omega (arith, ports, h.sound.few_outputs, few);
       ports = λ k d lt.
-        let in' : k < length o = omega (arith, ports) in
-        let e : get_or (map port o) k d ≡ port (get_or o k []) = get_or-map port o k [] d in' in
-        let p = port_of k in' in
-        (omega (arith, e, p.0), omega (arith, e, p.1, size));
+          let in' : k < length o = omega (arith, ports) in
+          let e : get_or (map port o) k d ≡ port (get_or o k []) = get_or-map port o k [] d in' in
+          let p = port_of k in' in
+          (omega (arith, e, p.0), omega (arith, e, p.1, size));
       other_ports = λ a b d lt in'.
-        let in-b : b < length o = omega (arith, ports) in
-        let in-a : a < length o = omega arith in
-        λ e. h.sound.outputs_apart a b [] lt in-b
+          let in-b : b < length o = omega (arith, ports) in
+          let in-a : a < length o = omega arith in
+          λ e. h.sound.outputs_apart a b [] lt in-b
           (sym (port_of a in-a).2 ∙ ap (λ s. get_or names s []) (sym (get_or-map port o a [] d in-a) ∙ e ∙ get_or-map port o b [] d in-b) ∙ (port_of b in-b).2);
     }

@@ -47,11 +47,11 @@ any_within p (x ∷ xs) = elim (cases_Bool (p x)) [
   | inr f ↦ rw f (ltb_suc (position_or_len p xs) (length xs) ∙ any_within p xs)
 ]
   where
-  ltb_suc : (a b : ℕ) → ltb (1 + a) (suc b) ≡ ltb a b
-  ltb_suc a b = elim (cases_lt a b) [
-    | inl lt ↦ lt-ltb (1 + a) (suc b) (omega arith) ∙ sym (lt-ltb a b lt)
-    | inr le ↦ le-ltb (1 + a) (suc b) (omega arith) ∙ sym (le-ltb a b le)
-  ]
+    ltb_suc : (a b : ℕ) → ltb (1 + a) (suc b) ≡ ltb a b
+    ltb_suc a b = elim (cases_lt a b) [
+      | inl lt ↦ lt-ltb (1 + a) (suc b) (omega arith) ∙ sym (lt-ltb a b lt)
+      | inr le ↦ le-ltb (1 + a) (suc b) (omega arith) ∙ sym (le-ltb a b le)
+    ]
 
 same_first : {X Y : Type 0} (p : X → Bool) (q : Y → Bool) (xs : List X) (ys : List Y) (d : X) (e : Y) → length xs ≡ length ys → ((k : ℕ) → k < length xs → p (get_or xs k d) ≡ q (get_or ys k e)) → position_or_len p xs ≡ position_or_len q ys
 same_first p q [] [] d e l h = refl
@@ -80,25 +80,25 @@ pub record AreRanks (cs : List Unplaced) (order : List ℕ) (ranks : List (Optio
 pub rank_below : (order : List ℕ) (g k : ℕ) → rank_in order g ≡ Some k → (position_or_len (λ h. eqb h g) order ≡ k) × (k < length order)
 rank_below order g k h = at (ltb (position_or_len (λ h. eqb h g) order) (length order)) refl h
   where
-  at : (b : Bool) → ltb (position_or_len (λ h. eqb h g) order) (length order) ≡ b → cond b (Some (position_or_len (λ h. eqb h g) order)) None ≡ Some k → (position_or_len (λ h. eqb h g) order ≡ k) × (k < length order)
-  at true e h = (let s : position_or_len (λ h. eqb h g) order ≡ k = cc in (s, omega (arith, ltb-true _ _ e, s)))
-  at false e h = absurd cc
+    at : (b : Bool) → ltb (position_or_len (λ h. eqb h g) order) (length order) ≡ b → cond b (Some (position_or_len (λ h. eqb h g) order)) None ≡ Some k → (position_or_len (λ h. eqb h g) order ≡ k) × (k < length order)
+    at true e h = (let s : position_or_len (λ h. eqb h g) order ≡ k = cc in (s, omega (arith, ltb-true _ _ e, s)))
+    at false e h = absurd cc
 
 pub ranks_below : (cs : List Unplaced) (order : List ℕ) (ranks : List (Option ℕ)) → AreRanks cs order ranks → All (IsRankBelow (length ranks)) ranks
 ranks_below cs order ranks r = λ g d lt. at g d lt (get_or ranks g d) refl
   where
-  at : (g : ℕ) (d : Option ℕ) → g < length ranks → (o : Option ℕ) → get_or ranks g d ≡ o → IsRankBelow (length ranks) o
-  at g d lt None e = tt
-  at g d lt (Some k) e =
-      (let here : rank_in order g ≡ Some k = sym (r.rank g) ∙ sym (get_or_default ranks g d None lt) ∙ e in
-      omega (arith, (rank_below order g k here).1, r.short, r.size))
+    at : (g : ℕ) (d : Option ℕ) → g < length ranks → (o : Option ℕ) → get_or ranks g d ≡ o → IsRankBelow (length ranks) o
+    at g d lt None e = tt
+    at g d lt (Some k) e =
+        (let here : rank_in order g ≡ Some k = sym (r.rank g) ∙ sym (get_or_default ranks g d None lt) ∙ e in
+        omega (arith, (rank_below order g k here).1, r.short, r.size))
 
 pub placed_is : (order : List ℕ) (g : ℕ) → by_place.is_placed order g ≡ is_some (rank_in order g)
 placed_is order g = sym (any_within (λ h. eqb h g) order) ∙ pick (ltb (position_or_len (λ h. eqb h g) order) (length order)) (position_or_len (λ h. eqb h g) order)
   where
-  pick : (b : Bool) (n : ℕ) → b ≡ is_some (cond b (Some n) None)
-  pick true n = refl
-  pick false n = refl
+    pick : (b : Bool) (n : ℕ) → b ≡ is_some (cond b (Some n) None)
+    pick true n = refl
+    pick false n = refl
 
 none_is : (o : Option ℕ) → not (is_some o) ≡ is_none o
 none_is None = refl
@@ -120,27 +120,28 @@ pub one_left : (cs : List Unplaced) (order : List ℕ) (ranks : List (Option ℕ
     → (g < length cs) × (find (left cs order) cs ≡ Some (gate_at cs g))
 one_left cs order ranks g apart r h = at (ltb (position_or_len (λ o. is_none o) ranks) (length ranks)) refl h
   where
-  at : (b : Bool) → ltb (position_or_len (λ o. is_none o) ranks) (length ranks) ≡ b → cond b (Some (position_or_len (λ o. is_none o) ranks)) None ≡ Some g → (g < length cs) × (find (left cs order) cs ≡ Some (gate_at cs g))
-  at true e h =
-      (let s : position_or_len (λ o. is_none o) ranks ≡ g = cc in
-      let lt : g < length cs = omega (arith, ltb-true _ _ e, s, r.size) in
-      (lt, find_at (left cs order) cs ∙ ap (slice_get cs) (first_left cs order ranks apart r ∙ s) ∙ get_in cs g blank lt))
-  at false e h = absurd cc
+    at : (b : Bool) → ltb (position_or_len (λ o. is_none o) ranks) (length ranks) ≡ b → cond b (Some (position_or_len (λ o. is_none o) ranks)) None ≡ Some g → (g < length cs) × (find (left cs order) cs ≡ Some (gate_at cs g))
+    at true e h =
+        (let s : position_or_len (λ o. is_none o) ranks ≡ g = cc in
+        let lt : g < length cs = omega (arith, ltb-true _ _ e, s, r.size) in
+        (lt, find_at (left cs order) cs ∙ ap (slice_get cs) (first_left cs order ranks apart r ∙ s) ∙ get_in cs g blank lt))
+    at false e h = absurd cc
 
 pub none_left : (cs : List Unplaced) (order : List ℕ) (ranks : List (Option ℕ)) → IsDistinct (outs cs) → AreRanks cs order ranks → position (λ o. is_none o) ranks ≡ None
     → (find (left cs order) cs ≡ None) × ((g : ℕ) → g < length cs → is_none (rank_in order g) ≡ false)
 none_left cs order ranks apart r h = at (ltb (position_or_len (λ o. is_none o) ranks) (length ranks)) refl h
   where
-  at : (b : Bool) → ltb (position_or_len (λ o. is_none o) ranks) (length ranks) ≡ b → cond b (Some (position_or_len (λ o. is_none o) ranks)) None ≡ None → (find (left cs order) cs ≡ None) × ((g : ℕ) → g < length cs → is_none (rank_in order g) ≡ false)
-  at true e h = absurd cc
-  at false e h =
-      (find_at (left cs order) cs ∙ ap (slice_get cs) (first_left cs order ranks apart r) ∙ get_past cs (position_or_len (λ o. is_none o) ranks) (omega (arith, ltb-false _ _ e, r.size)),
-       λ g lt. elim (cases_Bool (is_none (rank_in order g))) [
-         | inl t ↦
-             (let any : list_any (λ o. is_none o) ranks ≡ true = list_any_at (λ o. is_none o) ranks g None (omega (arith, r.size)) (ap is_none (r.rank g) ∙ t) in
-             absurd (both_ways _ (sym (any_within (λ o. is_none o) ranks) ∙ e) any))
-         | inr f ↦ f
-       ])
+    at : (b : Bool) → ltb (position_or_len (λ o. is_none o) ranks) (length ranks) ≡ b → cond b (Some (position_or_len (λ o. is_none o) ranks)) None ≡ None → (find (left cs order) cs ≡ None) × ((g : ℕ) → g < length cs → is_none (rank_in order g) ≡ false)
+    at true e h = absurd cc
+    at false e h = (
+      find_at (left cs order) cs ∙ ap (slice_get cs) (first_left cs order ranks apart r) ∙ get_past cs (position_or_len (λ o. is_none o) ranks) (omega (arith, ltb-false _ _ e, r.size)),
+      λ g lt. elim (cases_Bool (is_none (rank_in order g))) [
+        | inl t ↦
+            (let any : list_any (λ o. is_none o) ranks ≡ true = list_any_at (λ o. is_none o) ranks g None (omega (arith, r.size)) (ap is_none (r.rank g) ∙ t) in
+            absurd (both_ways _ (sym (any_within (λ o. is_none o) ranks) ∙ e) any))
+        | inr f ↦ f
+      ],
+    )
 
 -- ---- the number of a name in the network
 

@@ -6,7 +6,7 @@ use Rattle.std.proofs.lemmas.Slice.Eq.{bytes_eq-Decides}
 use Rattle.ae_net.specs.Valid.{IsDistinct}
 use Rattle.blif_read.specs.Words.{is_among}
 use Rattle.blif_read.specs.Says.{place_of}
-use Rattle.blif_read.proofs.Tables.{bytes_apart, bytes_same, place_within}
+use Rattle.blif_read.proofs.WrittenNames.{bytes_apart, bytes_same, names_apart}
 
 -- a name that is one of the list is the one at its place
 pub place_at : (w : List ℕ) (ws : List (List ℕ)) → is_among w ws ≡ true → (place_of w ws < length ws) × (get_or ws (place_of w ws) [] ≡ w)
@@ -16,22 +16,8 @@ place_at w (v ∷ ws) h = elim (cases_Bool (bytes_eq w v)) [
   | inr f ↦ (let r = place_at w ws (sym (ap (λ (b : Bool). b || is_among w ws) f) ∙ h) in (rw f (omega (arith, r.0)), rw f (next w v ws (place_of w ws) r.1)))
 ]
   where
-  next : (w v : List ℕ) (ws : List (List ℕ)) (n : ℕ) → get_or ws n [] ≡ w → get_or (v ∷ ws) (1 + n) [] ≡ w
-  next w v ws n h = (let e : 1 + n ≡ suc n = omega arith in ap (λ k. get_or (v ∷ ws) k []) e ∙ h)
-
--- the place of a name in a list without equal names
-pub place_back : (names : List (List ℕ)) (s : ℕ) → IsDistinct names → s < length names → place_of (get_or names s []) names ≡ s
-place_back [] s h lt = absurd (omega arith)
-place_back (v ∷ names) zero h lt = rw (bytes_same v) refl
-place_back (v ∷ names) (suc s) h lt =
-    let w = get_or names s [] in
-    let apart : bytes_eq w v ≡ false = bytes_apart w v (λ e. h 0 (suc s) [] (omega arith) (omega arith) (sym e)) in
-    let rest : place_of w names ≡ s = place_back names s (λ i j d a b. h (suc i) (suc j) d (omega arith) (omega arith)) (omega arith) in
-    rw apart (omega (arith, rest))
-
--- names at different places differ
-pub names_apart : (names : List (List ℕ)) (s t : ℕ) → IsDistinct names → s < length names → t < length names → s ≢ t → get_or names s [] ≢ get_or names t []
-names_apart names s t h a b ne e = ne (sym (place_back names s h a) ∙ ap (λ w. place_of w names) e ∙ place_back names t h b)
+    next : (w v : List ℕ) (ws : List (List ℕ)) (n : ℕ) → get_or ws n [] ≡ w → get_or (v ∷ ws) (1 + n) [] ≡ w
+    next w v ws n h = (let e : 1 + n ≡ suc n = omega arith in ap (λ k. get_or (v ∷ ws) k []) e ∙ h)
 
 pub same_name : (ws : List (List ℕ)) (i j : ℕ) → IsDistinct ws → i < length ws → j < length ws → bytes_eq (get_or ws i []) (get_or ws j []) ≡ eqb j i
 same_name ws i j apart a b = elim (cases_eq j i) [

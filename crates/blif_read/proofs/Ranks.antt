@@ -24,25 +24,25 @@ rank_cons h order g = elim (cases_Bool (eqb h g)) [
   | inr f ↦ rw (f, ltb_suc (position_or_len (λ x. eqb x g) order) (length order)) (pick (ltb (position_or_len (λ x. eqb x g) order) (length order)) (position_or_len (λ x. eqb x g) order))
 ]
   where
-  pick : (b : Bool) (n : ℕ) → cond b (Some (1 + n)) None ≡ next_rank (cond b (Some n) None)
-  pick true n = refl
-  pick false n = refl
+    pick : (b : Bool) (n : ℕ) → cond b (Some (1 + n)) None ≡ next_rank (cond b (Some n) None)
+    pick true n = refl
+    pick false n = refl
 
 pub rank_push : (order : List ℕ) (h g : ℕ) → rank_in (order ++ h ∷ []) g ≡ option_or (rank_in order g) (cond (eqb h g) (Some (length order)) None)
 rank_push [] h g = rank_cons h [] g ∙ pick (eqb h g)
   where
-  pick : (b : Bool) → cond b (Some 0) (next_rank None) ≡ cond b (Some 0) None
-  pick true = refl
-  pick false = refl
+    pick : (b : Bool) → cond b (Some 0) (next_rank None) ≡ cond b (Some 0) None
+    pick true = refl
+    pick false = refl
 rank_push (x ∷ order) h g =
     rank_cons x (order ++ h ∷ []) g ∙ ap (λ (o : Option ℕ). cond (eqb x g) (Some 0) (next_rank o)) (rank_push order h g)
     ∙ pick (eqb x g) (eqb h g) (rank_in order g) (length order) ∙ ap (λ (o : Option ℕ). option_or o (cond (eqb h g) (Some (suc (length order))) None)) (sym (rank_cons x order g))
   where
-  pick : (a b : Bool) (o : Option ℕ) (n : ℕ) → cond a (Some 0) (next_rank (option_or o (cond b (Some n) None))) ≡ option_or (cond a (Some 0) (next_rank o)) (cond b (Some (suc n)) None)
-  pick true b o n = refl
-  pick false true None n = ap (λ (m : ℕ). Some m) (omega arith)
-  pick false false None n = refl
-  pick false b (Some m) n = refl
+    pick : (a b : Bool) (o : Option ℕ) (n : ℕ) → cond a (Some 0) (next_rank (option_or o (cond b (Some n) None))) ≡ option_or (cond a (Some 0) (next_rank o)) (cond b (Some (suc n)) None)
+    pick true b o n = refl
+    pick false true None n = ap (λ (m : ℕ). Some m) (omega arith)
+    pick false false None n = refl
+    pick false b (Some m) n = refl
 
 pub rank_more : (order : List ℕ) (i g : ℕ) → i < length order → rank_in (take (i + 1) order) g ≡ option_or (rank_in (take i order) g) (cond (eqb (get_or order i 0) g) (Some i) None)
 rank_more order i g lt =

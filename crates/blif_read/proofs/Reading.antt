@@ -52,7 +52,7 @@ at_more limits all k seen next line at lt e none is =
     record {
       seen_is = is ∙ ap (λ (s : Seen). with_line s (said line.words)) at.seen_is ∙ sym (seen_push limits (says_of (take k all)) (said line.words) fault) ∙ ap seen_by (sym (says_more all k line lt e));
       fault = ap (λ (done : List Said). first_fault limits done (drop (k + 1) all)) (says_more all k line lt e) ∙ sym (fault_more limits (says_of (take k all)) line (drop (k + 1) all) fault)
-        ∙ ap (first_fault limits (says_of (take k all))) (sym (rest_more all k line lt e)) ∙ at.fault;
+          ∙ ap (first_fault limits (says_of (take k all))) (sym (rest_more all k line lt e)) ∙ at.fault;
     }
 
 pub at_fault : (limits : NetLimits) (all : List WordLine) (k : ℕ) (seen : Seen) (line : WordLine) (n : ℕ) (f : BlifFault) → IsAt limits all k seen → k < length all → get_or all k line ≡ line
@@ -60,13 +60,14 @@ pub at_fault : (limits : NetLimits) (all : List WordLine) (k : ℕ) (seen : Seen
 at_fault limits all k seen line n f at lt e some =
     let done = says_of (take k all) in
     let fault : at_line line.number (line_fault limits done (said line.words)) ≡ Some (n, f) =
-        ap (at_line line.number) (fault_same limits done (said line.words) ∙ ap (λ (s : Seen). line_fault_in limits s (said line.words)) (sym at.seen_is)) ∙ some in
+    ap (at_line line.number) (fault_same limits done (said line.words) ∙ ap (λ (s : Seen). line_fault_in limits s (said line.words)) (sym at.seen_is)) ∙ some in
     sym at.fault ∙ ap (first_fault limits done) (rest_more all k line lt e) ∙ fault_here limits done line (drop (k + 1) all) n f fault
 
 pub at_end : (limits : NetLimits) (all : List WordLine) (k : ℕ) (seen : Seen) → IsAt limits all k seen → length all ≤ k → (first_fault limits [] all ≡ None) × (seen ≡ seen_by (says_of all))
-at_end limits all k seen at le =
-    (sym at.fault ∙ ap (first_fault limits (says_of (take k all))) (drop_all k all le) ∙ fault_none limits (says_of (take k all)),
-     at.seen_is ∙ ap (λ (ls : List WordLine). seen_by (says_of ls)) (take_all k all le))
+at_end limits all k seen at le = (
+  sym at.fault ∙ ap (first_fault limits (says_of (take k all))) (drop_all k all le) ∙ fault_none limits (says_of (take k all)),
+  at.seen_is ∙ ap (λ (ls : List WordLine). seen_by (says_of ls)) (take_all k all le),
+)
 
 pub at_start : (limits : NetLimits) (all : List WordLine) (seen : Seen) → seen ≡ seen_by [] → IsAt limits all 0 seen
 at_start limits all seen e = record { seen_is = e; fault = refl }

@@ -16,9 +16,9 @@ one_unknown known words i d lt h =
     let w = (get_or words i d).now in
     list_any_at (λ v. not (is_among v known)) (texts words) i d.now (omega (arith, length-map words now)) (ap (λ v. not (is_among v known)) (get_or-map now words i d d.now lt) ∙ unknown (is_among w known) (place_of w known) h)
   where
-  unknown : (b : Bool) (s : ℕ) → cond b (Some s) None ≡ None → not b ≡ true
-  unknown true s h = absurd cc
-  unknown false s h = refl
+    unknown : (b : Bool) (s : ℕ) → cond b (Some s) None ≡ None → not b ≡ true
+    unknown true s h = absurd cc
+    unknown false s h = refl
 
 -- one more word that has a signal
 pub one_more : (known : List (List ℕ)) (words : List (Bor (List ℕ))) (i s : ℕ) (d : Bor (List ℕ)) → i < length words → signal_in known (get_or words i d).now ≡ Some s → some_unknown known (texts (take i words)) ≡ false
@@ -27,10 +27,11 @@ one_more known words i s d lt h none =
     let now : Bor (List ℕ) → List ℕ = λ w. w.now in
     let w = (get_or words i d).now in
     let more : texts (take (i + 1) words) ≡ texts (take i words) ++ w ∷ [] = map_more now words i d lt in
-    let p = found (is_among w known) (place_of w known) s h in
-    (ap (some_unknown known) more ∙ list_any-append (λ v. not (is_among v known)) (texts (take i words)) (w ∷ []) ∙ or_from (some_unknown known (texts (take i words))) (not (is_among w known) || false) none (or_from (not (is_among w known)) false (ap not p.0) refl),
-     ap (map (λ v. place_of v known)) more ∙ map_push (λ v. place_of v known) (texts (take i words)) w ∙ ap (λ n. map (λ v. place_of v known) (texts (take i words)) ++ n ∷ []) p.1)
+    let p = found (is_among w known) (place_of w known) s h in (
+      ap (some_unknown known) more ∙ list_any-append (λ v. not (is_among v known)) (texts (take i words)) (w ∷ []) ∙ or_from (some_unknown known (texts (take i words))) (not (is_among w known) || false) none (or_from (not (is_among w known)) false (ap not p.0) refl),
+      ap (map (λ v. place_of v known)) more ∙ map_push (λ v. place_of v known) (texts (take i words)) w ∙ ap (λ n. map (λ v. place_of v known) (texts (take i words)) ++ n ∷ []) p.1,
+    )
   where
-  found : (b : Bool) (p s : ℕ) → cond b (Some p) None ≡ Some s → (b ≡ true) × (p ≡ s)
-  found true p s h = (refl, (let e : p ≡ s = cc in e))
-  found false p s h = absurd cc
+    found : (b : Bool) (p s : ℕ) → cond b (Some p) None ≡ Some s → (b ≡ true) × (p ≡ s)
+    found true p s h = (refl, (let e : p ≡ s = cc in e))
+    found false p s h = absurd cc

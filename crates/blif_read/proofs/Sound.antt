@@ -19,7 +19,7 @@ use Rattle.blif_read.specs.Statement.Said.{Model, Inputs, Outputs, Names, End, U
 use Rattle.blif_read.specs.Faults.{first_of, input_fault, output_fault, word_fault, names_fault, line_fault, first_fault}
 use Rattle.blif_read.specs.Step.{seen_by, says_of, fault_in, line_fault_in, with_line}
 use Rattle.blif_read.proofs.Steps.{fault_same, seen_push}
-use Rattle.blif_read.proofs.Tables.{bytes_apart, bytes_same}
+use Rattle.blif_read.proofs.WrittenNames.{bytes_apart, bytes_same}
 use Rattle.blif_read.proofs.Words.{last_is_no_name}
 
 -- ---- names in a list
@@ -184,9 +184,9 @@ pub line_none : (limits : NetLimits) (done : List Said) (line : WordLine) (lines
 unfolding first_fault
 line_none limits done line lines h = parts (line_fault limits done (said line.words)) h
   where
-  parts : (o : Option BlifFault) → option_or (elim o [ None ↦ None | Some f ↦ Some (line.number, f) ]) (first_fault limits (done ++ said line.words ∷ []) lines) ≡ None → (o ≡ None) × (first_fault limits (done ++ said line.words ∷ []) lines ≡ None)
-  parts None h = (refl, h)
-  parts (Some f) h = absurd cc
+    parts : (o : Option BlifFault) → option_or (elim o [ None ↦ None | Some f ↦ Some (line.number, f) ]) (first_fault limits (done ++ said line.words ∷ []) lines) ≡ None → (o ≡ None) × (first_fault limits (done ++ said line.words ∷ []) lines ≡ None)
+    parts None h = (refl, h)
+    parts (Some f) h = absurd cc
 
 sound_rest : (limits : NetLimits) (done : List Said) (lines : List WordLine) → SeenIsSound limits (seen_by done) → first_fault limits done lines ≡ None → SeenIsSound limits (seen_by (done ++ says_of lines))
 sound_rest limits done [] h f = subst (λ (ss : List Said). SeenIsSound limits (seen_by ss)) (sym (append-nil done)) h

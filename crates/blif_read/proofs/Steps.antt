@@ -77,9 +77,9 @@ row_same : (c : Option Cover) (r : List ℕ) → option_map summary (cover_after
 row_same None r = refl
 row_same (Some c) r = first c.rows
   where
-  first : (rows : List (List ℕ)) → option_map summary (cover_after (Some (record { words = c.words; rows = rows })) (Row r)) ≡ (with_line (parts false false [] [] [] [] (Some (record { words = c.words; rows = rows }))) (Row r)).cover
-  first [] = refl
-  first (q ∷ rows) = refl
+    first : (rows : List (List ℕ)) → option_map summary (cover_after (Some (record { words = c.words; rows = rows })) (Row r)) ≡ (with_line (parts false false [] [] [] [] (Some (record { words = c.words; rows = rows }))) (Row r)).cover
+    first [] = refl
+    first (q ∷ rows) = refl
 
 step : (limits : NetLimits) (e m : Bool) (ms i o d : List (List ℕ)) (c : Option Cover) (s : Said) → (m ≡ false → ms ≡ []) → line_fault_in limits (parts e m ms i o d c) s ≡ None
     → more e m ms i o d c s ≡ with_line (parts e m ms i o d c) s
@@ -105,7 +105,14 @@ step limits false m ms i o d c (Row r) n h = rw (or_false m, append-nil ms, appe
 pub seen_push : (limits : NetLimits) (lines : List Said) (s : Said) → line_fault limits lines s ≡ None → seen_by (lines ++ s ∷ []) ≡ with_line (seen_by lines) s
 unfolding seen_by
 seen_push limits lines s h =
-    rw (list_any-append is_end lines (s ∷ []), list_any-append is_model lines (s ∷ []), flat_map-append model_words lines (s ∷ []), flat_map-append input_words lines (s ∷ []),
-        flat_map-append output_words lines (s ∷ []), flat_map-append driven_words lines (s ∷ []), open-append None lines s)
+    rw (
+      list_any-append is_end lines (s ∷ []),
+      list_any-append is_model lines (s ∷ []),
+      flat_map-append model_words lines (s ∷ []),
+      flat_map-append input_words lines (s ∷ []),
+      flat_map-append output_words lines (s ∷ []),
+      flat_map-append driven_words lines (s ∷ []),
+      open-append None lines s,
+    )
     (step limits (list_any is_end lines) (list_any is_model lines) (flat_map model_words lines) (inputs_of lines) (outputs_of lines) (driven_of lines) (open_cover None lines) s
-        (no_words lines) (sym (fault_same limits lines s) ∙ h))
+    (no_words lines) (sym (fault_same limits lines s) ∙ h))

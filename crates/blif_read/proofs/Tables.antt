@@ -6,16 +6,11 @@ use Rattle.std.proofs.lemmas.Bool.{both_ways, false_from_ne_true, cases_Bool, lt
 use Rattle.std.proofs.lemmas.List.Folds.{list_any-append, list_any_none}
 use Rattle.std.proofs.lemmas.Slice.Eq.{bytes_eq-Decides}
 use Rattle.ae_base.specs.Name.{is_name}
+use Rattle.blif_read.proofs.WrittenNames.{bytes_apart}
 use Rattle.blif_read.specs.Words.{is_among}
 use Rattle.blif_read.specs.Build.{signal_in}
 use Rattle.blif_read.specs.Says.{place_of}
 use Rattle.blif_read.specs.Statement.{unsupported}
-
-pub bytes_apart : (v w : List ℕ) → v ≢ w → bytes_eq v w ≡ false
-bytes_apart v w h = false_from_ne_true (bytes_eq v w) (λ t. h ((bytes_eq-Decides v w).0 t))
-
-pub bytes_same : (v : List ℕ) → bytes_eq v v ≡ true
-bytes_same v = (bytes_eq-Decides v v).1 refl
 
 pub place_within : (w : List ℕ) (ws : List (List ℕ)) → ltb (place_of w ws) (length ws) ≡ is_among w ws
 place_within w [] = le-ltb 0 0 (omega arith)
@@ -24,11 +19,11 @@ place_within w (v ∷ ws) = elim (cases_Bool (bytes_eq w v)) [
   | inr f ↦ rw f (ltb_suc (place_of w ws) (length ws) ∙ place_within w ws)
 ]
   where
-  ltb_suc : (a b : ℕ) → ltb (1 + a) (suc b) ≡ ltb a b
-  ltb_suc a b = elim (cases_lt a b) [
-    | inl lt ↦ lt-ltb (1 + a) (suc b) (omega arith) ∙ sym (lt-ltb a b lt)
-    | inr le ↦ le-ltb (1 + a) (suc b) (omega arith) ∙ sym (le-ltb a b le)
-  ]
+    ltb_suc : (a b : ℕ) → ltb (1 + a) (suc b) ≡ ltb a b
+    ltb_suc a b = elim (cases_lt a b) [
+      | inl lt ↦ lt-ltb (1 + a) (suc b) (omega arith) ∙ sym (lt-ltb a b lt)
+      | inr le ↦ le-ltb (1 + a) (suc b) (omega arith) ∙ sym (le-ltb a b le)
+    ]
 
 pub place_is : (w : List ℕ) (ws : List (List ℕ)) → position (bytes_eq w) ws ≡ cond (is_among w ws) (Some (place_of w ws)) None
 place_is w ws = rw (place_within w ws) refl
@@ -48,14 +43,14 @@ place_of-append w (x ∷ xs) ys = elim (cases_Bool (bytes_eq w x)) [
   | inr f ↦ rw f (ap (λ n. 1 + n) (place_of-append w xs ys) ∙ pick (is_among w xs) (place_of w xs) (length xs) (place_of w ys))
 ]
   where
-  pick : (b : Bool) (p n q : ℕ) → 1 + cond b p (n + q) ≡ cond b (1 + p) (suc n + q)
-  pick true p n q = refl
-  pick false p n q = omega arith
+    pick : (b : Bool) (p n q : ℕ) → 1 + cond b p (n + q) ≡ cond b (1 + p) (suc n + q)
+    pick true p n q = refl
+    pick false p n q = omega arith
 
 pub place_in_both : (w : List ℕ) (xs ys : List (List ℕ)) → signal_in (xs ++ ys) w ≡ cond (is_among w xs) (Some (place_of w xs)) (cond (is_among w ys) (Some (length xs + place_of w ys)) None)
 place_in_both w xs ys =
     rw (list_any-append (bytes_eq w) xs ys, place_of-append w xs ys) (pick (is_among w xs) (is_among w ys) (place_of w xs) (length xs + place_of w ys))
   where
-  pick : (a b : Bool) (p q : ℕ) → cond (a || b) (Some (cond a p q)) None ≡ cond a (Some p) (cond b (Some q) None)
-  pick true b p q = refl
-  pick false b p q = refl
+    pick : (a b : Bool) (p q : ℕ) → cond (a || b) (Some (cond a p q)) None ≡ cond a (Some p) (cond b (Some q) None)
+    pick true b p q = refl
+    pick false b p q = refl

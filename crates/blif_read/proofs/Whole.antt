@@ -92,9 +92,9 @@ seen_model : (ss : List Said) → unwrap_or (seen_by ss).model (codes "unnamed")
 unfolding seen_by
 seen_model ss = first (flat_map model_words ss)
   where
-  first : (ws : List (List ℕ)) → unwrap_or (slice_get ws 0) (codes "unnamed") ≡ slice_index_or ws 0 (codes "unnamed")
-  first [] = refl
-  first (w ∷ ws) = refl
+    first : (ws : List (List ℕ)) → unwrap_or (slice_get ws 0) (codes "unnamed") ≡ slice_index_or ws 0 (codes "unnamed")
+    first [] = refl
+    first (w ∷ ws) = refl
 
 pub inputs_are : (lines : List WordLine) (seen : Seen) → AreFaultless lines seen → seen.inputs ≡ inputs_of (says_of lines)
 inputs_are lines seen f = ap (λ (s : Seen). s.inputs) f.seen_is ∙ seen_inputs (says_of lines)
@@ -140,9 +140,10 @@ fit_are : (lines : List WordLine) (seen : Seen) (f : AreFaultless lines seen) �
 fit_are lines seen f = covers_fit f.limits [] lines f.none
 
 size_is : (lines : List WordLine) (seen : Seen) (drafts : List Draft) → AreDrafted lines seen drafts → (length drafts ≡ length (covers lines)) × (length (covers lines) ≡ length seen.driven)
-size_is lines seen drafts h =
-    (sym (length-map drafts (cover_by lines)) ∙ ap length (of_is lines seen drafts h).covers_are,
-     sym (length-map (covers lines) (λ (c : Unplaced). c.out)) ∙ ap length (outs_are lines seen h.faultless))
+size_is lines seen drafts h = (
+  sym (length-map drafts (cover_by lines)) ∙ ap length (of_is lines seen drafts h).covers_are,
+  sym (length-map (covers lines) (λ (c : Unplaced). c.out)) ∙ ap length (outs_are lines seen h.faultless),
+)
 
 needs_are : (lines : List WordLine) (seen : Seen) (drafts : List Draft) → AreDrafted lines seen drafts → map (λ d. gates_among (length seen.inputs) d.pins) drafts ≡ needs_of seen.inputs (covers lines)
 needs_are lines seen drafts h =
@@ -179,10 +180,11 @@ needs_fit lines seen drafts needs h e =
     let size : length needs ≡ length cs = ap length is ∙ length-map cs (λ (c : Unplaced). gates_of seen.inputs (outs cs) c.pins) in
     let total : length (outs cs) ≡ length cs = length-map cs (λ (c : Unplaced). c.out) in
     let same : length (outs cs) ≡ length needs = total ∙ sym size in
-    let both = needs_bound h.faultless.limits seen.inputs (outs cs) cs (known_are lines seen drafts h) (fit_are lines seen h.faultless) in
-    (omega (arith, size, (size_is lines seen drafts h).1, (sound_is lines seen h.faultless).few_gates),
-     subst (λ (ns : List (List ℕ)). All (λ need. length need < 2 ^ 32) ns) (sym is) (All-from_recursion (λ need. length need < 2 ^ 32) (needs_of seen.inputs cs) both.0),
-     subst (λ m. All (λ need. All (λ d. d < m) need) needs) same (subst (λ (ns : List (List ℕ)). All (λ need. All (λ d. d < length (outs cs)) need) ns) (sym is) (All-from_recursion (λ need. All (λ d. d < length (outs cs)) need) (needs_of seen.inputs cs) both.1)))
+    let both = needs_bound h.faultless.limits seen.inputs (outs cs) cs (known_are lines seen drafts h) (fit_are lines seen h.faultless) in (
+      omega (arith, size, (size_is lines seen drafts h).1, (sound_is lines seen h.faultless).few_gates),
+      subst (λ (ns : List (List ℕ)). All (λ need. length need < 2 ^ 32) ns) (sym is) (All-from_recursion (λ need. length need < 2 ^ 32) (needs_of seen.inputs cs) both.0),
+      subst (λ m. All (λ need. All (λ d. d < m) need) needs) same (subst (λ (ns : List (List ℕ)). All (λ need. All (λ d. d < length (outs cs)) need) ns) (sym is) (All-from_recursion (λ need. All (λ d. d < length (outs cs)) need) (needs_of seen.inputs cs) both.1)),
+    )
 
 -- ---- a plan
 
@@ -207,9 +209,10 @@ pub order_within : (lines : List WordLine) (seen : Seen) (drafts : List Draft) (
 order_within lines seen drafts order h e =
     let needs = map (λ d. gates_among (length seen.inputs) d.pins) drafts in
     let size : length needs ≡ length drafts = length-map drafts (λ d. gates_among (length seen.inputs) d.pins) in
-    let sizes = size_is lines seen drafts h in
-    (omega (arith, ap length e, order_short needs (length needs) [], size, sizes.0, sizes.1, (sound_is lines seen h.faultless).few_gates),
-     subst (λ n. All (λ g. g < n) order) size (subst (λ (os : List ℕ). All (λ g. g < length needs) os) (sym e) (all_from_below (length needs) (by_place.order_of needs) (order_below needs (length needs) [] tt))))
+    let sizes = size_is lines seen drafts h in (
+      omega (arith, ap length e, order_short needs (length needs) [], size, sizes.0, sizes.1, (sound_is lines seen h.faultless).few_gates),
+      subst (λ n. All (λ g. g < n) order) size (subst (λ (os : List ℕ). All (λ g. g < length needs) os) (sym e) (all_from_below (length needs) (by_place.order_of needs) (order_below needs (length needs) [] tt))),
+    )
 
 -- ---- what can be built
 
@@ -262,7 +265,7 @@ cycle_said lines seen drafts order ranks g h p e =
     let sizes = size_is lines seen drafts h in
     let lt : g < length drafts = omega (arith, one.0, sizes.0) in
     let there : gate_at cs g ≡ cover_at lines (draft_at drafts g).line =
-        ap (λ (us : List Unplaced). get_or us g blank) (sym (of_is lines seen drafts h).covers_are) ∙ get_or-map (cover_by lines) drafts g (record { line = 0; pins = [] }) blank lt in
+    ap (λ (us : List Unplaced). get_or us g blank) (sym (of_is lines seen drafts h).covers_are) ∙ get_or-map (cover_by lines) drafts g (record { line = 0; pins = [] }) blank lt in
     let all : placed seen.inputs cs ≡ Err (gate_at cs g).number = lines_placed lines seen drafts order ranks h p ∙ ap (λ (o : Option Unplaced). unless_left o (in_order cs order)) one.1 in
     (lt, ap (net_or_cycle (model_of (says_of lines)) seen.inputs seen.outputs) (all ∙ ap (λ (c : Unplaced). Err c.number) there))
 
@@ -310,13 +313,13 @@ gate_built lines seen drafts order ranks h p g lt =
     let rows : rows_at (drop (draft.line + 1) lines) ≡ c.rows = sym (cover_rows lines draft.line (record { number = 0; words = [] }) line) ∙ ap (λ (u : Unplaced). u.rows) there in
     let out : get_or seen.driven g [] ≡ c.out = ap (λ (ws : List (List ℕ)). get_or ws g []) (sym (outs_are lines seen h.faultless)) ∙ sym (out_at cs g lt) in
     let pins : draft.pins ≡ pins_by known c =
-        sym (get_or-map (λ (d : Draft). d.pins) drafts g (record { line = 0; pins = [] }) [] in') ∙ ap (λ (ps : List (List ℕ)). get_or ps g []) of.pins_are ∙ get_or-map (pins_by known) cs g blank [] lt in
+    sym (get_or-map (λ (d : Draft). d.pins) drafts g (record { line = 0; pins = [] }) [] in') ∙ ap (λ (ps : List (List ℕ)). get_or ps g []) of.pins_are ∙ get_or-map (pins_by known) cs g blank [] lt in
     let size : length (pins_by known c) ≡ length c.pins = length-map c.pins (λ w. place_of w known) in
     let numbers : map (renumbered n ranks) (pins_by known c) ≡ map (λ pin. place_of pin new) c.pins =
-        sym (map_map (renumbered n ranks) (λ w. place_of w known) c.pins)
-        ∙ same_along (λ w. is_among w (i ++ outs cs) ≡ true) (λ w. renumbered n ranks (place_of w known)) (λ pin. place_of pin new) c.pins
-            (λ w k. ap (λ (ws : List (List ℕ)). renumbered n ranks (place_of w (i ++ ws))) (sym (outs_are lines seen h.faultless)) ∙ renumber_same i cs order ranks w p.sound.driven_apart p.ranked p.all k)
-            (known_at (i ++ outs cs) cs g p.known lt) in
+    sym (map_map (renumbered n ranks) (λ w. place_of w known) c.pins)
+    ∙ same_along (λ w. is_among w (i ++ outs cs) ≡ true) (λ w. renumbered n ranks (place_of w known)) (λ pin. place_of pin new) c.pins
+    (λ w k. ap (λ (ws : List (List ℕ)). renumbered n ranks (place_of w (i ++ ws))) (sym (outs_are lines seen h.faultless)) ∙ renumber_same i cs order ranks w p.sound.driven_apart p.ranked p.all k)
+    (known_at (i ++ outs cs) cs g p.known lt) in
     ap (λ (rs : List (List ℕ)). built rs (get_or seen.driven g []) draft.pins n ranks) rows
     ∙ ap (λ (w : List ℕ). built c.rows w draft.pins n ranks) out
     ∙ ap (λ (ss : List ℕ). built c.rows c.out ss n ranks) pins
@@ -331,11 +334,11 @@ drawn_is lines seen drafts order ranks model h p =
     let i = seen.inputs in
     let new = i ++ outs (in_order cs order) in
     let ports : map (port_of seen ranks) seen.outputs ≡ map (λ o. place_of o new) seen.outputs =
-        same_along (λ w. is_among w (i ++ outs cs) ≡ true) (port_of seen ranks) (λ o. place_of o new) seen.outputs
-            (λ w k. ap (λ (ws : List (List ℕ)). renumbered (length i) ranks (place_of w (i ++ ws))) (sym (outs_are lines seen h.faultless)) ∙ renumber_same i cs order ranks w p.sound.driven_apart p.ranked p.all k) p.shown in
+    same_along (λ w. is_among w (i ++ outs cs) ≡ true) (port_of seen ranks) (λ o. place_of o new) seen.outputs
+    (λ w k. ap (λ (ws : List (List ℕ)). renumbered (length i) ranks (place_of w (i ++ ws))) (sym (outs_are lines seen h.faultless)) ∙ renumber_same i cs order ranks w p.sound.driven_apart p.ranked p.all k) p.shown in
     let gates : map (built_at lines seen.driven drafts (length i) ranks) order ≡ map (gate_of new) (in_order cs order) =
-        same_along (λ g. g < length cs) (built_at lines seen.driven drafts (length i) ranks) (λ g. gate_of new (gate_at cs g)) order (λ g lt. gate_built lines seen drafts order ranks h p g lt) (each_below (length cs) order p.ranked.below)
-        ∙ sym (gates_ordered new cs order) in
+    same_along (λ g. g < length cs) (built_at lines seen.driven drafts (length i) ranks) (λ g. gate_of new (gate_at cs g)) order (λ g lt. gate_built lines seen drafts order ranks h p g lt) (each_below (length cs) order p.ranked.below)
+    ∙ sym (gates_ordered new cs order) in
     ap₂ (λ (ps : List ℕ) (gs : List Gate). network model i ps gs) ports gates
 
 -- the network is valid, and what the text says
@@ -362,7 +365,7 @@ abbrev said_in : ℕ → List WordLine → Seen → List (List ℕ) → List (Li
 said_in last lines seen i o d m =
     cond (eqb (length i) 0) (Err (last, fault.NoInputs))
     (cond (eqb (length o) 0) (Err (last, fault.NoOutputs))
-        (net_or_undefined (option_or (first_line (reads_unknown (i ++ d)) lines) (first_line (shows_unknown (i ++ d)) lines)) (net_or_cycle m i o (placed i (covers lines)))))
+    (net_or_undefined (option_or (first_line (reads_unknown (i ++ d)) lines) (first_line (shows_unknown (i ++ d)) lines)) (net_or_cycle m i o (placed i (covers lines)))))
 
 abbrev said_by_seen : ℕ → List WordLine → Seen → Result Network (ℕ × BlifFault)
 said_by_seen last lines seen = said_in last lines seen seen.inputs seen.outputs seen.driven (model_of (says_of lines))

@@ -9,3 +9,4 @@ pub mod Limits
 pub mod Step
 pub mod Reads
 pub mod Build
+pub mod Names

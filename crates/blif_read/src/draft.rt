@@ -1,9 +1,10 @@
 //! The gates of a text by their lines.
-ghost use Rattle.std.specs.Prelude.{◌≡◌, ◌++◌, ◌+◌, ◌<◌, ◌^◌, length, map, All, [], false, MatchOption, IfOk, IfSome};
+ghost use Rattle.std.specs.Prelude.{◌≡◌, ◌++◌, ◌+◌, ◌<◌, ◌^◌, length, map, All, [], false, true, MatchOption, IfOk, IfSome};
 ghost use Rattle.ae_base.specs.Name.{is_name};
 ghost use Rattle.ae_lex.specs.Lines.{IsInside};
 ghost use Rattle.ae_lex.specs.Words.{cut_line};
 ghost use Rattle.blif_read.specs.Statement as statement;
+ghost use Rattle.blif_read.specs.Step.{IsFaultAt};
 ghost use Rattle.blif_read.specs.Build as spec;
 ghost use Rattle.blif_read.specs.Reads.{texts};
 
@@ -120,6 +121,16 @@ fn pin_words<'a, 'b>(words: &'a [&'b [u8]]) -> &'a [&'b [u8]]
     }
 }
 
+/// A name of this line is undefined.
+fn undefined_at(line: &Line) -> BlifErr
+    ensures { IsFaultAt (spec.undefined_if true line.now.number) result }
+{
+    BlifErr::At {
+        line: line.number,
+        what: BlifFault::Undefined,
+    }
+}
+
 /// Drafts the gate of the line at a place, if that is a `.names`.
 fn draft_line(
     alloc: Global,
@@ -142,16 +153,10 @@ fn draft_line(
     };
     match signals_of(alloc, inputs, driven, pin_words(names))? {
         Some(pins) => {
-            drafts.push(Draft {
-                line: place,
-                pins,
-            })?;
+            drafts.push(Draft { line: place, pins })?;
             Ok(())
         }
-        None => Err(BlifErr::At {
-            line: line.number,
-            what: BlifFault::Undefined,
-        }),
+        None => Err(undefined_at(line)),
     }
 }
 
@@ -173,10 +178,7 @@ fn check_line(
     };
     match signals_of(alloc, inputs, driven, names)? {
         Some(_) => Ok(()),
-        None => Err(BlifErr::At {
-            line: line.number,
-            what: BlifFault::Undefined,
-        }),
+        None => Err(undefined_at(line)),
     }
 }
 

@@ -1,6 +1,7 @@
 //! Why a BLIF text is refused.
 
 use ae_base::Memory;
+use std::fmt;
 
 /// Which limits a text is to keep.
 #[derive(Clone, Copy, Debug, PartialEq, Eq)]
@@ -54,8 +55,40 @@ pub enum BlifFault {
     TooManyGates,
 }
 
+impl fmt::Display for BlifFault {
+    ghost use Rattle.std.specs.Prelude.{Some};
+    ghost use Rattle.blif_read.specs.Names.{fault_name};
+
+    ghost output = { λ fault. Some (fault_name fault) };
+
+    /// The name of the fault.
+    fn fmt<W: fmt::Write>(&self, f: &mut fmt::Formatter<W>) -> fmt::Result {
+        match self {
+            BlifFault::TwoModels => f.write_str("TwoModels"),
+            BlifFault::AfterEnd => f.write_str("AfterEnd"),
+            BlifFault::Unsupported => f.write_str("Unsupported"),
+            BlifFault::Unknown => f.write_str("Unknown"),
+            BlifFault::BadName => f.write_str("BadName"),
+            BlifFault::BadRow => f.write_str("BadRow"),
+            BlifFault::MixedRows => f.write_str("MixedRows"),
+            BlifFault::StrayRow => f.write_str("StrayRow"),
+            BlifFault::DefinedTwice => f.write_str("DefinedTwice"),
+            BlifFault::Undefined => f.write_str("Undefined"),
+            BlifFault::Cycle => f.write_str("Cycle"),
+            BlifFault::NameTwice => f.write_str("NameTwice"),
+            BlifFault::OutputIsInput => f.write_str("OutputIsInput"),
+            BlifFault::NoInputs => f.write_str("NoInputs"),
+            BlifFault::NoOutputs => f.write_str("NoOutputs"),
+            BlifFault::TooManyInputs => f.write_str("TooManyInputs"),
+            BlifFault::TooManyOutputs => f.write_str("TooManyOutputs"),
+            BlifFault::TooManyPins => f.write_str("TooManyPins"),
+            BlifFault::TooManyGates => f.write_str("TooManyGates"),
+        }
+    }
+}
+
 /// The first fault, with its line from 1 on, or want of memory.
-#[derive(Debug, Drop)]
+#[derive(Clone, Copy, Debug, PartialEq, Eq)]
 pub enum BlifErr {
     At { line: u32, what: BlifFault },
     Memory,

@@ -77,15 +77,7 @@ fn gates_of(
 {
     let mut gates = Seq::new(alloc);
     for place in order {
-        gates.push(gate_at(
-            alloc,
-            bytes,
-            lines,
-            seen,
-            drafts,
-            *place as usize,
-            ranks,
-        )?)?;
+        gates.push(gate_at(alloc, bytes, lines, seen, drafts, *place as usize, ranks)?)?;
     }
     Ok(gates)
 }
@@ -272,14 +264,7 @@ pub fn net_said(
         });
     }
     let mut drafts = Seq::new(alloc);
-    draft_gates(
-        alloc,
-        bytes,
-        lines,
-        &seen.inputs,
-        &seen.driven,
-        &mut drafts,
-    )?;
+    draft_gates(alloc, bytes, lines, &seen.inputs, &seen.driven, &mut drafts)?;
     check_outputs(alloc, bytes, lines, &seen.inputs, &seen.driven)?;
     net_drafted(alloc, bytes, lines, seen, drafts.as_slice())
 }

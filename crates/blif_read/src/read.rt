@@ -10,19 +10,15 @@ ghost use Rattle.blif_read.specs.Reads.{texts};
 
 use crate::fault::{BlifErr, NetLimits};
 use crate::line_err::LineErr;
-use crate::seen::Seen;
 use crate::net::net_said;
+use crate::seen::Seen;
 use ae_base::{Memory, TEXT_BYTES};
 use ae_lex::{Line, LineList, Style, lines};
 use ae_net::Net;
 use std::alloc::Global;
 
 /// The words of a line.
-pub fn words_of<'a>(
-    alloc: Global,
-    bytes: &'a [u8],
-    line: &Line,
-) -> Result<Vec<&'a [u8]>, Memory>
+pub fn words_of<'a>(alloc: Global, bytes: &'a [u8], line: &Line) -> Result<Vec<&'a [u8]>, Memory>
     requires { All (IsInside bytes.now) line.now.words }
     ensures { IfOk result (λ words. texts words.items ≡ map (cut bytes.now) line.now.words) }
 {

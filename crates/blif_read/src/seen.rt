@@ -207,19 +207,12 @@ impl Seen {
     }
 
     /// Reads one more line. After a fault nothing is to be read from the value.
-    pub fn read(
-        &mut self,
-        alloc: Global,
-        limits: NetLimits,
-        words: &[&[u8]],
-    ) -> Result<(), LineErr>
+    pub fn read(&mut self, alloc: Global, limits: NetLimits, words: &[&[u8]]) -> Result<(), LineErr>
         ensures { Takes (line_fault_in limits self.old (statement.said (texts words.now))) (with_line self.old (statement.said (texts words.now))) result self.new }
     {
         match words {
             [] => self.read_line(alloc, limits, Head::Unknown, &[], &[]),
-            [first, others @ ..] => {
-                self.read_line(alloc, limits, head_of(first), first, others)
-            }
+            [first, others @ ..] => { self.read_line(alloc, limits, head_of(first), first, others) }
         }
     }
 }

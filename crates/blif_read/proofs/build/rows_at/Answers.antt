@@ -12,7 +12,7 @@ returns-in-None c =
     let lines = c.args.lines.now in
     let cut = cut_line c.args.bytes.now in
     rows_stop c.args.pins (map cut lines) c.loop-line.line-index (cut c.line-item.result) c.loop-line.rows _ (omega (arith, length-map lines cut)) (cut_at c.args.bytes.now lines c.loop-line.line-index c.line-item.result c.loop-line-test.true c.line-item.is)
-        (sym c.in_ok-chars.ensures ∙ c.in-None.is) c.loop-line.invariant
+    (sym c.in_ok-chars.ensures ∙ c.in-None.is) c.loop-line.invariant
 
 pub loop-line-preserved : goal.loop-line-preserved
 loop-line-preserved c =
@@ -24,4 +24,4 @@ loop-line-preserved c =
     let pushed : c.push.new.self ≡ c.loop-line.rows ++ says.row_cube c.args.pins c.in-Some.chars ∷ [] = c.in_ok-push-in-Some.ensures.ok ∙ ap (λ (r : Product). c.loop-line.rows ++ r ∷ []) row in
     ap (λ (rows : List Product). rows ++ map (says.row_cube c.args.pins) (says.rows_at (drop (k + 1) all))) pushed
     ∙ rows_more c.args.pins all k (cut c.line-item.result) c.loop-line.rows _ c.in-Some.chars (omega (arith, length-map lines cut)) (cut_at c.args.bytes.now lines k c.line-item.result c.loop-line-test.true c.line-item.is)
-        (sym c.in_ok-chars.ensures ∙ c.in-Some.is) c.loop-line.invariant
+    (sym c.in_ok-chars.ensures ∙ c.in-Some.is) c.loop-line.invariant

@@ -12,7 +12,7 @@ loop-line-preserved c =
     let lines = c.args.lines.now in
     let cut = cut_line c.args.bytes.now in
     first_more (shows_unknown (c.args.inputs.now ++ c.args.driven.now)) (map cut lines) c.loop-line.line-index (cut c.line-item.result) (omega (arith, length-map lines cut)) (cut_at c.args.bytes.now lines c.loop-line.line-index c.line-item.result c.loop-line-test.true c.line-item.is)
-        c.in_ok-check_line.ensures c.loop-line.invariant
+    c.in_ok-check_line.ensures c.loop-line.invariant
 
 pub returns-in_err-check_line : goal.returns-in_err-check_line
 returns-in_err-check_line c =
@@ -20,7 +20,7 @@ returns-in_err-check_line c =
     let cut = cut_line c.args.bytes.now in
     let p = err_from_is_err_and c.from_residual.result c.from_residual.ensures.1 in
     rw (p.1, p.2) (first_err (shows_unknown (c.args.inputs.now ++ c.args.driven.now)) (map cut lines) c.loop-line.line-index (cut c.line-item.result) _ (omega (arith, length-map lines cut)) (cut_at c.args.bytes.now lines c.loop-line.line-index c.line-item.result c.loop-line-test.true c.line-item.is)
-        c.loop-line.invariant c.in_err-check_line.ensures)
+    c.loop-line.invariant c.in_err-check_line.ensures)
 
 pub returns : goal.returns
 returns c =

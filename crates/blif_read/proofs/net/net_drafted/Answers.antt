@@ -13,7 +13,7 @@ line_of-requires-clause-lines c =
     let cut = cut_line c.args.bytes.now in
     let plan = c.in_ok-plan.plan in
     (subst (λ (n : ℕ). AreBuildable n c.args.seen.now c.args.drafts.now plan.ranks.items) (length-map c.args.lines.now cut)
-        (buildable_are (map cut c.args.lines.now) c.args.seen.now c.args.drafts.now plan.order.items plan.ranks.items c.requires.drafted c.in_ok-plan.ensures)).lines
+    (buildable_are (map cut c.args.lines.now) c.args.seen.now c.args.drafts.now plan.order.items plan.ranks.items c.requires.drafted c.in_ok-plan.ensures)).lines
 
 pub returns-in-Some : goal.returns-in-Some
 returns-in-Some c =
@@ -33,7 +33,7 @@ net_placed-requires-clause-buildable c =
     let plan = c.in_ok-plan.plan in
     subst (λ (ranks : List (Option ℕ)). AreBuildable (length c.args.lines.now) c.args.seen.now c.args.drafts.now ranks) (sym c.as_slice-in-None-2.ensures.value)
     (subst (λ (n : ℕ). AreBuildable n c.args.seen.now c.args.drafts.now plan.ranks.items) (length-map c.args.lines.now cut)
-        (buildable_are (map cut c.args.lines.now) c.args.seen.now c.args.drafts.now plan.order.items plan.ranks.items c.requires.drafted c.in_ok-plan.ensures))
+    (buildable_are (map cut c.args.lines.now) c.args.seen.now c.args.drafts.now plan.order.items plan.ranks.items c.requires.drafted c.in_ok-plan.ensures))
 
 pub net_placed-requires-clause-valid : goal.net_placed-requires-clause-valid
 net_placed-requires-clause-valid c =
