@@ -94,7 +94,12 @@ fn make<F: Files>(alloc: Global, files: &mut F, source: &str) -> Result<Made, So
 }
 
 /// Writes the network's text, and then that of the vectors.
-fn write_texts<F: Files>(files: &mut F, net: &str, vectors: &str, made: &Made) -> Result<(), TextsErr>
+fn write_texts<F: Files>(
+    files: &mut F,
+    net: &str,
+    vectors: &str,
+    made: &Made,
+) -> Result<(), TextsErr>
     ensures done { OnOk result (F.held files.new ≡ written (written (F.held files.old) net.now made.now.net_text.items) vectors.now made.now.vector_text.items) }
     ensures net_fault { IsErrOf result TextsErr.NetFault → RoseAt net.now (F.write_faults files.old) (F.write_faults files.new) }
     ensures net_in_part { IsErrOf result TextsErr.NetFault → IsWrittenInPart (F.held files.old) net.now made.now.net_text.items (F.held files.new) }

@@ -21,12 +21,7 @@ pub fn write_fault(alloc: Global, name: &str) -> Result<String, AllocError>
 }
 
 /// Tells the first fault of the file's text, with its line.
-pub fn refused(
-    alloc: Global,
-    name: &str,
-    line: u32,
-    what: PlaFault,
-) -> Result<String, AllocError>
+pub fn refused(alloc: Global, name: &str, line: u32, what: PlaFault) -> Result<String, AllocError>
     ensures { IfOk result (λ text. string_bytes text ≡ spec.refused_line name.now line what) }
 {
     format!(in alloc; "refused: {name}: line {line}: {what}\n")

@@ -17,7 +17,6 @@ use blif_write::{blif_text, said_again};
 use cascade::{REDDY_TERMS, reddy};
 use expansion::{Expansion, pairs};
 use fn_store::cubes_expansion;
-
 use std::alloc::Global;
 use universal_tests::{universal, universal_law};
 

@@ -94,9 +94,12 @@ module _ (names : Names) (e : Terms) (can : CanBuild names e) (p : ℕ) (of : Of
   and_detected fault x within few listed turns =
       let found = any_found (λ ts. list_any (λ u. eqb u of.t) ts) e.outs of.stands in
       let n : Network = reddy_net names e in
-      let two : TwoRuns names e (Some fault) p x (run n (Some fault) x) (run n None x) = two_runs names e can (Some fault) p x within (omega arith) in
-      (x, listed, Detects-gate names e fault p x found.0 within (slice_get_within e.outs found.0 found.1 found.2)
-      (and_turns names e can (Some fault) p x (run n (Some fault) x) (run n None x) two found.0 found.1 found.2 of.t found.3 of.wide of.place (turns (run n (Some fault) x) (run n None x) two)))
+      let two : TwoRuns names e (Some fault) p x (run n (Some fault) x) (run n None x) = two_runs names e can (Some fault) p x within (omega arith) in (
+        x,
+        listed,
+        Detects-gate names e fault p x found.0 within (slice_get_within e.outs found.0 found.1 found.2)
+            (and_turns names e can (Some fault) p x (run n (Some fault) x) (run n None x) two found.0 found.1 found.2 of.t found.3 of.wide of.place (turns (run n (Some fault) x) (run n None x) two)),
+      )
 
   pub and_stem : (u : Bool) → p < length ((reddy_net names e).gates) → IsDetected (reddy_net names e) (universal_vectors e.polarity (used_inputs e)) (record { place = Stem (lines e + p); value = u })
   and_stem u few =

@@ -62,9 +62,12 @@ module _ (names : Names) (e : Terms) (can : CanBuild names e) (some : list_any h
       let v : List Bool = run n None x in
       let two : TwoRuns names e (Some fault) (length (turned e)) x w v = two_runs names e can (Some fault) (length (turned e)) x within (omega arith) in
       let turned_here : value_of w (lines e + length (turned e)) ≡ not (value_of v (lines e + length (turned e))) =
-      turns w v two ∙ not_not c ∙ ap (λ b. not (not b)) (sym (control-all_at e.polarity (used_inputs e) false c)) ∙ ap not (sym (inverter_plain (Some fault) x w v two)) in
-      (x, Contains-all_at e.polarity (used_inputs e) false c, Detects-gate names e fault (length (turned e)) x found.0 within (slice_get_within e.outs found.0 found.1 found.2)
-      (start_turns names e can (Some fault) (length (turned e)) x w v two found.0 found.1 found.2 found.3 refl turned_here))
+      turns w v two ∙ not_not c ∙ ap (λ b. not (not b)) (sym (control-all_at e.polarity (used_inputs e) false c)) ∙ ap not (sym (inverter_plain (Some fault) x w v two)) in (
+        x,
+        Contains-all_at e.polarity (used_inputs e) false c,
+        Detects-gate names e fault (length (turned e)) x found.0 within (slice_get_within e.outs found.0 found.1 found.2)
+            (start_turns names e can (Some fault) (length (turned e)) x w v two found.0 found.1 found.2 found.3 refl turned_here),
+      )
 
   pub inverter_stem : (u : Bool) → IsDetected (reddy_net names e) (universal_vectors e.polarity (used_inputs e)) (record { place = Stem (lines e + length (turned e)); value = u })
   inverter_stem u =
@@ -118,11 +121,14 @@ module _ (names : Names) (e : Terms) (can : CanBuild names e) where
       let c : Bool = differ (has_one ts) (not u) in
       let x : Set = all_at e.polarity (used_inputs e) false c in
       let n : Network = reddy_net names e in
-      let fault : Fault = record { place = Port o; value = u } in
-      (x, Contains-all_at e.polarity (used_inputs e) false c, Detects-turned n fault x o
-      (has-out n (Some fault) x o (is_port o l)
-      ∙ rw (eq-eqb o o refl) (not_not u)
-      ∙ ap not (sym (shown x o ts there ∙ ap₂ differ (control-all_at e.polarity (used_inputs e) false c) (value_low names e can c o ts there) ∙ back (has_one ts) (not u)))))
+      let fault : Fault = record { place = Port o; value = u } in (
+        x,
+        Contains-all_at e.polarity (used_inputs e) false c,
+        Detects-turned n fault x o
+            (has-out n (Some fault) x o (is_port o l)
+            ∙ rw (eq-eqb o o refl) (not_not u)
+            ∙ ap not (sym (shown x o ts there ∙ ap₂ differ (control-all_at e.polarity (used_inputs e) false c) (value_low names e can c o ts there) ∙ back (has_one ts) (not u)))),
+      )
     where
       back : (a b : Bool) → differ (differ a b) a ≡ b
       back true true = refl
@@ -150,16 +156,19 @@ module _ (names : Names) (e : Terms) (can : CanBuild names e) where
       let n : Network = reddy_net names e in
       let fault : Fault = record { place = Stem e.polarity.n; value = u } in
       let x : Set = all_at e.polarity (used_inputs e) false (not u) in
-      let y : Set = all_at e.polarity (used_inputs e) false u in
-      (x, Contains-all_at e.polarity (used_inputs e) false (not u), Detects-turned n fault x 0
-      (has-out n (Some fault) x 0 (is_port 0 l)
-      ∙ ap (λ w. value_of w (slice_index n.outputs 0)) (stem_as u)
-      ∙ sym (has-out n None y 0 (is_port 0 l))
-      ∙ shown y 0 ts there
-      ∙ ap₂ differ (control-all_at e.polarity (used_inputs e) false u) (value_kept e ts u (not u) (all_inside names e can 0 ts there))
-      ∙ other_way u (value e.polarity ts x)
-      ∙ ap (λ c. not (differ c (value e.polarity ts x))) (sym (control-all_at e.polarity (used_inputs e) false (not u)))
-      ∙ ap not (sym (shown x 0 ts there))))
+      let y : Set = all_at e.polarity (used_inputs e) false u in (
+        x,
+        Contains-all_at e.polarity (used_inputs e) false (not u),
+        Detects-turned n fault x 0
+            (has-out n (Some fault) x 0 (is_port 0 l)
+            ∙ ap (λ w. value_of w (slice_index n.outputs 0)) (stem_as u)
+            ∙ sym (has-out n None y 0 (is_port 0 l))
+            ∙ shown y 0 ts there
+            ∙ ap₂ differ (control-all_at e.polarity (used_inputs e) false u) (value_kept e ts u (not u) (all_inside names e can 0 ts there))
+            ∙ other_way u (value e.polarity ts x)
+            ∙ ap (λ c. not (differ c (value e.polarity ts x))) (sym (control-all_at e.polarity (used_inputs e) false (not u)))
+            ∙ ap not (sym (shown x 0 ts there))),
+      )
     where
       other_way : (a b : Bool) → differ a b ≡ not (differ (not a) b)
       other_way true b = refl

@@ -8,6 +8,8 @@ mod files;
 #[cfg(test)]
 mod header_faults;
 #[cfg(test)]
+mod netlists;
+#[cfg(test)]
 mod profile;
 #[cfg(test)]
 mod refused;
