@@ -2,7 +2,6 @@
 ghost use Rattle.std.specs.Prelude.{◌≡◌, ◌<◌, [], ◌∷◌, IfOk};
 ghost use Rattle.ae_base.specs.declared.limits.TheConstants.{WIDTH};
 ghost use Rattle.ae_base.specs.Mask.{empty, with};
-ghost use Rattle.universal_tests.proofs.Small.{two};
 
 use crate::universal;
 use ae_base::{Mask, Memory, Polarity, Seq};
