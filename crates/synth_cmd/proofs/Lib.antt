@@ -4,6 +4,7 @@ pub mod Jobs
 pub mod Limits
 pub mod Meaning
 pub mod Shown
+pub mod Points
 pub mod Sources
 pub mod Synthesised
 pub mod Telling

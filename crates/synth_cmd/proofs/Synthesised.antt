@@ -29,9 +29,7 @@ use Rattle.fn_store.proofs.Expansions.{means, terms_inside}
 use Rattle.cascade.specs.declared.limits.TheConstants.{REDDY_TERMS}
 use Rattle.cascade.specs.Reddy.{reddy_net}
 use Rattle.cascade.specs.Shows.{Fits, CanBuild}
-use Rattle.universal_tests.specs.Odd.{is_odd, DetectsLiterals}
-use Rattle.universal_tests.specs.Sites.{DetectsAllBut}
-use Rattle.universal_tests.specs.Universal.{universal_vectors}
+use Rattle.input_tests.specs.Whole.{cascade_tests, vector_bound, DetectsAll}
 use Rattle.cascade.proofs.Shown as reddy
 use Rattle.ae_cover.specs.Cover.{Table, IsCover, source_of}
 use Rattle.synth_cmd.specs.declared.job.Summary.{Summary}
@@ -54,6 +52,10 @@ where_point n test = has-inside (where_below n test) (first n) (λ k h. has-firs
 points-vectors_of : (n : Network) (xs : List Set) → map (λ v. v.point) (vectors_of n xs) ≡ xs
 points-vectors_of n [] = refl
 points-vectors_of n (x ∷ xs) = ap (λ rest. x ∷ rest) (points-vectors_of n xs)
+
+length-vectors_of : (n : Network) (xs : List Set) → length (vectors_of n xs) ≡ length xs
+length-vectors_of n [] = refl
+length-vectors_of n (x ∷ xs) = ap suc (length-vectors_of n xs)
 
 out_point : (n : Network) (x : Set) → IsPoint (length n.outputs) (out n None x)
 unfolding out
@@ -85,7 +87,7 @@ module _ (t : Table) (e : Terms) (cover : IsCover t) (cheap : cost e ≤ REDDY_T
   net = reddy_net (names_of s) e
 
   abbrev file : VectorFile
-  file = file_over net s.outputs e.polarity (universal_vectors e.polarity (used_inputs e))
+  file = file_over net s.outputs e.polarity (cascade_tests e)
 
   pub is_names : IsNames (names_of s)
   is_names = record {
@@ -167,7 +169,7 @@ module _ (t : Table) (e : Terms) (cover : IsCover t) (cheap : cost e ≤ REDDY_T
   outputs_named = subst (All (λ name. is_name name ≡ true)) (drop-append_seam s.inputs s.outputs) (All-drop (λ name. is_name name ≡ true) (length s.inputs) (s.inputs ++ s.outputs) (All-weaker (λ name. is_source_name name ≡ true) (λ name. is_name name ≡ true) are_names (s.inputs ++ s.outputs) cover.named))
 
   abbrev points : List Set
-  points = universal_vectors e.polarity (used_inputs e)
+  points = cascade_tests e
 
   control_is : e.polarity.n + 1 ≡ length net.inputs
   control_is = omega (arith, n_is, length-inputs)
@@ -182,41 +184,37 @@ module _ (t : Table) (e : Terms) (cover : IsCover t) (cheap : cost e ≤ REDDY_T
     named = All-append (λ name. is_name name ≡ true) net.inputs s.outputs valid.inputs_named outputs_named;
     distinct = subst (λ names. IsDistinct (net.inputs ++ names)) ports (listed_distinct net valid);
     points = All-map (λ v. IsPoint (length net.inputs) v.point) _ points (subst (λ m. All (IsPoint m) points) control_is are_points);
-    responses = All-map (λ v. IsPoint (length s.outputs) v.outs) _ (universal_vectors e.polarity (used_inputs e)) (λ i d l. subst (λ m. IsPoint m (out net None (get_or points i d))) length-outputs (out_point net (get_or points i d)));
+    responses = All-map (λ v. IsPoint (length s.outputs) v.outs) _ (cascade_tests e) (λ i d l. subst (λ m. IsPoint m (out net None (get_or points i d))) length-outputs (out_point net (get_or points i d)));
   }
 
-  is_file : All (IsPoint (e.polarity.n + 1)) points → IsFileOf s net file
+  is_file : All (IsPoint (e.polarity.n + 1)) points → IsFileOf s e net file
   is_file are_points = record {
     valid = is_valid_file are_points;
     form = refl;
     inputs = refl;
     outputs = sym ports;
     polarity = are.polarity;
-    used = used_inputs e;
-    are_used = are_used s k refl e are;
-    points = points-vectors_of net (universal_vectors e.polarity (used_inputs e));
-    responses = All-map (λ v. v.outs ≡ out net None v.point) _ (universal_vectors e.polarity (used_inputs e)) (λ i d l. refl);
+    points = points-vectors_of net (cascade_tests e);
+    responses = All-map (λ v. v.outs ≡ out net None v.point) _ (cascade_tests e) (λ i d l. refl);
   }
 
-  -- what the vectors detect, said of those that the file lists
-  is_tested : DetectsAllBut net e.polarity.n points → DetectsLiterals net e.polarity.n (is_odd e) points → IsTested net e file
-  is_tested others literals =
-      let listed = sym (points-vectors_of net points) in
-      record {
-        others = subst (λ xs. DetectsAllBut net e.polarity.n xs) listed others;
-        literals = subst (λ xs. DetectsLiterals net e.polarity.n (is_odd e) xs) listed literals;
-      }
+  is_tested : DetectsAll net points → length points ≤ vector_bound e → IsTested s e net file
+  is_tested complete few = record {
+    detects = subst (DetectsAll net) (sym (points-vectors_of net points)) complete;
+    few = omega (arith, few, length-vectors_of net points);
+    used = are_used s k refl e are;
+  }
 
-  pub is_synthesised : All (IsPoint (e.polarity.n + 1)) points → DetectsAllBut net e.polarity.n points → DetectsLiterals net e.polarity.n (is_odd e) points → (net_bytes vector_bytes : List ℕ) (summary : Summary) → blif_says Written (blif_text net) ≡ Ok net → net_bytes ≡ blif_text net → vector_bytes ≡ vector_text file → summary.terms ≡ cost e
+  pub is_synthesised : All (IsPoint (e.polarity.n + 1)) points → DetectsAll net points → length points ≤ vector_bound e → (net_bytes vector_bytes : List ℕ) (summary : Summary) → blif_says Written (blif_text net) ≡ Ok net → net_bytes ≡ blif_text net → vector_bytes ≡ vector_text file → summary.terms ≡ cost e
       → summary.gates ≡ length net.gates → summary.vectors ≡ length file.vectors → IsSynthesised s net_bytes vector_bytes summary
-  is_synthesised are_points others literals net_bytes vector_bytes summary again net_is file_is terms_are gates_are vectors_are = record {
+  is_synthesised are_points complete few net_bytes vector_bytes summary again net_is file_is terms_are gates_are vectors_are = record {
     net = net;
     expansions = e;
     file = file;
     is_network = is_network;
     has_form = record { expansions = are; cascade = refl };
     is_file = is_file are_points;
-    is_tested = is_tested others literals;
+    is_tested = is_tested complete few;
     reads_back = ap (blif_says Written) net_is ∙ again;
     net_text = net_is;
     vector_text = file_is;

@@ -13,13 +13,11 @@ use Rattle.ae_net.specs.Blif.{blif_text}
 use Rattle.ae_net.specs.Names.{Names}
 use Rattle.blif_read.specs.declared.fault.NetLimits.TheVariants.{Written}
 use Rattle.blif_read.specs.Says.{blif_says}
-use Rattle.expansion.specs.Terms.{Terms, cost}
+use Rattle.expansion.specs.Terms.{Terms, cost, used_inputs}
 use Rattle.fn_store.specs.Davio.{IsExpansion}
 use Rattle.cascade.specs.declared.limits.TheConstants.{REDDY_TERMS}
 use Rattle.cascade.specs.Reddy.{reddy_net}
-use Rattle.universal_tests.specs.Odd.{is_odd, DetectsLiterals}
-use Rattle.universal_tests.specs.Sites.{DetectsAllBut}
-use Rattle.universal_tests.specs.Universal.{universal_vectors}
+use Rattle.input_tests.specs.Whole.{cascade_tests, vector_bound, DetectsAll}
 use Rattle.synth_cmd.specs.declared.job.Summary.{Summary}
 use Rattle.synth_cmd.specs.declared.vector_file.Form.TheVariants.{Reddy}
 use Rattle.synth_cmd.specs.VectorFile.{VectorFile, IsValidVectorFile, vector_text}
@@ -70,24 +68,22 @@ pub record IsNetworkOf (s : Source) (n : Network) : Type 0 where
   pub implements : Implements n s
   pub shows : ShowsBoth s n
 
--- The vector file of a network: the universal vectors of the cascade over the inputs that the source uses, each with the network's
--- fault-free outputs.
-pub record IsFileOf (s : Source) (n : Network) (file : VectorFile) : Type 0 where
+-- The vector file of a network over these expansions: the vectors of the cascade, each with the network's fault-free outputs.
+pub record IsFileOf (s : Source) (e : Terms) (n : Network) (file : VectorFile) : Type 0 where
   pub valid : IsValidVectorFile file
   pub form : file.form ≡ Reddy
   pub inputs : file.inputs ≡ n.inputs
   pub outputs : file.outputs ≡ port_names n
   pub polarity : file.polarity ≡ all_plain (length s.inputs)
-  pub used : Set
-  pub are_used : (j : ℕ) → (has used j ≡ true) ↔ IsUsed s j
-  pub points : map (λ v. v.point) file.vectors ≡ universal_vectors file.polarity used
+  pub points : map (λ v. v.point) file.vectors ≡ cascade_tests e
   pub responses : All (λ v. v.outs ≡ out n None v.point) file.vectors
 
--- Each stuck-at fault of the network is detected by some vector of the file, but those of the literals of the source's inputs; and of these
--- each fault of an input that some output's expansion holds an odd number of times is detected too.
-pub record IsTested (n : Network) (e : Terms) (file : VectorFile) : Type 0 where
-  pub others : DetectsAllBut n e.polarity.n (map (λ v. v.point) file.vectors)
-  pub literals : DetectsLiterals n e.polarity.n (is_odd e) (map (λ v. v.point) file.vectors)
+-- Complete testing: each stuck-at fault of the network is detected by some vector of the file, and the vectors are no more than the number
+-- of inputs, 4, and two for each even input. The inputs that the expansions hold are those that the source uses.
+pub record IsTested (s : Source) (e : Terms) (n : Network) (file : VectorFile) : Type 0 where
+  pub detects : DetectsAll n (map (λ v. v.point) file.vectors)
+  pub few : length file.vectors ≤ vector_bound e
+  pub used : (j : ℕ) → (has (used_inputs e) j ≡ true) ↔ IsUsed s j
 
 -- the texts of a network and of its vector file, and their numbers
 pub record IsSynthesised (s : Source) (net_bytes vector_bytes : List ℕ) (summary : Summary) : Type 0 where
@@ -96,8 +92,8 @@ pub record IsSynthesised (s : Source) (net_bytes vector_bytes : List ℕ) (summa
   pub file : VectorFile
   pub is_network : IsNetworkOf s net
   pub has_form : HasReddyForm s (all_plain (length s.inputs)) expansions net
-  pub is_file : IsFileOf s net file
-  pub is_tested : IsTested net expansions file
+  pub is_file : IsFileOf s expansions net file
+  pub is_tested : IsTested s expansions net file
   -- The network is what the text says under the limits of a written netlist.
   pub reads_back : blif_says Written net_bytes ≡ Ok net
   pub net_text : net_bytes ≡ blif_text net

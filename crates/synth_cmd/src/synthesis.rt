@@ -1,8 +1,11 @@
 //! What is made of a source: its network and the network's vectors, as texts.
-ghost use Rattle.std.specs.Prelude.{◌≡◌, ◌<◌, ◌++◌, ◌∷◌, [], ℕ, if◌then◌else◌, IfOk, IsErrOf, OnOk, All, length};
+ghost use Rattle.std.specs.Prelude.{◌≡◌, ◌<◌, ◌+◌, ◌++◌, ◌∷◌, [], ℕ, if◌then◌else◌, IfOk, IsErrOf, OnOk, All, length};
 ghost use Rattle.ae_cover.specs.Cover.{has_mark, is_one, source_of};
 ghost use Rattle.synth_cmd.specs.declared.synthesis.ExpandErr.TheVariants as expand_err;
 ghost use Rattle.synth_cmd.specs.Expanding.{Expands};
+ghost use Rattle.ae_base.specs.Terms.{IsPoint};
+ghost use Rattle.ae_net.specs.Valid.{IsDistinct};
+ghost use Rattle.input_tests.specs.Whole.{cascade_tests, new_ones};
 ghost use Rattle.synth_cmd.specs.Steps.{cubes_of, file_over, vectors_of};
 ghost use Rattle.synth_cmd.specs.Synthesis.{HasTooMany, IsSynthesised, names_of};
 ghost use Rattle.synth_cmd.specs.VectorFile.{IsValidVectorFile};
@@ -14,11 +17,12 @@ use ae_base::{Cube, Memory, Name, Point, Polarity, Seq};
 use ae_cover::{Cover, Mark, Row};
 use ae_net::{Net, NetNames, answer, scratch_for};
 use blif_write::{blif_text, said_again};
-use cascade::{REDDY_TERMS, reddy};
+use cascade::{REDDY_TERMS, push_new, reddy};
 use expansion::{Expansion, pairs};
 use fn_store::cubes_expansion;
+use input_tests::{input_law, input_vectors};
 use std::alloc::Global;
-use universal_tests::{universal, universal_law};
+use universal_tests::universal;
 
 /// Why a source is not synthesised.
 #[derive(Clone, Copy, Debug, PartialEq, Eq)]
@@ -130,6 +134,28 @@ fn expansions(alloc: Global, cover: &Cover) -> Result<Expansion, ExpandErr>
     Ok(Expansion { polarity, outs })
 }
 
+/// Adds the points that the list has not yet.
+fn push_others(list: &mut Vec<Point>, points: &[Point]) -> Result<(), Memory>
+    requires { IsDistinct points.now }
+    ensures { OnOk result (list.new.items ≡ list.old.items ++ new_ones list.old.items points.now) }
+{
+    for point in points {
+        push_new(list, *point)?;
+    }
+    Ok(())
+}
+
+/// The vectors of the cascade: the universal ones, and then those of the even inputs that are not among them.
+#[tactic(auto, using(crate::proofs::Points::are_tests))]
+fn test_points(alloc: Global, e: &Expansion) -> Result<Vec<Point>, Memory>
+    ensures vectors { IfOk result (λ list. list.items ≡ cascade_tests e.now) }
+    ensures points { IfOk result (λ list. All (IsPoint (e.now.polarity.n + 1)) list.items) }
+{
+    let mut list = universal(alloc, e)?;
+    push_others(&mut list, &input_vectors(alloc, e)?)?;
+    Ok(list)
+}
+
 /// Each point with the network's fault-free outputs there.
 fn responses(alloc: Global, net: &Net, points: &[Point]) -> Result<Seq<Vector>, Memory>
     ensures { IfOk result (λ vectors. vectors ≡ vectors_of net.now points.now) }
@@ -169,7 +195,7 @@ fn vector_file(
     })
 }
 
-/// The network of a source and its universal vectors, as texts.
+/// The network of a source and the vectors of the cascade, as texts.
 pub fn synthesise(alloc: Global, cover: &Cover) -> Result<Made, ExpandErr>
     ensures made { IfOk result (λ made. IsSynthesised (source_of cover.now) made.net_text.items made.vector_text.items made.summary) }
     ensures too_many { (output : ℕ) → IsErrOf result (expand_err.TooManyTerms output) → HasTooMany (source_of cover.now) output }
@@ -177,12 +203,12 @@ pub fn synthesise(alloc: Global, cover: &Cover) -> Result<Made, ExpandErr>
     let names = net_names(alloc, cover)?;
     let expansions = expansions(alloc, cover)?;
     let net = reddy(alloc, &names, &expansions)?;
-    let points = universal(alloc, &expansions)?;
+    let points = test_points(alloc, &expansions)?;
     let file = vector_file(alloc, &net, cover.outputs(), expansions.polarity(), &points)?;
     let net_text = blif_text(alloc, &net)?;
     // What a reader of NET sees is this network, and its faults are the ones that the vectors detect.
     said_again();
-    universal_law();
+    input_law();
     let vector_text = vector_text(alloc, &file)?;
     Ok(Made {
         net_text,

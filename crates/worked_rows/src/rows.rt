@@ -6,8 +6,8 @@ use std::test::Fail;
 static MAJORITY: Row = Row {
     source: b".i 3\n.o 1\n11- 1\n1-1 1\n-11 1\n.e\n",
     net: b".model andexor\n.inputs x1 x2 x3 _c\n.outputs f1\n.names x1 x2 _t1\n11 1\n.names x1 x3 _t2\n11 1\n.names x2 x3 _t3\n11 1\n.names _c _t1 _x1\n10 1\n01 1\n.names _x1 _t2 _x2\n10 1\n01 1\n.names _x2 _t3 f1\n10 1\n01 1\n.end\n",
-    vectors: b"andexor-vectors 1\nform reddy\ninputs x1 x2 x3 _c\noutputs f1\npolarity 111\nvector 0000 0\nvector 1110 1\nvector 0001 1\nvector 1111 0\nvector 0110 1\nvector 1010 1\nvector 1100 1\nend\n",
-    report: b"terms 3\ngates 6\nvectors 7\n",
+    vectors: b"andexor-vectors 1\nform reddy\ninputs x1 x2 x3 _c\noutputs f1\npolarity 111\nvector 0000 0\nvector 1110 1\nvector 0001 1\nvector 1111 0\nvector 0110 1\nvector 1010 1\nvector 1100 1\nvector 0100 0\nvector 1000 0\nend\n",
+    report: b"terms 3\ngates 6\nvectors 9\n",
     faults: 46,
 };
 
@@ -50,6 +50,22 @@ static UNREAD_INPUT: Row = Row {
     report: b"terms 1\ngates 2\nvectors 6\n",
     faults: 20,
 };
+
+/// Two terms: x1 and x2 stand in both, x3 in one.
+static TWO_EVEN_INPUTS: Row = Row {
+    source: b".i 3\n.o 1\n110 1\n.e\n",
+    net: b".model andexor\n.inputs x1 x2 x3 _c\n.outputs f1\n.names x1 x2 _t1\n11 1\n.names x1 x2 x3 _t2\n111 1\n.names _c _t1 _x1\n10 1\n01 1\n.names _x1 _t2 f1\n10 1\n01 1\n.end\n",
+    vectors: b"andexor-vectors 1\nform reddy\ninputs x1 x2 x3 _c\noutputs f1\npolarity 111\nvector 0000 0\nvector 1110 0\nvector 0001 1\nvector 1111 1\nvector 0110 0\nvector 1010 0\nvector 1100 1\nvector 0100 0\nvector 1000 0\nend\n",
+    report: b"terms 2\ngates 4\nvectors 9\n",
+    faults: 36,
+};
+
+#[test]
+fn two_even_inputs_and_an_odd_one(rt: HostRuntime) -> Result<(), Fail> {
+    let given = gives(rt.alloc(), &TWO_EVEN_INPUTS)?;
+    assert!(rt; given);
+    Ok(())
+}
 
 #[test]
 fn two_input_and(rt: HostRuntime) -> Result<(), Fail> {

@@ -1,0 +1,6 @@
+use Rattle.std.proofs.Common.{◌≡◌}
+use Rattle.input_tests.proofs.CodeLemmas.{so_far}
+use Rattle.input_tests.proofs.vectors.input_vectors.Given as goal
+
+abbrev pub invariant-loop-j : goal.invariant-loop-j
+invariant-loop-j l = l.list.items ≡ so_far l.e l.j

@@ -1,0 +1,29 @@
+-- The vectors of the Reddy form that detect every fault.
+use Rattle.std.specs.Prelude.{ℕ, ◌+◌, ◌*◌, ◌==◌, not, List, ◌++◌, filter}
+use Rattle.std.specs.List.{list_any}
+use Rattle.ae_base.specs.Mask.{Set, len}
+use Rattle.ae_net.specs.declared.net.Fault.{Fault}
+use Rattle.ae_net.specs.Faults.{IsPlace}
+use Rattle.ae_net.specs.Network.{Network}
+use Rattle.expansion.specs.Terms.{Terms, used_inputs}
+use Rattle.universal_tests.specs.Sites.{IsDetected}
+use Rattle.universal_tests.specs.Universal.{universal_vectors}
+use Rattle.input_tests.specs.Inputs.{even_inputs, input_vectors_of}
+
+-- the vectors of the second list that are not in the first
+abbrev pub new_ones : List Set → List Set → List Set
+new_ones xs ys = filter (λ y. not (list_any (λ x. x == y) xs)) ys
+
+-- the universal vectors, and then those of the even inputs that are not among them
+unfoldable pub cascade_tests : Terms → List Set
+cascade_tests e =
+    let universal = universal_vectors e.polarity (used_inputs e) in
+    universal ++ new_ones universal (input_vectors_of e)
+
+-- the number of inputs, 4, and two for each even input
+abbrev pub vector_bound : Terms → ℕ
+vector_bound e = e.polarity.n + 4 + 2 * len (even_inputs e)
+
+-- each fault at a site is detected
+abbrev pub DetectsAll : Network → List Set → Type 0
+DetectsAll n xs = (fault : Fault) → IsPlace n fault.place → IsDetected n xs fault
