@@ -1,10 +1,12 @@
 //! Texts at the limits, and past them.
 
+use crate::files::run_words;
 use crate::refused::ends;
 use crate::written::{AND, ONE_INPUT, gives_for};
+use ae_outside::{MemFiles, MemSink};
 use std::alloc::{AllocError, Global};
 use std::test::Fail;
-use synth_cmd::{REFUSED, TOO_LONG, TOO_MANY_TERMS};
+use synth_cmd::{DONE, REFUSED, TOO_LONG, TOO_MANY_TERMS};
 
 /// The number of bytes of the longest text.
 const LONGEST: usize = 16_777_216;
@@ -104,7 +106,27 @@ fn seventeen_complemented_inputs(rt: HostRuntime) -> Result<(), Fail> {
     Ok(())
 }
 
-/// Each output has a term for each set of the sixteen inputs: 65,536, as many as there may be in all.
+/// The output has a term for each set of the sixteen inputs: 65,536, as many as there may be in all.
+static SIXTEEN: &[u8] = b".i 16\n.o 1\n0000000000000000 1\n.e\n";
+
+/// One inverter of the control, an AND gate for each of the 65,519 sets with two members or more, and an EXOR gate for each
+/// of the 65,535 sets with a member. Four vectors, one for each input, and one more for each: every input is even, its first
+/// term is the input alone, and the second vector of each is the one of all literals 0.
+static SIXTEEN_REPORT: &[u8] = b"terms 65536\ngates 131055\nvectors 36\n";
+
+#[test]
+fn as_many_terms_as_there_may_be(rt: HostRuntime) -> Result<(), Fail> {
+    let alloc = rt.alloc();
+    let mut files = MemFiles::new(alloc);
+    let mut report = MemSink::new(alloc);
+    files.put("in.pla", SIXTEEN)?;
+    let status = run_words(alloc, "synth in.pla n.blif v.vec", &mut files, &mut report)?;
+    assert_eq!(rt; status, DONE);
+    assert_eq!(rt; report.bytes(), SIXTEEN_REPORT);
+    Ok(())
+}
+
+/// Each of the two outputs has a term for each set of the sixteen inputs.
 static SIXTEEN_TWICE: &[u8] = b".i 16\n.o 2\n0000000000000000 11\n.e\n";
 
 #[test]
