@@ -1,14 +1,15 @@
 -- Lists in the order of terms, without repeats: neighbours suffice, a sorted list of different terms is one, and the members determine it.
-use Rattle.std.proofs.Common.{◌≡◌, ◌≢◌, ◌<◌, ◌+◌, ℕ, zero, suc, Bool, true, false, ◌||◌, List, [], ◌∷◌, length, Less, Equal, Greater, refl, sym, ap, ap₂, ◌∙◌, subst, inl, inr, arith, get_or, eqb, eqb-true, eq-eqb, All}
+use Rattle.std.proofs.Common.{◌≡◌, ◌≢◌, ◌<◌, ◌+◌, ℕ, zero, suc, Bool, true, false, cond, ◌||◌, List, [], ◌∷◌, length, Less, Equal, Greater, refl, sym, ap, ap₂, ◌∙◌, subst, inl, inr, arith, get_or, eqb, eqb-true, eq-eqb, All}
 use Rattle.std.specs.Prelude.{AllPairs}
 use Rattle.std.specs.declared.cmp.Ordering.{Ordering}
 use Rattle.std.specs.Ordering.{is_lt, ordering_reverse}
-use Rattle.std.specs.List.{list_any}
+use Rattle.std.specs.List.{list_any, AllByRecursion}
 use Rattle.std.specs.List.Sorted.{IsSorted}
 use Rattle.std.proofs.lemmas.Bool.{cases_Bool, false≢true, or_cases, or_left}
+use Rattle.std.proofs.lemmas.List.Elements.{All-from_recursion, recursion_from_All}
 use Rattle.std.proofs.lemmas.List.Kept.{AllPairs-cons}
 use Rattle.ae_base.specs.Mask.{Set, cmp_terms}
-use Rattle.ae_base.specs.Terms.{IsInOrder}
+use Rattle.ae_base.specs.Terms.{IsInOrder, placed, in_order}
 use Rattle.ae_base.proofs.Order.{cmp_terms_total, cmp_equal, less_trans, less_irreflexive}
 
 -- a transitive relation that holds of neighbours holds of all pairs
@@ -40,7 +41,7 @@ in_order-sorted ts sorted apart = in_order-neighbours ts (λ k d h. less_from_so
 
 -- ---- the terms of a list determine it
 
-in_order-tail : (t : Set) (ts : List Set) → IsInOrder (t ∷ ts) → IsInOrder ts
+pub in_order-tail : (t : Set) (ts : List Set) → IsInOrder (t ∷ ts) → IsInOrder ts
 in_order-tail t ts h i j d lt within = h (suc i) (suc j) d (omega arith) (omega arith)
 
 -- the first comes before all others
@@ -90,3 +91,69 @@ in_order-same (t ∷ ts) (u ∷ us) h k same =
     let k' : IsInOrder (t ∷ us) = subst (λ x. IsInOrder (x ∷ us)) (sym e) k in
     let same' : (v : Set) → list_any (λ w. eqb w v) (t ∷ ts) ≡ list_any (λ w. eqb w v) (t ∷ us) = subst (λ x. (v : Set) → list_any (λ w. eqb w v) (t ∷ ts) ≡ list_any (λ w. eqb w v) (x ∷ us)) (sym e) same in
     ap₂ (λ x xs. x ∷ xs) e (in_order-same ts us (in_order-tail t ts h) (in_order-tail u us k) (same_rest t ts us h k' same'))
+
+-- ---- terms that are put in order
+
+less_is : (t u : Set) → is_lt (cmp_terms t u) ≡ true → cmp_terms t u ≡ Less
+less_is t u h = by_order (cmp_terms t u) refl
+  where
+    by_order : (o : Ordering) → cmp_terms t u ≡ o → cmp_terms t u ≡ Less
+    by_order Less e = e
+    by_order Equal e = absurd (false≢true (sym (ap is_lt e) ∙ h))
+    by_order Greater e = absurd (false≢true (sym (ap is_lt e) ∙ h))
+
+pub each_placed : (P : Set → Type 0) (t : Set) (us : List Set) → P t → AllByRecursion P us → AllByRecursion P (placed t us)
+each_placed P t [] p h = (p, tt)
+each_placed P t (u ∷ us) p (h, hs) = by_same (eqb t u) (is_lt (cmp_terms t u)) (each_placed P t us p hs)
+  where
+    by_same : (b c : Bool) → AllByRecursion P (placed t us) → AllByRecursion P (cond b (u ∷ us) (cond c (t ∷ u ∷ us) (u ∷ placed t us)))
+    by_same true c k = (h, hs)
+    by_same false true k = (p, (h, hs))
+    by_same false false k = (h, k)
+
+later_terms : (t u : Set) (us : List Set) → cmp_terms t u ≡ Less → AllByRecursion (λ y. cmp_terms u y ≡ Less) us → AllByRecursion (λ y. cmp_terms t y ≡ Less) us
+later_terms t u [] l h = tt
+later_terms t u (y ∷ us) l (h, hs) = (less_trans t u y l h, later_terms t u us l hs)
+
+pub placed-order : (t : Set) (us : List Set) → IsInOrder us → IsInOrder (placed t us)
+placed-order t [] order = λ i j d l k. absurd (omega (arith, k, l))
+placed-order t (u ∷ us) order = by_same (eqb t u) refl (is_lt (cmp_terms t u)) refl (placed-order t us (in_order-tail u us order))
+  where
+    above : AllByRecursion (λ y. cmp_terms u y ≡ Less) us
+    above = recursion_from_All _ us (λ k d l. order 0 (suc k) d (omega arith) (omega (arith, l)))
+
+    by_same : (b : Bool) → eqb t u ≡ b → (c : Bool) → is_lt (cmp_terms t u) ≡ c → IsInOrder (placed t us) → IsInOrder (cond b (u ∷ us) (cond c (t ∷ u ∷ us) (u ∷ placed t us)))
+    by_same true e c f h = order
+    by_same false e true f h =
+        AllPairs-cons (λ s y. cmp_terms s y ≡ Less) t (u ∷ us) (All-from_recursion _ (u ∷ us) (less_is t u f, later_terms t u us (less_is t u f) above)) order
+    by_same false e false f h =
+        AllPairs-cons (λ s y. cmp_terms s y ≡ Less) u (placed t us) (All-from_recursion _ (placed t us) (each_placed (λ y. cmp_terms u y ≡ Less) t us (less_from_sorted u t f (λ same. false≢true (sym e ∙ eq-eqb t u (sym same)))) above)) h
+
+pub in_order-order : (ts : List Set) → IsInOrder (in_order ts)
+in_order-order [] = λ i j d l k. absurd (omega (arith, k, l))
+in_order-order (t ∷ ts) = placed-order t (in_order ts) (in_order-order ts)
+
+or_again : (a b c : Bool) → a ≡ b → (b || c) ≡ (a || (b || c))
+or_again true true c e = refl
+or_again true false c e = absurd (false≢true (sym e))
+or_again false b c e = refl
+
+or_swap : (a b c : Bool) → (b || (a || c)) ≡ (a || (b || c))
+or_swap true true c = refl
+or_swap true false c = refl
+or_swap false true c = refl
+or_swap false false c = refl
+
+-- a test finds the same terms among them
+pub any-placed : (q : Set → Bool) (t : Set) (us : List Set) → list_any q (placed t us) ≡ (q t || list_any q us)
+any-placed q t [] = refl
+any-placed q t (u ∷ us) = by_same (eqb t u) refl (is_lt (cmp_terms t u)) (any-placed q t us)
+  where
+    by_same : (b : Bool) → eqb t u ≡ b → (c : Bool) → list_any q (placed t us) ≡ (q t || list_any q us) → list_any q (cond b (u ∷ us) (cond c (t ∷ u ∷ us) (u ∷ placed t us))) ≡ (q t || (q u || list_any q us))
+    by_same true e c h = or_again (q t) (q u) (list_any q us) (ap q (eqb-true t u e))
+    by_same false e true h = refl
+    by_same false e false h = ap (λ b. q u || b) h ∙ or_swap (q t) (q u) (list_any q us)
+
+pub any-in_order : (q : Set → Bool) (ts : List Set) → list_any q (in_order ts) ≡ list_any q ts
+any-in_order q [] = refl
+any-in_order q (t ∷ ts) = any-placed q t (in_order ts) ∙ ap (λ b. q t || b) (any-in_order q ts)

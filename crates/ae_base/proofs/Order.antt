@@ -5,7 +5,8 @@ use Rattle.std.proofs.lemmas.Bool.{cases_eq, cases_lt, cases_Bool, cases_order, 
 use Rattle.ae_base.specs.Mask.{Set, differ, has, with, without, inside, members_from, members, len, cmp_terms}
 pub use Rattle.ae_base.specs.Order.{cmp_terms_total, cmp_terms_partial, cmp_equal, cmp_same, equal_where_tied, same_members}
 use Rattle.ae_base.proofs.Sets.{same_set, inside-has, has-with, has-without}
-use Rattle.ae_base.proofs.Members.{has_above, below_own_power, members_enough, cmp_fewer, cmp_more, cmp_first, cmp_second, Apart, differ_true, differ_true_else, differ_false}
+use Rattle.ae_base.proofs.Truth.{equal_values}
+use Rattle.ae_base.proofs.Members.{has_above, below_own_power, members_enough, cmp_fewer, cmp_more, cmp_first, cmp_second, Apart, differ_true, differ_true_else}
 
 pub less_irreflexive : (s : Set) → cmp_terms s s ≢ Less
 less_irreflexive s h = absurd (false≢true (ap is_eq (sym h ∙ cmp_same s)))
@@ -132,7 +133,7 @@ agree_or_apart (suc n) s t =
       | inr found ↦ inr found
       | inl same ↦ elim (cases_Bool (differ (has s n) (has t n))) [
         | inl e ↦ inr (record { number = n; apart = record { below = same; at = e } })
-        | inr e ↦ inl (λ k l. elim (cases_eq k n) [ inl f ↦ ap (has s) f ∙ differ_false _ _ e ∙ ap (has t) (sym f) | inr ne ↦ same k (omega (arith, l, ne)) ])
+        | inr e ↦ inl (λ k l. elim (cases_eq k n) [ inl f ↦ ap (has s) f ∙ equal_values _ _ e ∙ ap (has t) (sym f) | inr ne ↦ same k (omega (arith, l, ne)) ])
       ]
     ]
 

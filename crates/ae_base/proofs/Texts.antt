@@ -12,8 +12,9 @@ use Rattle.ae_base.specs.declared.limits.TheConstants.{WIDTH}
 use Rattle.ae_base.specs.Mask.{Set, differ, has, xor, either, least}
 use Rattle.ae_base.specs.Cube.{Product, IsProduct, IsOver}
 use Rattle.ae_base.specs.Text.{literal_text, cube_text, cmp_text}
-use Rattle.ae_base.proofs.Sets.{same_set, has-xor, has-either}
-use Rattle.ae_base.proofs.Members.{least-is, least-empty, outside_first, differ_false}
+use Rattle.ae_base.proofs.Sets.{same_set, has-xor, has-either, inside-above}
+use Rattle.ae_base.proofs.Truth.{equal_values}
+use Rattle.ae_base.proofs.Members.{least-is, least-empty}
 
 map_same : (f g : ℕ → ℕ) (xs : List ℕ) → ((k : ℕ) → f k ≡ g k) → map f xs ≡ map g xs
 map_same f g [] same = refl
@@ -52,7 +53,7 @@ no_or true b h = absurd (false≢true (sym h))
 same_literal : (c d : Product) (k : ℕ) → has (apart_at c d) k ≡ false → literal_text c k ≡ literal_text d k
 same_literal c d k h =
     let n = no_or _ _ (sym (has-apart c d k) ∙ h) in
-    ap₂ (λ p q. cond p 49 (cond q 48 45)) (differ_false _ _ n.0) (differ_false _ _ n.1)
+    ap₂ (λ p q. cond p 49 (cond q 48 45)) (equal_values _ _ n.0) (equal_values _ _ n.1)
 
 -- the byte of a literal that is plain, or else complemented
 byte : Bool → Bool → ℕ
@@ -95,11 +96,11 @@ cmp_text-apart c d j p q l e =
 not_apart_above : (n : ℕ) (c d : Product) → IsOver n c → IsOver n d → (k : ℕ) → n ≤ k → has (apart_at c d) k ≡ false
 not_apart_above n c d a b k l =
     has-apart c d k
-    ∙ ap₂ (λ p q. p || q) (ap₂ differ (outside_first n c.pos a.1 k l) (outside_first n d.pos b.1 k l)) (ap₂ differ (outside_first n c.neg a.2 k l) (outside_first n d.neg b.2 k l))
+    ∙ ap₂ (λ p q. p || q) (ap₂ differ (inside-above n c.pos a.1 k l) (inside-above n d.pos b.1 k l)) (ap₂ differ (inside-above n c.neg a.2 k l) (inside-above n d.neg b.2 k l))
 
 same_product : (c d : Product) → ((k : ℕ) → has (apart_at c d) k ≡ false) → c ≡ d
 same_product c d none =
-    ap₂ (λ (s t : Set). let r : Product = record { pos = s; neg = t } in r) (same_set c.pos d.pos (λ k. differ_false _ _ (each k).0)) (same_set c.neg d.neg (λ k. differ_false _ _ (each k).1))
+    ap₂ (λ (s t : Set). let r : Product = record { pos = s; neg = t } in r) (same_set c.pos d.pos (λ k. equal_values _ _ (each k).0)) (same_set c.neg d.neg (λ k. equal_values _ _ (each k).1))
   where
     each : (k : ℕ) → (differ (has c.pos k) (has d.pos k) ≡ false) × (differ (has c.neg k) (has d.neg k) ≡ false)
     each k = no_or _ _ (sym (has-apart c d k) ∙ none k)

@@ -1,6 +1,7 @@
 -- Points, literals, products of literals, and EXOR sums of products (Sasao, "Switching Theory for Logic Synthesis").
-use Rattle.std.specs.Prelude.{◌≡◌, ℕ, Bool, true, false, not, if◌then◌else◌, List, [], ◌∷◌, AllPairs}
+use Rattle.std.specs.Prelude.{◌≡◌, ◌==◌, ℕ, Bool, true, false, not, if◌then◌else◌, List, [], ◌∷◌, AllPairs}
 use Rattle.std.specs.List.{list_all}
+use Rattle.std.specs.Ordering.{is_lt}
 use Rattle.std.specs.declared.cmp.Ordering.TheVariants.{Less}
 use Rattle.ae_base.specs.Mask.{Set, differ, has, first, inside, members, cmp_terms}
 use Rattle.ae_base.specs.Cube.{Signs}
@@ -29,3 +30,13 @@ value p ts x = exor_of (λ t. product p t x) ts
 -- in term order, without repeats
 abbrev pub IsInOrder : List Set → Type 0
 IsInOrder ts = AllPairs (λ s t. cmp_terms s t ≡ Less) ts
+
+-- puts a term in its place in a list in term order, where it is not there yet
+abbrev pub placed : Set → List Set → List Set
+placed t [] = t ∷ []
+placed t (u ∷ us) = if t == u then u ∷ us else if is_lt (cmp_terms t u) then t ∷ u ∷ us else u ∷ placed t us
+
+-- the terms of a list in term order, once each
+abbrev pub in_order : List Set → List Set
+in_order [] = []
+in_order (t ∷ ts) = placed t (in_order ts)

@@ -1,9 +1,9 @@
 -- The first clash is a clash, and none is before it.
-use Rattle.std.proofs.Common.{◌≡◌, ℕ, zero, suc, ◌<◌, ◌⊎◌, Bool, true, false, ◌&&◌, ◌||◌, cond, List, length, Option, Some, None, refl, sym, ap, subst, ◌∙◌, inl, inr, eqb, eq-eqb, eqb-true, lt-ltb, arith}
+use Rattle.std.proofs.Common.{◌≡◌, ℕ, zero, suc, ◌<◌, ◌⊎◌, Bool, true, false, ◌&&◌, List, length, Option, Some, None, refl, sym, ap, subst, ◌∙◌, inl, inr, eqb, eq-eqb, eqb-true, lt-ltb, arith}
 use Rattle.std.specs.Prelude.{slice_get, All}
 use Rattle.std.specs.Option.{option_or, option_map_or}
-use Rattle.std.proofs.lemmas.Bool.{and_from, and_parts, cases_eq, cases_Bool, false≢true, or_cases as bool_or_cases, or_left, or_right}
-use Rattle.std.proofs.lemmas.Option.{slice_get_within, get_or_from_slice_get}
+use Rattle.std.proofs.lemmas.Bool.{and_from, and_parts, cases_eq, cases_Bool, false≢true, or_cases as bool_or_cases, or_from, or_left, or_right}
+use Rattle.std.proofs.lemmas.Option.{cond_some, slice_get_within, get_or_from_slice_get}
 use Rattle.std.proofs.lemmas.List.Elements.{All-get_or}
 use Rattle.ae_base.specs.Mask.{Set, has, len, both, either, first}
 use Rattle.ae_base.specs.Cube.{Product, IsProduct, holds}
@@ -64,10 +64,6 @@ mapped g (Some x) y e = (x, refl, e)
 
 -- ---- a common point of two cubes
 
-no_or : (a b : Bool) → a ≡ false → b ≡ false → (a || b) ≡ false
-no_or true b h k = absurd (false≢true (sym h))
-no_or false b h k = k
-
 no_left : (a b : Bool) → (a && b) ≡ false → b ≡ true → a ≡ false
 no_left true b h e = absurd (false≢true (sym h ∙ e))
 no_left false b h e = refl
@@ -96,7 +92,7 @@ left_holds c d p h =
     let apart : (j : ℕ) → has (both c.neg d.pos) j ≡ false = len-zero (both c.neg d.pos) (eqb-true _ _ parts.1) in
     has-holds c (common c d) (
       λ j e. has-either c.pos d.pos j ∙ or_left _ _ e,
-      λ j e. has-either c.pos d.pos j ∙ no_or _ _ (not_plain c j p e) (no_right _ _ (sym (has-both c.neg d.pos j) ∙ apart j) e),
+      λ j e. has-either c.pos d.pos j ∙ or_from _ _ (not_plain c j p e) (no_right _ _ (sym (has-both c.neg d.pos j) ∙ apart j) e),
     )
 
 pub right_holds : (c d : Product) → IsProduct d → meet c d ≡ true → holds d (common c d) ≡ true
@@ -106,7 +102,7 @@ right_holds c d p h =
     let apart : (j : ℕ) → has (both c.pos d.neg) j ≡ false = len-zero (both c.pos d.neg) (eqb-true _ _ parts.0) in
     has-holds d (common c d) (
       λ j e. has-either c.pos d.pos j ∙ or_right _ _ e,
-      λ j e. has-either c.pos d.pos j ∙ no_or _ _ (no_left _ _ (sym (has-both c.pos d.neg j) ∙ apart j) e) (not_plain d j p e),
+      λ j e. has-either c.pos d.pos j ∙ or_from _ _ (no_left _ _ (sym (has-both c.pos d.neg j) ∙ apart j) e) (not_plain d j p e),
     )
 
 pub common_is_point : (n : ℕ) (c d : Product) → ((j : ℕ) → has c.pos j ≡ true → j < n) → ((j : ℕ) → has d.pos j ≡ true → j < n) → IsPoint n (common c d)
@@ -165,10 +161,6 @@ record IsLeast (m : ℕ) (rows : List Row) (c : Clash) : Type 0 where
   no_on : (i : ℕ) → i < c.on_row → on_answer rows c.output i ≡ None
   no_off : (j : ℕ) → j < c.off_row → off_answer rows c.output c.on_row on j ≡ None
 
-chosen : {X : Type 0} (b : Bool) (x y : X) → cond b (Some x) None ≡ Some y → (b ≡ true) × (x ≡ y)
-chosen true x y e = (refl, cc)
-chosen false x y e = absurd cc
-
 least : (m : ℕ) (rows : List Row) (c : Clash) → least_clash m rows ≡ Some c → IsLeast m rows c
 unfolding off_answer on_answer
 least m rows c e =
@@ -178,7 +170,7 @@ least m rows c e =
     let offs = first_answer (length rows) (off_answer rows outputs.at ons.at on.0) c on.2 in
     let off = mapped (clash outputs.at ons.at offs.at on.0) (slice_get rows offs.at) c offs.is in
     let found : Clash = record { output = outputs.at; on_row = ons.at; off_row = offs.at } in
-    let pair = chosen (has_mark is_one outputs.at on.0 && has_mark is_zero outputs.at off.0 && meet on.0.cube off.0.cube) found c off.2 in
+    let pair = cond_some (has_mark is_one outputs.at on.0 && has_mark is_zero outputs.at off.0 && meet on.0.cube off.0.cube) found c off.2 in
     let tests = and_parts (has_mark is_one outputs.at on.0 && has_mark is_zero outputs.at off.0) (meet on.0.cube off.0.cube) pair.0 in
     let marks = and_parts (has_mark is_one outputs.at on.0) (has_mark is_zero outputs.at off.0) tests.0 in
     let P : Clash → Type 0 = λ d. IsLeast m rows d in

@@ -19,7 +19,7 @@ use Rattle.ae_net.proofs.Distinct.{Distinct, AllPairs-from_Distinct, Distinct-ap
 -- ---- places
 
 -- a signal that is read is one of the network's
-read_within : (n : Network) → IsValid n → (s : ℕ) → is_read n s ≡ true → s < signals n
+pub read_within : (n : Network) → IsValid n → (s : ℕ) → is_read n s ≡ true → s < signals n
 read_within n valid s h =
     elim (cases_Bool (is_read_by n.gates s)) [
       | inl by_pin ↦

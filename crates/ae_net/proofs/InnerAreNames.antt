@@ -1,6 +1,6 @@
 -- Inner names are names.
-use Rattle.std.proofs.Common.{◌≡◌, ◌≢◌, ℕ, suc, ◌+◌, ◌-◌, ◌<◌, ◌≤◌, ◌^◌, ◌%◌, true, List, [], ◌∷◌, ◌++◌, length, get_or, refl, sym, ap, ap₂, ◌∙◌, arith, length-append, append_assoc, replicate, ne_eqb}
-use Rattle.std.specs.Prelude.{All, Option, Some, None, IsSome, if◌then◌else◌}
+use Rattle.std.proofs.Common.{◌≡◌, ◌≢◌, ℕ, suc, ◌+◌, ◌-◌, ◌<◌, ◌≤◌, ◌^◌, ◌%◌, true, List, [], ◌∷◌, ◌++◌, length, get_or, refl, ap, ap₂, ◌∙◌, arith, length-append, append_assoc, replicate, ne_eqb}
+use Rattle.std.specs.Prelude.{All}
 use Rattle.std.specs.List.{list_all}
 use Rattle.std.specs.Fmt.{decimal}
 use Rattle.std.proofs.Math.ListN.{length-replicate}
@@ -54,11 +54,3 @@ pub numbered_is_name : (k b n : ℕ) (bytes : List ℕ) → bytes ≡ inner k (b
 numbered_is_name k b n bytes e short letter small =
     ap is_name e
     ∙ is_name-plain _ (omega (arith, length-inner k (b ∷ decimal n))) (omega (arith, short, length-inner k (b ∷ decimal n), length-decimal-le 20 n (omega arith) (omega arith) small)) (plain_inner k b (decimal n) letter (plain_digits n small))
-
--- ---- what the call of `from_bytes` gives
-
-pub found_some : (found : Option (List ℕ)) (bytes : List ℕ) → found ≡ (if is_name bytes then Some bytes else None) → is_name bytes ≡ true → IsSome found
-found_some found bytes h named = rw (h, named) refl
-
-pub found_is : (found : Option (List ℕ)) (bytes name : List ℕ) → found ≡ (if is_name bytes then Some bytes else None) → is_name bytes ≡ true → found ≡ Some name → name ≡ bytes
-found_is found bytes name h named e = let s : Some bytes ≡ Some name = sym (rw named at h) ∙ e in cc

@@ -1,5 +1,5 @@
 -- One more place in the list of faults, and marks.
-use Rattle.std.proofs.Common.{◌≡◌, ℕ, zero, suc, ◌+◌, ◌<◌, ◌≤◌, Bool, true, false, ◌||◌, cond, List, [], ◌∷◌, ◌++◌, length, map, refl, sym, ap, ap₂, ◌∙◌, arith, append-nil, append_assoc, map-id, eqb, replicate, take, drop}
+use Rattle.std.proofs.Common.{◌≡◌, ℕ, zero, suc, ◌+◌, ◌<◌, ◌≤◌, Bool, true, false, ◌||◌, cond, List, [], ◌∷◌, ◌++◌, length, map, refl, sym, ap, ap₂, ◌∙◌, arith, append-nil, eqb, replicate, take, drop}
 use Rattle.std.specs.Prelude.{filter}
 use Rattle.std.specs.List.{flat_map, list_any, range_with_len}
 use Rattle.std.proofs.lemmas.List.Concat.{flat_map-append}
@@ -7,6 +7,7 @@ use Rattle.std.proofs.lemmas.List.FromFn.{map-range_with_len_more, length-map-ra
 use Rattle.std.proofs.lemmas.List.Elements.{filter-append}
 use Rattle.std.proofs.Math.Seq.{take-append_seam}
 use Rattle.std.proofs.lemmas.List.{map-append, get_or-replicate, length-replicate}
+use Rattle.ae_base.proofs.Written.{range_more}
 use Rattle.ae_net.specs.declared.net.Place.{Place}
 use Rattle.ae_net.specs.declared.net.Place.TheVariants.{Stem}
 use Rattle.ae_net.specs.declared.net.Fault.{Fault}
@@ -18,13 +19,6 @@ pub faults_more : (f : ℕ → Place) (k : ℕ) → flat_map both_values (map f 
 faults_more f k =
     ap (flat_map both_values) (map-range_with_len_more f 0 k k (omega arith))
     ∙ flat_map-append both_values (map f (range_with_len 0 k)) (f k ∷ [])
-
--- what is pushed after what stands
-pub pushed : {X : Type 0} (start a b now new c : List X) → now ≡ start ++ a → new ≡ now ++ b → c ≡ a ++ b → new ≡ start ++ c
-pushed start a b now new c p q r = q ∙ ap (λ l. l ++ b) p ∙ append_assoc start a b ∙ ap (λ l. start ++ l) (sym r)
-
-range_more : (k : ℕ) → range_with_len 0 (k + 1) ≡ range_with_len 0 k ++ k ∷ []
-range_more k = sym (map-id (range_with_len 0 (k + 1))) ∙ map-range_with_len_more (λ i. i) 0 k k (omega arith) ∙ ap (λ l. l ++ k ∷ []) (map-id (range_with_len 0 k))
 
 kept_fault : (f : ℕ → Place) (b : Bool) (k : ℕ) → flat_map both_values (map f (cond b (k ∷ []) [])) ≡ cond b (both_values (f k)) []
 kept_fault f true k = refl

@@ -5,19 +5,16 @@ use Rattle.std.specs.List.{list_all}
 use Rattle.std.proofs.lemmas.Bool.{and_parts, and_from, cases_Bool, false≢true, lt-ltb, ltb-true}
 use Rattle.ae_base.specs.Mask.{Set, differ, has, where_below}
 use Rattle.ae_base.proofs.Sets.{has-first, has-where_below, inside-has, has-inside}
+use Rattle.ae_base.proofs.Truth.{same_truth, or-false}
 use Rattle.ae_net.specs.declared.net.Place.TheVariants.{Pin}
 use Rattle.ae_net.specs.declared.net.Fault.{Fault}
 use Rattle.ae_net.specs.Run.{table, seen, value_of, ones_seen}
 use Rattle.ae_net.specs.Gates.{inverter, buffer, exor, and_gate}
-use Rattle.ae_net.proofs.Rows.{same_truth, plain_row, complemented_row, one_of_each_row, full_row}
+use Rattle.ae_net.proofs.Rows.{plain_row, complemented_row, one_of_each_row, full_row}
 
 -- what pin q of the gate in place i sees
 abbrev pub sees : Option Fault → List Bool → ℕ → ℕ → ℕ → Bool
 sees fault w i q s = seen fault (Pin i q) (value_of w s)
-
-or-false : (b : Bool) → (b || false) ≡ b
-or-false true = refl
-or-false false = refl
 
 pub table-inverter : (fault : Option Fault) (w : List Bool) (i : ℕ) (out : List ℕ) (a : ℕ) → table (inverter out a) (ones_seen fault w i (inverter out a)) ≡ not (sees fault w i 0 a)
 unfolding table

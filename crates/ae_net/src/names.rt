@@ -56,7 +56,7 @@ impl NetNames {
 }
 
 /// The name of these bytes, which are one.
-#[tactic(auto, using(crate::proofs::InnerAreNames::found_some, crate::proofs::InnerAreNames::found_is))]
+#[tactic(auto, using(ae_base::proofs::Names::found_some, ae_base::proofs::Names::found_is))]
 fn name_of(alloc: Global, bytes: &[u8]) -> Result<Name, Memory>
     requires { is_name bytes.now ≡ true }
     ensures { IfOk result (λ name. name ≡ bytes.now) }

@@ -1,6 +1,9 @@
 //! The program `andexor`: a proved design-for-test synthesiser.
 #![tactic(auto)]
 
+#[cfg(test)]
+mod tests;
+
 use ae_outside::{HostFiles, HostSink};
 use std::alloc::{AllocError, Global};
 use std::env;

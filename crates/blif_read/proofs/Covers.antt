@@ -1,5 +1,5 @@
 -- The covers of lines without a fault.
-use Rattle.std.proofs.Common.{◌≡◌, ℕ, zero, suc, ◌+◌, ◌-◌, ◌<◌, ◌≤◌, Bool, true, false, not, cond, List, [], ◌∷◌, ◌++◌, length, take, map, Option, Some, None, refl, sym, ap, subst, ◌∙◌, arith, inl, inr}
+use Rattle.std.proofs.Common.{◌≡◌, ℕ, ◌-◌, ◌≤◌, true, not, List, [], ◌∷◌, ◌++◌, length, Option, Some, None, refl, sym, ap, subst, ◌∙◌, arith, inl, inr}
 use Rattle.std.specs.List.{list_any, AllByRecursion}
 use Rattle.std.proofs.lemmas.Bool.{not-false, cases_Bool}
 use Rattle.std.proofs.lemmas.List.{length-take-le}
@@ -10,7 +10,7 @@ use Rattle.blif_read.specs.Words.{is_name_under}
 use Rattle.blif_read.specs.Statement.{Said, said, gate_name, pin_names, is_row}
 use Rattle.blif_read.specs.Statement.Said.{Model, Inputs, Outputs, Names, End, Unsupported, Unknown, Row}
 use Rattle.blif_read.specs.Earlier.{is_end, inputs_of, driven_of, Cover, with_row, cover_after, open_cover}
-use Rattle.blif_read.specs.Faults.{first_of, names_fault, row_fault, line_fault, first_fault}
+use Rattle.blif_read.specs.Faults.{names_fault, line_fault, first_fault}
 use Rattle.blif_read.specs.Placing.{Unplaced, outs}
 use Rattle.blif_read.specs.Says.{onto_rows, rows_at, cover_of, covers}
 use Rattle.blif_read.specs.Step.{says_of}

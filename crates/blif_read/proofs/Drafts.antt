@@ -1,7 +1,7 @@
 -- Drafting line by line.
-use Rattle.std.proofs.Common.{◌≡◌, ℕ, zero, suc, ◌+◌, ◌-◌, ◌<◌, ◌≤◌, Bool, true, false, cond, List, [], ◌∷◌, ◌++◌, length, get_or, take, drop, map, Option, Some, None, All, refl, sym, ap, ap₂, ◌∙◌, arith, subst}
+use Rattle.std.proofs.Common.{◌≡◌, ℕ, zero, suc, ◌+◌, ◌<◌, ◌≤◌, Bool, true, false, cond, List, [], ◌∷◌, ◌++◌, length, get_or, drop, map, Option, Some, None, refl, sym, ap, ap₂, ◌∙◌, arith}
 use Rattle.std.specs.List.{AllByRecursion}
-use Rattle.std.proofs.lemmas.List.{append-nil, append_assoc, get_or_default, get_or_read, get_or-map, length-map, drop-map, drop_more, drop_all, map-append}
+use Rattle.std.proofs.lemmas.List.{append-nil, append_assoc, get_or_default, get_or_read, get_or-map, length-map, drop-map, drop_more, drop_all}
 use Rattle.ae_lex.specs.declared.text.Line.{Line}
 use Rattle.ae_lex.specs.Words.{WordLine, cut_line}
 use Rattle.blif_read.specs.declared.fault.BlifErr.{BlifErr}

@@ -1,8 +1,9 @@
 -- Names that are defined.
-use Rattle.std.proofs.Common.{◌≡◌, ℕ, Bool, true, false, not, cond, List, [], ◌∷◌, ◌++◌, Option, Some, None, refl}
+use Rattle.std.proofs.Common.{◌≡◌, ℕ, true, false, not, List, [], ◌∷◌, ◌++◌, None}
 use Rattle.std.specs.List.{AllByRecursion}
 use Rattle.std.proofs.lemmas.Bool.{or_parts, not-false}
 use Rattle.ae_lex.specs.Words.{WordLine}
+use Rattle.ae_net.proofs.Distinct.{each-append}
 use Rattle.blif_read.specs.Words.{is_among}
 use Rattle.blif_read.specs.Statement.{Said, said, pin_names}
 use Rattle.blif_read.specs.Statement.Said.{Model, Inputs, Outputs, Names, End, Unsupported, Unknown, Row}
@@ -11,16 +12,13 @@ use Rattle.blif_read.specs.Placing.{Unplaced}
 use Rattle.blif_read.specs.Says.{rows_at, cover_of, covers, some_unknown, reads_unknown, shows_unknown, first_line}
 use Rattle.blif_read.specs.Step.{says_of}
 use Rattle.blif_read.proofs.Link.{AreKnown}
+use Rattle.blif_read.proofs.Sound.{first_none}
 
 all_known : (known ws : List (List ℕ)) → some_unknown known ws ≡ false → AllByRecursion (λ w. is_among w known ≡ true) ws
 all_known known [] h = tt
 all_known known (w ∷ ws) h =
     let p = or_parts (not (is_among w known)) (some_unknown known ws) h in
     (not-false (is_among w known) p.0, all_known known ws p.1)
-
-skipped : (b : Bool) (n : ℕ) (rest : Option ℕ) → cond b (Some n) rest ≡ None → (b ≡ false) × (rest ≡ None)
-skipped true n rest h = absurd cc
-skipped false n rest h = (refl, h)
 
 reads_at : (known : List (List ℕ)) (n : ℕ) (s : Said) (rows : List (List ℕ)) (cs : List Unplaced) → reads_unknown known s ≡ false → AreKnown known cs → AreKnown known (cover_of n s rows ++ cs)
 reads_at known n (Names ws) rows cs h rest = (all_known known (pin_names ws) h, rest)
@@ -37,15 +35,11 @@ pub reads_known : (known : List (List ℕ)) (lines : List WordLine) → first_li
 unfolding covers
 reads_known known [] h = tt
 reads_known known (line ∷ lines) h =
-    let p = skipped (reads_unknown known (said line.words)) line.number (first_line (reads_unknown known) lines) h in
+    let p = first_none (reads_unknown known (said line.words)) line.number (first_line (reads_unknown known) lines) h in
     reads_at known line.number (said line.words) (rows_at lines) (covers lines) p.0 (reads_known known lines p.1)
 
-append_known : (known ws vs : List (List ℕ)) → AllByRecursion (λ w. is_among w known ≡ true) ws → AllByRecursion (λ w. is_among w known ≡ true) vs → AllByRecursion (λ w. is_among w known ≡ true) (ws ++ vs)
-append_known known [] vs h k = k
-append_known known (w ∷ ws) vs h k = (h.0, append_known known ws vs h.1 k)
-
 shows_at : (known : List (List ℕ)) (s : Said) (vs : List (List ℕ)) → shows_unknown known s ≡ false → AllByRecursion (λ w. is_among w known ≡ true) vs → AllByRecursion (λ w. is_among w known ≡ true) (output_words s ++ vs)
-shows_at known (Outputs ws) vs h rest = append_known known ws vs (all_known known ws h) rest
+shows_at known (Outputs ws) vs h rest = each-append (λ w. is_among w known ≡ true) ws vs (all_known known ws h) rest
 shows_at known (Model ws) vs h rest = rest
 shows_at known (Inputs ws) vs h rest = rest
 shows_at known (Names ws) vs h rest = rest
@@ -58,5 +52,5 @@ shows_at known (Row r) vs h rest = rest
 pub shows_known : (known : List (List ℕ)) (lines : List WordLine) → first_line (shows_unknown known) lines ≡ None → AllByRecursion (λ w. is_among w known ≡ true) (outputs_of (says_of lines))
 shows_known known [] h = tt
 shows_known known (line ∷ lines) h =
-    let p = skipped (shows_unknown known (said line.words)) line.number (first_line (shows_unknown known) lines) h in
+    let p = first_none (shows_unknown known (said line.words)) line.number (first_line (shows_unknown known) lines) h in
     shows_at known (said line.words) (outputs_of (says_of lines)) p.0 (shows_known known lines p.1)

@@ -1,9 +1,10 @@
 -- The order by names is the order by places.
-use Rattle.std.proofs.Common.{◌≡◌, ◌≢◌, ℕ, zero, suc, ◌+◌, ◌-◌, ◌<◌, ◌≤◌, Bool, true, false, not, cond, ◌||◌, ◌&&◌, eqb, ltb, Option, Some, None, List, [], ◌∷◌, ◌++◌, length, map, get_or, refl, sym, ap, subst, ◌∙◌, arith, inl, inr, append_assoc, ◌⊎◌}
+use Rattle.std.proofs.Common.{◌≡◌, ℕ, zero, suc, ◌+◌, ◌-◌, ◌<◌, ◌≤◌, Bool, true, false, not, cond, ◌||◌, ◌&&◌, eqb, ltb, Option, Some, None, List, [], ◌∷◌, ◌++◌, length, map, get_or, refl, sym, ap, ◌∙◌, arith, inl, inr, ◌⊎◌}
 use Rattle.std.specs.Prelude.{bytes_eq, option_map}
-use Rattle.std.specs.List.{find, list_any, list_all, AllByRecursion, range_with_len}
-use Rattle.std.proofs.lemmas.Bool.{cases_eq, cases_Bool, eq-eqb, ne_eqb, or_from, or_left, or_parts, cond-true, cond-false, false≢true, lt-ltb, le-ltb}
+use Rattle.std.specs.List.{find, list_all, AllByRecursion, range_with_len}
+use Rattle.std.proofs.lemmas.Bool.{cases_Bool, or_left, cond-true, cond-false, lt-ltb, le-ltb}
 use Rattle.std.proofs.lemmas.List.{map-append, length-map, get_or-map, same_lists, get_or_default}
+use Rattle.std.proofs.lemmas.List.Elements.{All-from_recursion}
 use Rattle.std.proofs.lemmas.List.FromFn.{length-map-range_with_len, get_or-map-range_with_len}
 use Rattle.std.proofs.lemmas.List.Folds.{list_any-append}
 use Rattle.ae_net.specs.Valid.{IsDistinct}
@@ -102,10 +103,8 @@ ready_same inputs cs placed (pin ∷ pins) apart below known =
 
 -- ---- one step, and all
 
-known_at : (known : List (List ℕ)) (cs : List Unplaced) (i : ℕ) → AreKnown known cs → i < length cs → AllByRecursion (λ pin. is_among pin known ≡ true) (gate_at cs i).pins
-known_at known [] i h lt = absurd (omega arith)
-known_at known (c ∷ cs) zero h lt = h.0
-known_at known (c ∷ cs) (suc i) h lt = known_at known cs i h.1 (omega arith)
+pub known_at : (known : List (List ℕ)) (cs : List Unplaced) (i : ℕ) → AreKnown known cs → i < length cs → AllByRecursion (λ pin. is_among pin known ≡ true) (gate_at cs i).pins
+known_at known cs i h lt = All-from_recursion (λ c. AllByRecursion (λ pin. is_among pin known ≡ true) c.pins) cs h i blank lt
 
 go_same : (inputs : List (List ℕ)) (cs : List Unplaced) (placed : List ℕ) (i : ℕ) → IsDistinct (outs cs) → AllBelow (length cs) placed → AreKnown (inputs ++ outs cs) cs → i < length cs
     → names.can_go inputs (map (gate_at cs) placed) (gate_at cs i) ≡ order.can_go (needs_of inputs cs) placed i

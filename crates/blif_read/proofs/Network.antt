@@ -1,34 +1,29 @@
 -- The network of gates in the order of placing.
-use Rattle.std.proofs.Common.{◌≡◌, ◌≢◌, ℕ, zero, suc, ◌+◌, ◌-◌, ◌<◌, ◌≤◌, Bool, true, false, not, cond, ◌||◌, ◌&&◌, eqb, ltb, Option, Some, None, List, [], ◌∷◌, ◌++◌, length, map, get_or, take, drop, All, refl, sym, ap, ap₂, subst, ◌∙◌, arith, inl, inr, length-append, append_assoc}
-use Rattle.std.specs.Prelude.{bytes_eq, AllPairs, slice_get, is_none}
-use Rattle.std.specs.List.{list_any, list_all, position_or_len, AllByRecursion}
-use Rattle.std.proofs.lemmas.Bool.{cases_Bool, cases_lt, cond-true, cond-false, and_parts, both_ways, false≢true, or_parts, ltb-true, lt-ltb}
-use Rattle.std.proofs.lemmas.List.{length-map, get_or-map, get_or_default, map-append, take-map, get_or_append_left, get_or-append_right, drop_more}
-use Rattle.std.proofs.lemmas.List.Elements.{All-append, All-weaker, All-from_recursion}
+use Rattle.std.proofs.Common.{◌≡◌, ℕ, zero, suc, ◌+◌, ◌-◌, ◌<◌, ◌≤◌, Bool, true, false, ◌||◌, eqb, ltb, Option, Some, List, [], ◌∷◌, ◌++◌, length, map, get_or, take, All, refl, sym, ap, subst, ◌∙◌, arith, inl, inr, length-append}
+use Rattle.std.specs.Prelude.{bytes_eq, slice_get, is_none}
+use Rattle.std.specs.List.{list_all, position_or_len, AllByRecursion}
+use Rattle.std.proofs.lemmas.Bool.{cases_Bool, cases_lt, cond-true, cond-false, and_parts, lt-ltb}
+use Rattle.std.proofs.lemmas.List.{length-map, get_or-map, get_or_append_left, get_or-append_right}
+use Rattle.std.proofs.lemmas.List.Elements.{All-weaker, All-from_recursion}
 use Rattle.std.proofs.lemmas.List.Folds.{list_any-append}
-use Rattle.ae_base.specs.Mask.{has, where_below, inside, first}
-use Rattle.ae_base.specs.Cube.{Product, IsProduct}
 use Rattle.ae_base.specs.Name.{is_name}
-use Rattle.ae_base.specs.declared.limits.TheConstants.{NET_LINES, PINS, GATES}
+use Rattle.ae_base.specs.declared.limits.TheConstants.{NET_LINES}
 use Rattle.ae_base.proofs.Sets.{has-where_below, has-first, has-inside}
-use Rattle.ae_lex.specs.Words.{WordLine}
 use Rattle.ae_net.specs.declared.net.Gate.{Gate}
-use Rattle.ae_net.specs.Network.{Network, signals}
 use Rattle.ae_net.specs.Valid.{IsDistinct, IsRowOf, IsGate, IsValid}
 use Rattle.blif_read.specs.declared.fault.NetLimits.{NetLimits}
 use Rattle.blif_read.specs.declared.fault.NetLimits.TheVariants.{Source, Written}
-use Rattle.blif_read.specs.declared.draft.Draft.{Draft}
 use Rattle.blif_read.specs.Words.{most_lines, is_name_under, is_among}
 use Rattle.blif_read.specs.Placing.{Unplaced, outs}
-use Rattle.blif_read.specs.Says.{rows_at, place_of, row_cube, is_on, gate_of, net_of}
-use Rattle.blif_read.specs.Build.{rank_in, renumbered, built, cover_at}
+use Rattle.blif_read.specs.Says.{place_of, row_cube, is_on, gate_of, net_of}
+use Rattle.blif_read.specs.Build.{rank_in}
 use Rattle.blif_read.proofs.Cubes.{row_is_product}
 use Rattle.blif_read.proofs.Sound.{IsSound, apart_at}
 use Rattle.blif_read.proofs.Covers.{IsFit}
 use Rattle.blif_read.proofs.Tables.{place_of-append, place_within}
 use Rattle.blif_read.proofs.WrittenNames.{names_apart}
 use Rattle.blif_read.proofs.Places.{place_at, AllBelow}
-use Rattle.blif_read.proofs.Link.{gate_at, blank, out_at, AreKnown, gates_of, needs_of}
+use Rattle.blif_read.proofs.Link.{gate_at, blank, out_at, AreKnown, known_at, gates_of, needs_of}
 use Rattle.blif_read.proofs.Placed.{AreRanks, place_ordered, rank_below, some_rank}
 use Rattle.blif_read.proofs.Ordered.{IsOrder, place_in_front}
 use Rattle.blif_place.specs.Order as by_place
@@ -76,19 +71,10 @@ named Source w h = (and_parts _ _ h).0
 named Written w h = h
 
 fit_at : (limits : NetLimits) (cs : List Unplaced) (g : ℕ) → AllByRecursion (IsFit limits) cs → g < length cs → IsFit limits (gate_at cs g)
-fit_at limits [] g h lt = absurd (omega arith)
-fit_at limits (c ∷ cs) zero h lt = h.0
-fit_at limits (c ∷ cs) (suc g) h lt = fit_at limits cs g h.1 (omega arith)
-
-pub known_at : (known : List (List ℕ)) (cs : List Unplaced) (g : ℕ) → AreKnown known cs → g < length cs → AllByRecursion (λ pin. is_among pin known ≡ true) (gate_at cs g).pins
-known_at known [] g h lt = absurd (omega arith)
-known_at known (c ∷ cs) zero h lt = h.0
-known_at known (c ∷ cs) (suc g) h lt = known_at known cs g h.1 (omega arith)
+fit_at limits cs g h lt = All-from_recursion (IsFit limits) cs h g blank lt
 
 below_at : (n : ℕ) (ss : List ℕ) (k : ℕ) → AllBelow n ss → k < length ss → get_or ss k 0 < n
-below_at n [] k h lt = absurd (omega arith)
-below_at n (s ∷ ss) zero h lt = h.0
-below_at n (s ∷ ss) (suc k) h lt = below_at n ss k h.1 (omega arith)
+below_at n ss k h lt = All-from_recursion (λ s. s < n) ss h k 0 lt
 
 -- the names of the gates in order
 outs_ordered : (cs : List Unplaced) (order : List ℕ) → outs (in_order cs order) ≡ map (λ g. (gate_at cs g).out) order

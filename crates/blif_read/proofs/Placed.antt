@@ -1,16 +1,17 @@
 -- What an order of placing is.
-use Rattle.std.proofs.Common.{◌≡◌, ◌≢◌, ℕ, zero, suc, ◌+◌, ◌-◌, ◌<◌, ◌≤◌, Bool, true, false, not, cond, ◌||◌, eqb, ltb, Option, Some, None, Result, Ok, Err, List, [], ◌∷◌, ◌++◌, length, map, get_or, All, refl, sym, ap, subst, ◌∙◌, arith, inl, inr}
+use Rattle.std.proofs.Common.{◌≡◌, ℕ, zero, suc, ◌+◌, ◌-◌, ◌<◌, ◌≤◌, Bool, true, false, not, cond, ◌||◌, eqb, ltb, Option, Some, None, List, [], ◌∷◌, ◌++◌, length, map, get_or, All, refl, sym, ap, subst, ◌∙◌, arith, inl, inr}
 use Rattle.std.specs.Prelude.{bytes_eq, position, slice_get, is_none, is_some, unwrap_or}
-use Rattle.std.specs.List.{find, list_any, position_or_len, AllByRecursion}
-use Rattle.std.proofs.lemmas.Bool.{cases_Bool, cases_lt, cond-true, cond-false, lt-ltb, le-ltb, ltb-true, ltb-false, false≢true, both_ways}
+use Rattle.std.specs.List.{find, list_any, position_or_len}
+use Rattle.std.proofs.lemmas.Bool.{cases_Bool, cond-true, cond-false, lt-ltb, le-ltb, ltb-true, ltb-false, both_ways}
 use Rattle.std.proofs.lemmas.List.{length-map, length_push, get_or_default}
+use Rattle.std.proofs.lemmas.Option.{slice_get-get_or, slice_get_past}
 use Rattle.std.proofs.lemmas.List.Folds.{find_at, list_any-append, list_any_at}
 use Rattle.ae_net.specs.Valid.{IsDistinct}
 use Rattle.blif_read.specs.Words.{is_among}
-use Rattle.blif_read.specs.Placing as names
-use Rattle.blif_read.specs.Placing.{Unplaced, outs, placed, unless_left}
+use Rattle.blif_read.specs.Placing.{Unplaced, outs}
 use Rattle.blif_read.specs.Says.{place_of}
 use Rattle.blif_read.specs.Build.{rank_in, renumbered, IsRankBelow}
+use Rattle.blif_read.proofs.Ranks.{any_within}
 use Rattle.blif_read.proofs.Tables.{place_of-append}
 use Rattle.blif_read.proofs.Places.{place_at, same_name, AllBelow, below_more}
 use Rattle.blif_read.proofs.Link.{gate_at, blank, out_at, among_placed, next_below, cases_Option}
@@ -33,41 +34,13 @@ order_short needs (suc n) done = elim (cases_Option (by_place.next needs done)) 
   | inr (k, e) ↦ omega (arith, ap length (steps.place_some needs n done k e), order_short needs n (done ++ k ∷ []), length_push done k)
 ]
 
-pub all_from_below : (n : ℕ) (ss : List ℕ) → AllBelow n ss → All (λ s. s < n) ss
-all_from_below n [] h k d lt = absurd (omega arith)
-all_from_below n (s ∷ ss) h zero d lt = h.0
-all_from_below n (s ∷ ss) h (suc k) d lt = all_from_below n ss h.1 k d (omega arith)
-
 -- ---- the first that passes
-
-any_within : {X : Type 0} (p : X → Bool) (xs : List X) → ltb (position_or_len p xs) (length xs) ≡ list_any p xs
-any_within p [] = le-ltb 0 0 (omega arith)
-any_within p (x ∷ xs) = elim (cases_Bool (p x)) [
-  | inl t ↦ rw t (lt-ltb 0 (suc (length xs)) (omega arith))
-  | inr f ↦ rw f (ltb_suc (position_or_len p xs) (length xs) ∙ any_within p xs)
-]
-  where
-    ltb_suc : (a b : ℕ) → ltb (1 + a) (suc b) ≡ ltb a b
-    ltb_suc a b = elim (cases_lt a b) [
-      | inl lt ↦ lt-ltb (1 + a) (suc b) (omega arith) ∙ sym (lt-ltb a b lt)
-      | inr le ↦ le-ltb (1 + a) (suc b) (omega arith) ∙ sym (le-ltb a b le)
-    ]
 
 same_first : {X Y : Type 0} (p : X → Bool) (q : Y → Bool) (xs : List X) (ys : List Y) (d : X) (e : Y) → length xs ≡ length ys → ((k : ℕ) → k < length xs → p (get_or xs k d) ≡ q (get_or ys k e)) → position_or_len p xs ≡ position_or_len q ys
 same_first p q [] [] d e l h = refl
 same_first p q [] (y ∷ ys) d e l h = absurd (omega arith)
 same_first p q (x ∷ xs) [] d e l h = absurd (omega arith)
 same_first p q (x ∷ xs) (y ∷ ys) d e l h = rw (h 0 (omega arith), same_first p q xs ys d e (omega arith) (λ k lt. h (suc k) (omega arith))) refl
-
-get_in : {X : Type 0} (xs : List X) (k : ℕ) (d : X) → k < length xs → slice_get xs k ≡ Some (get_or xs k d)
-get_in [] k d lt = absurd (omega arith)
-get_in (x ∷ xs) zero d lt = refl
-get_in (x ∷ xs) (suc k) d lt = get_in xs k d (omega arith)
-
-get_past : {X : Type 0} (xs : List X) (k : ℕ) → length xs ≤ k → slice_get xs k ≡ None
-get_past [] k le = refl
-get_past (x ∷ xs) zero le = absurd (omega arith)
-get_past (x ∷ xs) (suc k) le = get_past xs k (omega arith)
 
 -- ---- ranks
 
@@ -124,7 +97,7 @@ one_left cs order ranks g apart r h = at (ltb (position_or_len (λ o. is_none o)
     at true e h =
         (let s : position_or_len (λ o. is_none o) ranks ≡ g = cc in
         let lt : g < length cs = omega (arith, ltb-true _ _ e, s, r.size) in
-        (lt, find_at (left cs order) cs ∙ ap (slice_get cs) (first_left cs order ranks apart r ∙ s) ∙ get_in cs g blank lt))
+        (lt, find_at (left cs order) cs ∙ ap (slice_get cs) (first_left cs order ranks apart r ∙ s) ∙ slice_get-get_or cs g blank lt))
     at false e h = absurd cc
 
 pub none_left : (cs : List Unplaced) (order : List ℕ) (ranks : List (Option ℕ)) → IsDistinct (outs cs) → AreRanks cs order ranks → position (λ o. is_none o) ranks ≡ None
@@ -134,7 +107,7 @@ none_left cs order ranks apart r h = at (ltb (position_or_len (λ o. is_none o) 
     at : (b : Bool) → ltb (position_or_len (λ o. is_none o) ranks) (length ranks) ≡ b → cond b (Some (position_or_len (λ o. is_none o) ranks)) None ≡ None → (find (left cs order) cs ≡ None) × ((g : ℕ) → g < length cs → is_none (rank_in order g) ≡ false)
     at true e h = absurd cc
     at false e h = (
-      find_at (left cs order) cs ∙ ap (slice_get cs) (first_left cs order ranks apart r) ∙ get_past cs (position_or_len (λ o. is_none o) ranks) (omega (arith, ltb-false _ _ e, r.size)),
+      find_at (left cs order) cs ∙ ap (slice_get cs) (first_left cs order ranks apart r) ∙ slice_get_past cs (position_or_len (λ o. is_none o) ranks) (omega (arith, ltb-false _ _ e, r.size)),
       λ g lt. elim (cases_Bool (is_none (rank_in order g))) [
         | inl t ↦
             (let any : list_any (λ o. is_none o) ranks ≡ true = list_any_at (λ o. is_none o) ranks g None (omega (arith, r.size)) (ap is_none (r.rank g) ∙ t) in

@@ -1,9 +1,11 @@
 -- Places of names in a list.
-use Rattle.std.proofs.Common.{◌≡◌, ◌≢◌, ℕ, zero, suc, ◌+◌, ◌-◌, ◌<◌, ◌≤◌, Bool, true, false, cond, eqb, ltb, ◌||◌, List, [], ◌∷◌, ◌++◌, length, map, get_or, refl, sym, ap, ◌∙◌, arith, inl, inr}
+use Rattle.std.proofs.Common.{◌≡◌, ℕ, suc, ◌+◌, ◌<◌, Bool, true, eqb, ◌||◌, List, [], ◌∷◌, ◌++◌, length, get_or, sym, ap, ◌∙◌, arith, inl, inr}
 use Rattle.std.specs.Prelude.{bytes_eq}
-use Rattle.std.proofs.lemmas.Bool.{cases_Bool, cases_eq, eq-eqb, ne_eqb, false≢true, ltb-true}
+use Rattle.std.specs.List.{AllByRecursion}
+use Rattle.std.proofs.lemmas.Bool.{cases_Bool, cases_eq, eq-eqb, ne_eqb, false≢true}
 use Rattle.std.proofs.lemmas.Slice.Eq.{bytes_eq-Decides}
 use Rattle.ae_net.specs.Valid.{IsDistinct}
+use Rattle.ae_net.proofs.Distinct.{each-append}
 use Rattle.blif_read.specs.Words.{is_among}
 use Rattle.blif_read.specs.Says.{place_of}
 use Rattle.blif_read.proofs.WrittenNames.{bytes_apart, bytes_same, names_apart}
@@ -27,12 +29,10 @@ same_name ws i j apart a b = elim (cases_eq j i) [
 
 -- all below a bound
 abbrev pub AllBelow : ℕ → List ℕ → Type 0
-AllBelow n [] = Unit {0}
-AllBelow n (s ∷ ss) = (s < n) × AllBelow n ss
+AllBelow n ss = AllByRecursion (λ s. s < n) ss
 
 pub below_more : (n : ℕ) (ss : List ℕ) (k : ℕ) → AllBelow n ss → k < n → AllBelow n (ss ++ k ∷ [])
-below_more n [] k h lt = (lt, tt)
-below_more n (s ∷ ss) k h lt = (h.0, below_more n ss k h.1 lt)
+below_more n ss k h lt = each-append (λ s. s < n) ss (k ∷ []) h (lt, tt)
 
 pub place_bound : (w : List ℕ) (ws : List (List ℕ)) → is_among w ws ≡ true → place_of w ws < length ws
 place_bound w ws h = (place_at w ws h).0

@@ -1,19 +1,26 @@
 -- The places of gates in an order.
-use Rattle.std.proofs.Common.{◌≡◌, ◌≢◌, ℕ, zero, suc, ◌+◌, ◌-◌, ◌<◌, ◌≤◌, Bool, true, false, not, cond, eqb, ltb, List, [], ◌∷◌, ◌++◌, length, get_or, take, map, Option, Some, None, refl, sym, ap, ◌∙◌, arith, inl, inr}
-use Rattle.std.specs.Prelude.{position}
-use Rattle.std.specs.List.{position_or_len, prefix_len}
+use Rattle.std.proofs.Common.{◌≡◌, ℕ, suc, ◌+◌, ◌-◌, ◌<◌, Bool, true, false, cond, eqb, ltb, List, [], ◌∷◌, ◌++◌, length, get_or, take, Option, Some, None, refl, sym, ap, ◌∙◌, arith, inl, inr}
+use Rattle.std.specs.List.{list_any, position_or_len}
 use Rattle.std.specs.Option.{option_or}
 use Rattle.std.proofs.lemmas.Bool.{cases_lt, lt-ltb, le-ltb, cases_Bool}
 use Rattle.std.proofs.lemmas.List.{take_more, length-take-le}
 use Rattle.blif_read.specs.Build.{rank_in, gates_among}
 
--- the place of gate g, one gate further on
 ltb_suc : (a b : ℕ) → ltb (1 + a) (suc b) ≡ ltb a b
 ltb_suc a b = elim (cases_lt a b) [
   | inl lt ↦ lt-ltb (1 + a) (suc b) (omega arith) ∙ sym (lt-ltb a b lt)
   | inr le ↦ le-ltb (1 + a) (suc b) (omega arith) ∙ sym (le-ltb a b le)
 ]
 
+-- a place within the list is found exactly where some element passes
+pub any_within : {X : Type 0} (p : X → Bool) (xs : List X) → ltb (position_or_len p xs) (length xs) ≡ list_any p xs
+any_within p [] = le-ltb 0 0 (omega arith)
+any_within p (x ∷ xs) = elim (cases_Bool (p x)) [
+  | inl t ↦ rw t (lt-ltb 0 (suc (length xs)) (omega arith))
+  | inr f ↦ rw f (ltb_suc (position_or_len p xs) (length xs) ∙ any_within p xs)
+]
+
+-- the place of a gate, one gate further on
 abbrev pub next_rank : Option ℕ → Option ℕ
 next_rank None = None
 next_rank (Some n) = Some (1 + n)

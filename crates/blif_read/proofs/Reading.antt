@@ -1,6 +1,6 @@
 -- Reading line by line.
-use Rattle.std.proofs.Common.{◌≡◌, ℕ, ◌+◌, ◌<◌, ◌≤◌, List, [], ◌∷◌, ◌++◌, length, get_or, take, drop, map, Option, Some, None, refl, sym, ap, ap₂, ◌∙◌, arith}
-use Rattle.std.proofs.lemmas.List.{append-nil, drop_more, take_more, drop_all, take_all, map-append, length-map, get_or-map}
+use Rattle.std.proofs.Common.{◌≡◌, ℕ, ◌+◌, ◌<◌, ◌≤◌, List, [], ◌∷◌, ◌++◌, length, get_or, take, drop, map, Some, None, refl, sym, ap, ◌∙◌, arith}
+use Rattle.std.proofs.lemmas.List.{drop_more, take_more, drop_all, take_all, map-append, length-map, get_or-map}
 use Rattle.ae_lex.specs.declared.text.Line.{Line}
 use Rattle.ae_lex.specs.Words.{WordLine, cut_line}
 use Rattle.blif_read.specs.declared.fault.NetLimits.{NetLimits}

@@ -1,8 +1,9 @@
 -- Signals of names.
-use Rattle.std.proofs.Common.{◌≡◌, ℕ, ◌+◌, ◌<◌, Bool, true, false, not, cond, ◌||◌, List, [], ◌∷◌, ◌++◌, length, get_or, take, map, Option, Some, None, refl, sym, ap, ◌∙◌, arith}
+use Rattle.std.proofs.Common.{◌≡◌, ℕ, ◌+◌, ◌<◌, Bool, true, false, not, cond, ◌||◌, List, [], ◌∷◌, ◌++◌, length, get_or, take, map, Some, None, refl, ap, ◌∙◌, arith}
 use Rattle.std.specs.Borrow.{Bor}
 use Rattle.std.proofs.lemmas.Bool.{or_from}
 use Rattle.std.proofs.lemmas.List.{get_or-map, length-map, map_more, map_push}
+use Rattle.std.proofs.lemmas.Option.{cond_some}
 use Rattle.std.proofs.lemmas.List.Folds.{list_any-append, list_any_at}
 use Rattle.blif_read.specs.Words.{is_among}
 use Rattle.blif_read.specs.Says.{some_unknown, place_of}
@@ -27,11 +28,7 @@ one_more known words i s d lt h none =
     let now : Bor (List ℕ) → List ℕ = λ w. w.now in
     let w = (get_or words i d).now in
     let more : texts (take (i + 1) words) ≡ texts (take i words) ++ w ∷ [] = map_more now words i d lt in
-    let p = found (is_among w known) (place_of w known) s h in (
+    let p = cond_some (is_among w known) (place_of w known) s h in (
       ap (some_unknown known) more ∙ list_any-append (λ v. not (is_among v known)) (texts (take i words)) (w ∷ []) ∙ or_from (some_unknown known (texts (take i words))) (not (is_among w known) || false) none (or_from (not (is_among w known)) false (ap not p.0) refl),
       ap (map (λ v. place_of v known)) more ∙ map_push (λ v. place_of v known) (texts (take i words)) w ∙ ap (λ n. map (λ v. place_of v known) (texts (take i words)) ++ n ∷ []) p.1,
     )
-  where
-    found : (b : Bool) (p s : ℕ) → cond b (Some p) None ≡ Some s → (b ≡ true) × (p ≡ s)
-    found true p s h = (refl, (let e : p ≡ s = cc in e))
-    found false p s h = absurd cc

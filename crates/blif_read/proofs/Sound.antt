@@ -1,7 +1,7 @@
 -- What is true of what lines without a fault say.
-use Rattle.std.proofs.Common.{◌≡◌, ◌≢◌, ℕ, zero, suc, ◌+◌, ◌-◌, ◌<◌, ◌≤◌, Bool, true, false, not, cond, eqb, ltb, leb, ◌||◌, List, [], ◌∷◌, ◌++◌, length, get_or, map, Option, Some, None, All, refl, sym, ap, subst, ◌∙◌, arith, inl, inr, length-append, append_assoc, append-nil}
+use Rattle.std.proofs.Common.{◌≡◌, ◌≢◌, ℕ, ◌-◌, ◌<◌, ◌≤◌, Bool, true, false, not, cond, eqb, ltb, leb, ◌||◌, List, [], ◌∷◌, ◌++◌, length, get_or, Option, Some, None, All, refl, sym, ap, subst, ◌∙◌, arith, inl, inr, length-append, append_assoc, append-nil}
 use Rattle.std.specs.Prelude.{bytes_eq}
-use Rattle.std.specs.List.{list_any, list_all}
+use Rattle.std.specs.List.{list_all}
 use Rattle.std.specs.Option.{option_or}
 use Rattle.std.proofs.lemmas.Bool.{both_ways, or_from, or_parts, cases_Bool, not-false, leb-false, ltb-false, eqb-false}
 use Rattle.std.proofs.lemmas.List.Elements.{All-push}
@@ -16,8 +16,8 @@ use Rattle.blif_read.specs.declared.seen.Seen.{Seen}
 use Rattle.blif_read.specs.Words.{most_lines, is_name_under, is_among}
 use Rattle.blif_read.specs.Statement.{Said, said, gate_name}
 use Rattle.blif_read.specs.Statement.Said.{Model, Inputs, Outputs, Names, End, Unsupported, Unknown, Row}
-use Rattle.blif_read.specs.Faults.{first_of, input_fault, output_fault, word_fault, names_fault, line_fault, first_fault}
-use Rattle.blif_read.specs.Step.{seen_by, says_of, fault_in, line_fault_in, with_line}
+use Rattle.blif_read.specs.Faults.{input_fault, output_fault, word_fault, names_fault, line_fault, first_fault}
+use Rattle.blif_read.specs.Step.{seen_by, says_of, line_fault_in, with_line}
 use Rattle.blif_read.proofs.Steps.{fault_same, seen_push}
 use Rattle.blif_read.proofs.WrittenNames.{bytes_apart, bytes_same}
 use Rattle.blif_read.proofs.Words.{last_is_no_name}
@@ -38,7 +38,7 @@ still_new w i vs f h = λ k d lt.
 
 -- ---- faults
 
-pub first_none : (b : Bool) (f : BlifFault) (rest : Option BlifFault) → cond b (Some f) rest ≡ None → (b ≡ false) × (rest ≡ None)
+pub first_none : {X : Type 0} (b : Bool) (f : X) (rest : Option X) → cond b (Some f) rest ≡ None → (b ≡ false) × (rest ≡ None)
 first_none true f rest h = absurd cc
 first_none false f rest h = (refl, h)
 

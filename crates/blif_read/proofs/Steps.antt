@@ -1,17 +1,17 @@
 -- What lines say with one more line.
-use Rattle.std.proofs.Common.{◌≡◌, ℕ, zero, suc, ◌-◌, Bool, true, false, not, cond, ◌||◌, List, [], ◌∷◌, ◌++◌, length, Option, Some, None, refl, sym, ap, ◌∙◌, append-nil}
-use Rattle.std.specs.Prelude.{slice_get, option_map, unwrap_or}
+use Rattle.std.proofs.Common.{◌≡◌, ℕ, ◌-◌, Bool, true, false, not, ◌||◌, List, [], ◌∷◌, ◌++◌, length, Option, Some, None, refl, sym, ap, ◌∙◌, append-nil}
+use Rattle.std.specs.Prelude.{slice_get, option_map}
 use Rattle.std.specs.List.{list_any, flat_map}
-use Rattle.std.proofs.lemmas.Bool.{or_parts}
 use Rattle.std.proofs.lemmas.List.Concat.{flat_map-append}
 use Rattle.std.proofs.lemmas.List.Folds.{list_any-append}
+use Rattle.ae_base.proofs.Truth.{or-false}
+use Rattle.ae_lex.specs.First.{first_of}
 use Rattle.blif_read.specs.declared.fault.NetLimits.{NetLimits}
-use Rattle.blif_read.specs.declared.fault.BlifFault.{BlifFault}
 use Rattle.blif_read.specs.declared.fault.BlifFault.TheVariants as fault
 use Rattle.blif_read.specs.Statement.{Said, row_end, is_row}
 use Rattle.blif_read.specs.Statement.Said.{Model, Inputs, Outputs, Names, End, Unsupported, Unknown, Row}
 use Rattle.blif_read.specs.Earlier.{inputs_of, outputs_of, driven_of, input_words, output_words, driven_words, model_words, is_model, is_end, Cover, cover_after, open_cover}
-use Rattle.blif_read.specs.Faults.{first_of, row_fault, mixes, line_fault, fault_before_end}
+use Rattle.blif_read.specs.Faults.{row_fault, mixes, line_fault, fault_before_end}
 use Rattle.blif_read.specs.declared.seen.Seen.{Seen}
 use Rattle.blif_read.specs.Step.{summary, seen_by, ends_otherwise, row_fault_in, fault_in, line_fault_in, with_line}
 
@@ -65,14 +65,6 @@ abbrev more : Bool → Bool → List (List ℕ) → List (List ℕ) → List (Li
 more e m ms i o d c s =
     parts (e || (is_end s || false)) (m || (is_model s || false)) (ms ++ (model_words s ++ [])) (i ++ (input_words s ++ [])) (o ++ (output_words s ++ [])) (d ++ (driven_words s ++ [])) (cover_after c s)
 
-or_false : (b : Bool) → (b || false) ≡ b
-or_false true = refl
-or_false false = refl
-
-or_true : (b : Bool) → (b || true) ≡ true
-or_true true = refl
-or_true false = refl
-
 row_same : (c : Option Cover) (r : List ℕ) → option_map summary (cover_after c (Row r)) ≡ (with_line (parts false false [] [] [] [] c) (Row r)).cover
 row_same None r = refl
 row_same (Some c) r = first c.rows
@@ -88,19 +80,19 @@ step limits true m ms i o d c (Model ws) n h = absurd cc
 step limits true m ms i o d c (Inputs ws) n h = absurd cc
 step limits true m ms i o d c (Outputs ws) n h = absurd cc
 step limits true m ms i o d c (Names ws) n h = absurd cc
-step limits true m ms i o d c End n h = rw (or_false m, append-nil ms, append-nil i, append-nil o, append-nil d) refl
+step limits true m ms i o d c End n h = rw (or-false m, append-nil ms, append-nil i, append-nil o, append-nil d) refl
 step limits true m ms i o d c Unsupported n h = absurd cc
 step limits true m ms i o d c Unknown n h = absurd cc
 step limits true m ms i o d c (Row r) n h = absurd cc
 step limits false true ms i o d c (Model ws) n h = absurd cc
 step limits false false ms i o d c (Model ws) n h = rw (n refl, append-nil ws, append-nil i, append-nil o, append-nil d) refl
-step limits false m ms i o d c (Inputs ws) n h = rw (or_false m, append-nil ms, append-nil ws, append-nil o, append-nil d) refl
-step limits false m ms i o d c (Outputs ws) n h = rw (or_false m, append-nil ms, append-nil ws, append-nil i, append-nil d) refl
-step limits false m ms i o d c (Names ws) n h = rw (or_false m, append-nil ms, append-nil i, append-nil o) refl
-step limits false m ms i o d c End n h = rw (or_false m, append-nil ms, append-nil i, append-nil o, append-nil d) refl
+step limits false m ms i o d c (Inputs ws) n h = rw (or-false m, append-nil ms, append-nil ws, append-nil o, append-nil d) refl
+step limits false m ms i o d c (Outputs ws) n h = rw (or-false m, append-nil ms, append-nil ws, append-nil i, append-nil d) refl
+step limits false m ms i o d c (Names ws) n h = rw (or-false m, append-nil ms, append-nil i, append-nil o) refl
+step limits false m ms i o d c End n h = rw (or-false m, append-nil ms, append-nil i, append-nil o, append-nil d) refl
 step limits false m ms i o d c Unsupported n h = absurd cc
 step limits false m ms i o d c Unknown n h = absurd cc
-step limits false m ms i o d c (Row r) n h = rw (or_false m, append-nil ms, append-nil i, append-nil o, append-nil d, row_same c r) refl
+step limits false m ms i o d c (Row r) n h = rw (or-false m, append-nil ms, append-nil i, append-nil o, append-nil d, row_same c r) refl
 
 pub seen_push : (limits : NetLimits) (lines : List Said) (s : Said) → line_fault limits lines s ≡ None → seen_by (lines ++ s ∷ []) ≡ with_line (seen_by lines) s
 unfolding seen_by

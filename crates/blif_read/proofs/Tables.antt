@@ -1,11 +1,10 @@
 -- Names in a table.
-use Rattle.std.proofs.Common.{◌≡◌, ◌≢◌, ℕ, zero, suc, ◌+◌, ◌<◌, Bool, true, false, not, cond, ◌||◌, ltb, List, [], ◌∷◌, ◌++◌, length, get_or, All, zero-add, Option, Some, None, take, drop, refl, sym, ap, ap₂, ◌∙◌, arith, inl, inr}
+use Rattle.std.proofs.Common.{◌≡◌, ℕ, suc, ◌+◌, Bool, true, false, cond, ◌||◌, ltb, List, [], ◌∷◌, ◌++◌, length, get_or, All, zero-add, Some, None, take, drop, refl, sym, ap, ◌∙◌, arith, inl, inr}
 use Rattle.std.specs.Prelude.{bytes_eq, position}
-use Rattle.std.specs.List.{list_any, position_or_len}
-use Rattle.std.proofs.lemmas.Bool.{both_ways, false_from_ne_true, cases_Bool, lt-ltb, ltb-true, cases_lt, le-ltb}
+use Rattle.std.proofs.lemmas.Bool.{both_ways, cases_Bool}
 use Rattle.std.proofs.lemmas.List.Folds.{list_any-append, list_any_none}
-use Rattle.std.proofs.lemmas.Slice.Eq.{bytes_eq-Decides}
 use Rattle.ae_base.specs.Name.{is_name}
+use Rattle.blif_read.proofs.Ranks.{any_within}
 use Rattle.blif_read.proofs.WrittenNames.{bytes_apart}
 use Rattle.blif_read.specs.Words.{is_among}
 use Rattle.blif_read.specs.Build.{signal_in}
@@ -13,17 +12,7 @@ use Rattle.blif_read.specs.Says.{place_of}
 use Rattle.blif_read.specs.Statement.{unsupported}
 
 pub place_within : (w : List ℕ) (ws : List (List ℕ)) → ltb (place_of w ws) (length ws) ≡ is_among w ws
-place_within w [] = le-ltb 0 0 (omega arith)
-place_within w (v ∷ ws) = elim (cases_Bool (bytes_eq w v)) [
-  | inl t ↦ rw t (lt-ltb 0 (suc (length ws)) (omega arith))
-  | inr f ↦ rw f (ltb_suc (place_of w ws) (length ws) ∙ place_within w ws)
-]
-  where
-    ltb_suc : (a b : ℕ) → ltb (1 + a) (suc b) ≡ ltb a b
-    ltb_suc a b = elim (cases_lt a b) [
-      | inl lt ↦ lt-ltb (1 + a) (suc b) (omega arith) ∙ sym (lt-ltb a b lt)
-      | inr le ↦ le-ltb (1 + a) (suc b) (omega arith) ∙ sym (le-ltb a b le)
-    ]
+place_within w ws = any_within (bytes_eq w) ws
 
 pub place_is : (w : List ℕ) (ws : List (List ℕ)) → position (bytes_eq w) ws ≡ cond (is_among w ws) (Some (place_of w ws)) None
 place_is w ws = rw (place_within w ws) refl

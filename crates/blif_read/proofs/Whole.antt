@@ -1,15 +1,15 @@
 -- The network of a whole text.
-use Rattle.std.proofs.Common.{◌≡◌, ℕ, zero, suc, ◌+◌, ◌-◌, ◌<◌, ◌≤◌, ◌^◌, Bool, true, false, not, cond, eqb, ◌||◌, Option, Some, None, Result, Ok, Err, List, [], ◌∷◌, ◌++◌, length, map, get_or, take, drop, All, refl, sym, ap, ap₂, subst, ◌∙◌, arith, inl, inr, length-append}
+use Rattle.std.proofs.Common.{◌≡◌, ℕ, ◌+◌, ◌<◌, ◌≤◌, ◌^◌, Bool, true, not, cond, eqb, ◌||◌, Option, Some, None, Result, Ok, Err, List, [], ◌∷◌, ◌++◌, length, map, get_or, drop, All, refl, sym, ap, ap₂, subst, ◌∙◌, arith, inl, inr, length-append}
 use Rattle.std.specs.Prelude.{bytes_eq, position, is_none, unwrap_or, slice_get, slice_index_or, codes}
 use Rattle.std.specs.List.{find, flat_map, AllByRecursion}
 use Rattle.std.specs.Option.{option_or}
 use Rattle.std.proofs.lemmas.Bool.{cases_Bool, cond-true, cond-false, eq-eqb, ne_eqb}
-use Rattle.std.proofs.lemmas.List.{length-map, get_or-map, get_or_default, drop_more}
+use Rattle.std.proofs.lemmas.List.{length-map, get_or-map, drop_more}
 use Rattle.std.proofs.lemmas.List.Folds.{list_any-append}
 use Rattle.std.proofs.lemmas.List.Elements.{All-append, All-weaker, All-from_recursion}
 use Rattle.ae_base.specs.Cube.{Product}
 use Rattle.ae_base.specs.Name.{is_name}
-use Rattle.ae_base.specs.declared.limits.TheConstants.{PINS, GATES}
+use Rattle.ae_base.specs.declared.limits.TheConstants.{PINS}
 use Rattle.ae_lex.specs.declared.text.Style.TheVariants.{Blif}
 use Rattle.ae_lex.specs.Words.{WordLine, word_lines, last_line}
 use Rattle.ae_net.specs.declared.net.Gate.{Gate}
@@ -32,16 +32,16 @@ use Rattle.blif_read.specs.Gives.{Gives}
 use Rattle.blif_read.specs.declared.fault.BlifErr.{BlifErr}
 use Rattle.blif_read.specs.declared.fault.BlifErr.TheVariants as errors
 use Rattle.blif_read.specs.Step.{seen_by, says_of, IsFaultAt}
-use Rattle.blif_read.specs.Build.{AreSignals, AreFaultless, AreDrafted, AreBuildable, IsPlan, IsRankBelow, gates_among, rank_in, renumbered, built, built_at, draft_at, cover_at, cover_front, drafts_of, port_of, drawn, placed_net, undefined}
+use Rattle.blif_read.specs.Build.{AreSignals, AreFaultless, AreDrafted, AreBuildable, IsPlan, gates_among, renumbered, built, built_at, draft_at, cover_at, cover_front, port_of, drawn, placed_net, undefined}
 use Rattle.blif_read.proofs.Sound.{IsSound, SeenIsSound, sound_all}
 use Rattle.blif_read.proofs.Covers.{IsFit, covers_fit, outs_covers}
-use Rattle.blif_read.proofs.Drafts.{AreOf, drafts_are, pins_by, cover_by, cover_number}
+use Rattle.blif_read.proofs.Drafts.{AreOf, drafts_are, pins_by, cover_by}
 use Rattle.blif_read.proofs.Known.{reads_known, shows_known}
-use Rattle.blif_read.proofs.Places.{place_at, place_bound, AllBelow}
-use Rattle.blif_read.proofs.Link.{gate_at, blank, out_at, AreKnown, gates_of, needs_of, needs_same, one_order}
-use Rattle.blif_read.proofs.Placed.{order_below, order_short, all_from_below, AreRanks, ranks_below, left, one_left, none_left, renumber_same}
+use Rattle.blif_read.proofs.Places.{place_bound, AllBelow}
+use Rattle.blif_read.proofs.Link.{gate_at, blank, out_at, AreKnown, known_at, gates_of, needs_of, needs_same, one_order}
+use Rattle.blif_read.proofs.Placed.{order_below, order_short, AreRanks, ranks_below, left, one_left, none_left, renumber_same}
 use Rattle.blif_read.proofs.Ordered.{IsOrder, order_of_is}
-use Rattle.blif_read.proofs.Network.{IsPlaced, in_order, named, known_at, is_valid, gates_ordered}
+use Rattle.blif_read.proofs.Network.{IsPlaced, in_order, named, is_valid, gates_ordered}
 use Rattle.blif_place.specs.Order as by_place
 
 -- ---- lists
@@ -62,10 +62,6 @@ all_across f g Q (x ∷ xs) (y ∷ ys) e h =
 same_along : {X Y : Type 0} (P : X → Type 0) (f g : X → Y) (xs : List X) → ((x : X) → P x → f x ≡ g x) → AllByRecursion P xs → map f xs ≡ map g xs
 same_along P f g [] same h = refl
 same_along P f g (x ∷ xs) same h = ap₂ (λ y ys. y ∷ ys) (same x h.0) (same_along P f g xs same h.1)
-
-each_below : (n : ℕ) (ss : List ℕ) → AllBelow n ss → AllByRecursion (λ s. s < n) ss
-each_below n [] h = tt
-each_below n (s ∷ ss) h = (h.0, each_below n ss h.1)
 
 -- a gate and a network of these parts
 abbrev gate : List ℕ → List ℕ → List Product → Bool → Gate
@@ -211,7 +207,7 @@ order_within lines seen drafts order h e =
     let size : length needs ≡ length drafts = length-map drafts (λ d. gates_among (length seen.inputs) d.pins) in
     let sizes = size_is lines seen drafts h in (
       omega (arith, ap length e, order_short needs (length needs) [], size, sizes.0, sizes.1, (sound_is lines seen h.faultless).few_gates),
-      subst (λ n. All (λ g. g < n) order) size (subst (λ (os : List ℕ). All (λ g. g < length needs) os) (sym e) (all_from_below (length needs) (by_place.order_of needs) (order_below needs (length needs) [] tt))),
+      subst (λ n. All (λ g. g < n) order) size (subst (λ (os : List ℕ). All (λ g. g < length needs) os) (sym e) (All-from_recursion (λ g. g < length needs) (by_place.order_of needs) (order_below needs (length needs) [] tt))),
     )
 
 -- ---- what can be built
@@ -337,7 +333,7 @@ drawn_is lines seen drafts order ranks model h p =
     same_along (λ w. is_among w (i ++ outs cs) ≡ true) (port_of seen ranks) (λ o. place_of o new) seen.outputs
     (λ w k. ap (λ (ws : List (List ℕ)). renumbered (length i) ranks (place_of w (i ++ ws))) (sym (outs_are lines seen h.faultless)) ∙ renumber_same i cs order ranks w p.sound.driven_apart p.ranked p.all k) p.shown in
     let gates : map (built_at lines seen.driven drafts (length i) ranks) order ≡ map (gate_of new) (in_order cs order) =
-    same_along (λ g. g < length cs) (built_at lines seen.driven drafts (length i) ranks) (λ g. gate_of new (gate_at cs g)) order (λ g lt. gate_built lines seen drafts order ranks h p g lt) (each_below (length cs) order p.ranked.below)
+    same_along (λ g. g < length cs) (built_at lines seen.driven drafts (length i) ranks) (λ g. gate_of new (gate_at cs g)) order (λ g lt. gate_built lines seen drafts order ranks h p g lt) p.ranked.below
     ∙ sym (gates_ordered new cs order) in
     ap₂ (λ (ps : List ℕ) (gs : List Gate). network model i ps gs) ports gates
 

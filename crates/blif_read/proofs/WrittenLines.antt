@@ -14,7 +14,7 @@ use Rattle.blif_read.specs.declared.fault.BlifFault.{BlifFault}
 use Rattle.blif_read.specs.Words.{most_lines, is_name_under, is_among}
 use Rattle.blif_read.specs.Statement.{Said, said, gate_name, pin_names, row_end, is_row}
 use Rattle.blif_read.specs.Statement.Said.{Names, Row}
-use Rattle.blif_read.specs.Earlier.{input_words, output_words, driven_words, inputs_of, outputs_of, driven_of, is_end, Cover, cover_after, open_cover}
+use Rattle.blif_read.specs.Earlier.{input_words, output_words, driven_words, inputs_of, outputs_of, driven_of, is_end}
 use Rattle.blif_read.specs.Faults.{input_fault, output_fault, word_fault, names_fault, mixes, row_fault, fault_before_end, fault_after_end, line_fault, first_fault}
 use Rattle.blif_read.specs.Placing.{Unplaced, placed}
 use Rattle.blif_read.specs.Says.{covers, reads_unknown, shows_unknown, first_line, net_of, model_of, lines_say}
@@ -114,10 +114,6 @@ names_fine limits inputs driven ws w pins out few room fresh =
     rw (some, all, narrow, free, gate_name-snoc ws w, apart.0, apart.1) refl
 
 -- ---- rows
-
-pub open-append : (c : Option Cover) (before : List Said) (s : Said) → open_cover c (before ++ s ∷ []) ≡ cover_after (open_cover c before) s
-open-append c [] s = refl
-open-append c (t ∷ before) s = open-append (cover_after c t) before s
 
 -- rows that end with this character, or none
 abbrev pub EndWith : ℕ → List (List ℕ) → Type 0

@@ -1,6 +1,6 @@
 -- How the network is built from lines without a fault. These definitions serve the reader's own functions.
 -- Signals are numbered in file order first: the inputs, and then the gates by the places of their `.names`.
-use Rattle.std.specs.Prelude.{◌≡◌, ℕ, zero, suc, ◌+◌, ◌-◌, ◌<◌, ◌≤◌, ◌^◌, ◌==◌, nat_lt, Bool, true, false, if◌then◌else◌, Option, Some, None, Result, Ok, Err, List, [], ◌∷◌, ◌++◌, length, drop, map, All, position, IfSome, option_map, unwrap_or, slice_index_or}
+use Rattle.std.specs.Prelude.{◌≡◌, ℕ, suc, ◌+◌, ◌-◌, ◌<◌, ◌≤◌, ◌^◌, ◌==◌, nat_lt, Bool, true, false, if◌then◌else◌, Option, Some, None, Result, Ok, Err, List, [], ◌∷◌, ◌++◌, length, drop, map, All, position, IfSome, option_map, unwrap_or, slice_index_or}
 use Rattle.ae_base.specs.Name.{is_name}
 use Rattle.ae_lex.specs.Words.{WordLine}
 use Rattle.ae_base.specs.declared.limits.TheConstants.{PINS}

@@ -3,6 +3,7 @@ use Rattle.std.specs.Prelude.{ℕ, ◌-◌, ◌==◌, nat_le, nat_lt, Bool, true
 use Rattle.std.specs.List.{list_any, list_all}
 use Rattle.std.specs.Option.{option_or}
 use Rattle.ae_base.specs.declared.limits.TheConstants.{PINS, GATES}
+use Rattle.ae_lex.specs.First.{first_of}
 use Rattle.ae_lex.specs.Words.{WordLine}
 use Rattle.blif_read.specs.declared.fault.NetLimits.{NetLimits}
 use Rattle.blif_read.specs.declared.fault.BlifFault.{BlifFault}
@@ -11,11 +12,6 @@ use Rattle.blif_read.specs.Words.{most_lines, is_name_under, is_among}
 use Rattle.blif_read.specs.Statement.{Said, said, gate_name, row_end, is_row}
 use Rattle.blif_read.specs.Statement.Said.{Model, Inputs, Outputs, Names, End, Unsupported, Unknown, Row}
 use Rattle.blif_read.specs.Earlier.{inputs_of, outputs_of, driven_of, is_model, is_end, Cover, open_cover}
-
--- the fault of the first condition that holds
-abbrev pub first_of : List (Bool × BlifFault) → Option BlifFault
-first_of [] = None
-first_of (c ∷ cs) = if c.0 then Some c.1 else first_of cs
 
 -- a name of `.inputs`, where these outputs, gates and inputs have names before it
 abbrev pub input_fault : NetLimits → List (List ℕ) → List (List ℕ) → List (List ℕ) → List ℕ → Option BlifFault

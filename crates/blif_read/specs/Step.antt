@@ -2,6 +2,7 @@
 -- What a text says is defined in `Says`, without them.
 use Rattle.std.specs.Prelude.{◌≡◌, ℕ, ◌-◌, ◌==◌, Bool, true, false, not, if◌then◌else◌, Option, Some, None, Result, Ok, Err, List, [], ◌∷◌, ◌++◌, length, map, slice_get, option_map, unwrap_or}
 use Rattle.std.specs.List.{list_any, flat_map}
+use Rattle.ae_lex.specs.First.{first_of}
 use Rattle.blif_read.specs.declared.fault.NetLimits.{NetLimits}
 use Rattle.blif_read.specs.declared.fault.BlifFault.{BlifFault}
 use Rattle.blif_read.specs.declared.fault.BlifFault.TheVariants as fault
@@ -15,7 +16,7 @@ use Rattle.blif_read.specs.declared.line_err.LineErr.TheVariants as line
 use Rattle.blif_read.specs.Statement.{Said, said, gate_name, row_end, is_row}
 use Rattle.blif_read.specs.Statement.Said.{Model, Inputs, Outputs, Names, End, Unsupported, Unknown, Row}
 use Rattle.blif_read.specs.Earlier.{inputs_of, outputs_of, driven_of, is_model, is_end, model_words, Cover, open_cover}
-use Rattle.blif_read.specs.Faults.{first_of, input_fault, output_fault, word_fault, names_fault, is_model_name, fault_after_end, first_fault}
+use Rattle.blif_read.specs.Faults.{input_fault, output_fault, word_fault, names_fault, is_model_name, fault_after_end, first_fault}
 
 -- of a cover: the number of its pins, and the last character of its first row
 abbrev pub summary : Cover → OpenCover

@@ -1,20 +1,12 @@
 -- The network of the two-input AND, as a test has it, is valid.
-use Rattle.std.proofs.Common.{◌≡◌, ◌≢◌, ℕ, ◌<◌, ◌≤◌, true, false, List, [], ◌∷◌, codes, refl, sym, ◌∙◌, arith, lit≤}
+use Rattle.std.proofs.Common.{◌≡◌, ◌<◌, ◌≤◌, true, [], ◌∷◌, codes, refl, arith, lit≤}
 use Rattle.std.proofs.lemmas.List.Elements.{All-from_recursion}
-use Rattle.std.specs.List.{AllByRecursion}
-use Rattle.ae_net.proofs.Distinct.{Distinct, AllPairs-from_Distinct, each_weaker}
-use Rattle.std.proofs.lemmas.Slice.Eq.{bytes_eq-Decides}
-use Rattle.std.specs.Str.{bytes_eq}
 use Rattle.ae_base.specs.Name.{is_name}
+use Rattle.ae_base.proofs.Names.{others}
 use Rattle.ae_net.specs.Valid.{IsValid}
+use Rattle.ae_net.proofs.Distinct.{Distinct, AllPairs-from_Distinct}
 use Rattle.ae_net.proofs.GatesValid.{AreGates, IsGate-at, IsGate-and, IsGate-exor}
 use Rattle.blif_write.specs.AndNet.{the_net}
-
-apart : (x y : List ℕ) → bytes_eq x y ≡ false → x ≢ y
-apart x y f e = absurd (let t = sym f ∙ (bytes_eq-Decides x y).1 e in cc t)
-
-others : (x : List ℕ) (ys : List (List ℕ)) → AllByRecursion (λ y. bytes_eq x y ≡ false) ys → AllByRecursion (λ y. x ≢ y) ys
-others x ys h = each_weaker (λ y. bytes_eq x y ≡ false) (λ y. x ≢ y) (apart x) ys h
 
 apart_names : Distinct (codes "x1" ∷ codes "x2" ∷ codes "_c" ∷ codes "_t1" ∷ codes "f1" ∷ [])
 apart_names = (

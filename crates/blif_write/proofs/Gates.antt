@@ -1,10 +1,10 @@
 -- The gates that are read are the gates that were written, in their order.
-use Rattle.std.proofs.Common.{◌≡◌, ℕ, zero, suc, ◌+◌, ◌<◌, ◌≤◌, Bool, true, false, not, List, [], ◌∷◌, ◌++◌, length, map, get_or, refl, sym, ap, ap₂, subst, ◌∙◌, arith}
+use Rattle.std.proofs.Common.{◌≡◌, ℕ, suc, ◌+◌, ◌<◌, ◌≤◌, Bool, true, false, not, List, [], ◌∷◌, ◌++◌, length, map, get_or, refl, sym, ap, ap₂, subst, ◌∙◌, arith}
 use Rattle.std.specs.Prelude.{Some, slice_get, All}
 use Rattle.std.specs.List.{list_all, AllByRecursion}
 use Rattle.std.proofs.lemmas.Bool.{or_from, and_from}
 use Rattle.std.proofs.lemmas.List.{append_assoc, length-append, get_or_append_left, length-map}
-use Rattle.std.proofs.lemmas.List.Elements.{recursion_from_All}
+use Rattle.std.proofs.lemmas.List.Elements.{All-from_recursion, recursion_from_All}
 use Rattle.ae_base.specs.Cube.{Product}
 use Rattle.ae_base.specs.Name.{is_name}
 use Rattle.ae_net.proofs.Distinct.{each_weaker}
@@ -14,6 +14,7 @@ use Rattle.ae_net.specs.Valid.{IsGate, IsDistinct}
 use Rattle.blif_read.specs.Words.{is_among}
 use Rattle.blif_read.specs.Placing.{outs}
 use Rattle.blif_read.specs.Says.{some_unknown, row_cube, is_on, gate_of}
+use Rattle.blif_read.proofs.Places.{AllBelow}
 use Rattle.blif_read.proofs.WrittenNames.{among_at, places_back}
 use Rattle.blif_read.proofs.WrittenPlacing.{IsInOrder}
 use Rattle.blif_write.proofs.Rows.{row_chars, rows_back, on_back}
@@ -35,9 +36,6 @@ valid_gates s (gate ∷ gates) h =
       valid_gates (suc s) gates (λ i g e. let there : s + suc i ≡ suc s + i = omega arith in subst (λ (t : ℕ). IsGate t g) there (h (suc i) g e)),
     )
 
-abbrev pub AllBelow : ℕ → List ℕ → Type 0
-AllBelow n ss = AllByRecursion (λ s. s < n) ss
-
 pub below : (n s : ℕ) (ss : List ℕ) → s ≤ n → All (λ t. t < s) ss → AllBelow n ss
 below n s ss le h = each_weaker (λ t. t < s) (λ t. t < n) (λ t lt. omega (arith, lt, le)) ss (recursion_from_All (λ t. t < s) ss h)
 
@@ -47,9 +45,7 @@ abbrev pub AreNames : List (List ℕ) → Type 0
 AreNames ws = AllByRecursion (λ w. is_name w ≡ true) ws
 
 named_at : (names : List (List ℕ)) (s : ℕ) → AreNames names → s < length names → is_name (get_or names s []) ≡ true
-named_at [] s h lt = absurd (omega (arith, lt))
-named_at (w ∷ names) zero h lt = h.0
-named_at (w ∷ names) (suc s) h lt = named_at names s h.1 (omega (arith, lt))
+named_at names s h lt = All-from_recursion (λ w. is_name w ≡ true) names h s [] lt
 
 pub all_named : (names : List (List ℕ)) (ss : List ℕ) → AreNames names → AllBelow (length names) ss → AreNames (map (name_of names) ss)
 all_named names [] h b = tt

@@ -9,7 +9,7 @@ use ae_net::{Gate, Net, Pins, and_gate, exor};
 use std::alloc::Global;
 use std::test::Fail;
 
-#[tactic(auto, using(ae_net::proofs::InnerAreNames::found_some, ae_net::proofs::InnerAreNames::found_is))]
+#[tactic(auto, using(ae_base::proofs::Names::found_some, ae_base::proofs::Names::found_is))]
 fn name_of(alloc: Global, bytes: &[u8]) -> Result<Name, Memory>
     requires { is_name bytes.now ≡ true }
     ensures { IfOk result (λ name. name ≡ bytes.now) }

@@ -1,10 +1,9 @@
 -- Steps of the loops that build the network.
-use Rattle.std.proofs.Common.{◌≡◌, ℕ, zero, suc, ◌+◌, ◌-◌, ◌<◌, ◌≤◌, Bool, true, cond, inl, inr, List, [], ◌∷◌, ◌++◌, length, map, get_or, drop, refl, sym, ap, ◌∙◌, arith, append-nil, append_assoc, map-id, length-append}
+use Rattle.std.proofs.Common.{◌≡◌, ℕ, zero, suc, ◌+◌, ◌-◌, ◌<◌, ◌≤◌, Bool, true, cond, inl, inr, List, [], ◌∷◌, ◌++◌, length, map, get_or, drop, refl, sym, ap, ◌∙◌, arith, append-nil, append_assoc, length-append}
 use Rattle.std.specs.Prelude.{filter, All, slice_index}
 use Rattle.std.specs.List.{range_with_len}
 use Rattle.std.specs.Fmt.{decimal}
 use Rattle.std.proofs.lemmas.Bool.{cases_Bool}
-use Rattle.std.proofs.lemmas.List.FromFn.{map-range_with_len_more}
 use Rattle.std.proofs.lemmas.List.Elements.{filter-append}
 use Rattle.std.proofs.Common.{add-one, drop-cons, ne_eqb, eq-eqb}
 use Rattle.std.proofs.lemmas.List.{length-map, map-append}
@@ -31,20 +30,13 @@ use Rattle.cascade.specs.Reddy.{gates_for, place_of}
 use Rattle.ae_base.specs.declared.limits.TheConstants.{NET_LINES, PINS, GATES}
 use Rattle.cascade.specs.declared.limits.TheConstants.{REDDY_TERMS}
 use Rattle.ae_base.specs.Mask.{Set, has, first, inside, members}
-use Rattle.ae_base.proofs.Members.{members-filter}
+pub use Rattle.ae_base.proofs.Members.{members-filter as members_below_n}
+use Rattle.ae_base.proofs.Written.{range_more}
 use Rattle.ae_net.specs.Names.{inner}
-
-range_more : (k : ℕ) → range_with_len 0 (k + 1) ≡ range_with_len 0 k ++ k ∷ []
-range_more k = sym (map-id (range_with_len 0 (k + 1))) ∙ map-range_with_len_more (λ i. i) 0 k k (omega arith) ∙ ap (λ l. l ++ k ∷ []) (map-id (range_with_len 0 k))
 
 pub filter_range_more : (p : ℕ → Bool) (k : ℕ) → filter p (range_with_len 0 (k + 1)) ≡ cond (p k) (filter p (range_with_len 0 k) ++ k ∷ []) (filter p (range_with_len 0 k))
 filter_range_more p k =
     ap (filter p) (range_more k) ∙ filter-append p (range_with_len 0 k) (k ∷ []) ∙ elim (cases_Bool (p k)) [ inl e ↦ rw e refl | inr e ↦ rw e (append-nil _) ]
-
--- ---- members of a term over the first n inputs
-
-pub members_below_n : (n : ℕ) (t : Set) → inside t (first n) ≡ true → members t ≡ filter (has t) (range_with_len 0 n)
-members_below_n n t below = members-filter n t below
 
 -- ---- steps of the loops
 

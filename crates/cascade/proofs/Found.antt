@@ -1,25 +1,21 @@
 -- Elements that stand in a list, and their places.
-use Rattle.std.proofs.Common.{◌≡◌, ◌≢◌, ℕ, zero, suc, ◌<◌, Bool, true, false, not, ◌&&◌, ◌||◌, cond, inl, inr, List, [], ◌∷◌, length, get_or, Less, Equal, Greater, refl, sym, ap, ◌∙◌, subst, arith, eqb, eqb-true, eq-eqb, ne_eqb}
-use Rattle.std.specs.Prelude.{Some, All, AllPairs, filter, slice_get}
+use Rattle.std.proofs.Common.{◌≡◌, ◌≢◌, ℕ, zero, suc, ◌<◌, Bool, true, false, ◌||◌, cond, inl, inr, List, [], ◌∷◌, length, get_or, refl, sym, ap, ◌∙◌, subst, arith, eqb, eqb-true, eq-eqb, ne_eqb}
+use Rattle.std.specs.Prelude.{Some, All, filter, slice_get}
 use Rattle.std.specs.List.{list_any, flat_map, AllByRecursion}
-use Rattle.std.specs.Ordering.{is_lt}
-use Rattle.std.specs.declared.cmp.Ordering.{Ordering}
-use Rattle.std.proofs.lemmas.Bool.{cases_eq, cases_Bool, false≢true, or_cases}
+use Rattle.std.proofs.lemmas.Bool.{cases_eq, false≢true, or_cases, or_left, or_right}
 use Rattle.std.proofs.lemmas.List.Elements.{All-from_recursion, recursion_from_All}
 use Rattle.std.proofs.lemmas.List.Folds.{Any-from_list_any}
-use Rattle.std.proofs.lemmas.List.Kept.{AllPairs-cons, AllPairs-from_increasing}
+use Rattle.std.proofs.lemmas.List.Kept.{AllPairs-from_increasing}
 use Rattle.std.proofs.lemmas.Option.{slice_get_within, slice_get-get_or, get_or_from_slice_get}
-use Rattle.ae_base.specs.Mask.{Set, first, inside, members, cmp_terms}
-use Rattle.ae_base.specs.Terms.{IsInOrder}
-use Rattle.ae_base.proofs.InOrder.{less_from_sorted}
+use Rattle.ae_base.specs.Mask.{Set, first, inside, members}
+use Rattle.ae_base.proofs.InOrder.{in_order-order, any-in_order}
 use Rattle.ae_base.proofs.Members.{members-increasing}
-use Rattle.ae_base.proofs.Order.{less_trans, less_apart}
-use Rattle.ae_net.proofs.Distinct.{Distinct, Distinct-from_AllPairs, each_weaker}
+use Rattle.ae_base.proofs.Order.{less_apart}
+use Rattle.ae_net.proofs.Distinct.{Distinct, Distinct-from_AllPairs}
 use Rattle.expansion.specs.Terms.{Terms, IsTerms}
-use Rattle.cascade.specs.Reddy.{place_of, placed, in_order, is_wide, wide_terms}
-use Rattle.cascade.proofs.Law.{Stands, order_tail}
-use Rattle.cascade.proofs.Lists.{or_left, or_right, any_flat, any-in_order}
-use Rattle.cascade.proofs.Valid.{each_placed}
+use Rattle.cascade.specs.Reddy.{place_of, is_wide, wide_terms}
+use Rattle.cascade.proofs.Law.{Stands}
+use Rattle.cascade.proofs.Lists.{any_flat}
 
 -- ---- elements
 
@@ -78,33 +74,7 @@ place_apart (u ∷ us) x y h k e =
     back : {m n : ℕ} → suc m ≡ suc n → m ≡ n
     back z = omega arith
 
--- ---- terms in order
-
-less_is : (t u : Set) → is_lt (cmp_terms t u) ≡ true → cmp_terms t u ≡ Less
-less_is t u h = by_order (cmp_terms t u) refl
-  where
-    by_order : (o : Ordering) → cmp_terms t u ≡ o → cmp_terms t u ≡ Less
-    by_order Less e = e
-    by_order Equal e = absurd (false≢true (sym (ap is_lt e) ∙ h))
-    by_order Greater e = absurd (false≢true (sym (ap is_lt e) ∙ h))
-
-pub placed-order : (t : Set) (us : List Set) → IsInOrder us → IsInOrder (placed t us)
-placed-order t [] order = λ i j d l k. absurd (omega (arith, k, l))
-placed-order t (u ∷ us) order = by_same (eqb t u) refl (is_lt (cmp_terms t u)) refl (placed-order t us (order_tail u us order))
-  where
-    above : AllByRecursion (λ y. cmp_terms u y ≡ Less) us
-    above = recursion_from_All _ us (λ k d l. order 0 (suc k) d (omega arith) (omega (arith, l)))
-
-    by_same : (b : Bool) → eqb t u ≡ b → (c : Bool) → is_lt (cmp_terms t u) ≡ c → IsInOrder (placed t us) → IsInOrder (cond b (u ∷ us) (cond c (t ∷ u ∷ us) (u ∷ placed t us)))
-    by_same true e c f h = order
-    by_same false e true f h =
-        AllPairs-cons (λ s y. cmp_terms s y ≡ Less) t (u ∷ us) (All-from_recursion _ (u ∷ us) (less_is t u f, each_weaker (λ y. cmp_terms u y ≡ Less) (λ y. cmp_terms t y ≡ Less) (λ y l. less_trans t u y (less_is t u f) l) us above)) order
-    by_same false e false f h =
-        AllPairs-cons (λ s y. cmp_terms s y ≡ Less) u (placed t us) (All-from_recursion _ (placed t us) (each_placed (λ y. cmp_terms u y ≡ Less) t us (less_from_sorted u t f (λ same. false≢true (sym e ∙ eq-eqb t u (sym same)))) above)) h
-
-pub in_order-order : (ts : List Set) → IsInOrder (in_order ts)
-in_order-order [] = λ i j d l k. absurd (omega (arith, k, l))
-in_order-order (t ∷ ts) = placed-order t (in_order ts) (in_order-order ts)
+-- ---- terms that differ
 
 -- the terms of two or more members are different
 pub wide_apart : (e : Terms) → Distinct (wide_terms e)

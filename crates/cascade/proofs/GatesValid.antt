@@ -3,7 +3,7 @@ use Rattle.std.proofs.Common.{◌≡◌, ◌≢◌, ℕ, zero, suc, ◌+◌, ◌
 use Rattle.std.specs.Prelude.{slice_index, filter, codes, All}
 use Rattle.std.specs.List.{list_any, range_with_len, AllByRecursion}
 use Rattle.std.specs.Fmt.{decimal}
-use Rattle.std.proofs.lemmas.Bool.{cases_eq, cases_Bool, false≢true}
+use Rattle.std.proofs.lemmas.Bool.{cases_eq, cases_Bool, false≢true, or_left, or_right}
 use Rattle.std.proofs.lemmas.List.{length-map}
 use Rattle.std.proofs.lemmas.List.Elements.{All-from_recursion, All-map, All-weaker}
 use Rattle.ae_base.specs.Mask.{Set, has, empty, first, inside, members}
@@ -13,6 +13,7 @@ use Rattle.ae_net.specs.Valid.{IsGate}
 use Rattle.expansion.specs.Terms.{Terms}
 use Rattle.ae_base.specs.declared.limits.TheConstants.{NET_LINES, SOURCE_NAME_BYTES}
 use Rattle.ae_base.specs.Name.{is_name}
+use Rattle.ae_base.proofs.Sets.{inside-below}
 use Rattle.ae_net.specs.Names.{inner, IsLetter}
 use Rattle.ae_net.proofs.InnerAreNames.{letter_is_name, numbered_is_name}
 use Rattle.ae_net.proofs.GatesValid.{AreGates, AreGates-append, IsGate-inverter, IsGate-buffer, IsGate-exor, IsGate-and}
@@ -20,9 +21,9 @@ use Rattle.cascade.proofs.NamesApart.{all_inner}
 use Rattle.ae_net.specs.Gates.{inverter, and_gate}
 use Rattle.expansion.specs.Terms.{is_used}
 use Rattle.cascade.specs.Reddy.{place_of, gates_for, lines, turned, literal_signal, has_one, control_gates, start, is_wide, wide_terms, and_place, chain_place, term_signal, links, chain, rest, inner_gates, chains}
-use Rattle.cascade.proofs.Lists.{or_left, or_right, length_filter_le}
+use Rattle.cascade.proofs.Lists.{length_filter_le}
 use Rattle.ae_net.proofs.Distinct.{each_weaker}
-use Rattle.cascade.proofs.Law.{Stands, used_since, wide_stands, turned_stands, members_below, no_members, length-chain}
+use Rattle.cascade.proofs.Law.{Stands, used_since, wide_stands, turned_stands, no_members, length-chain}
 
 -- ---- names
 
@@ -74,7 +75,7 @@ pub literals_below : (e : Terms) (t : Set) → Stands e t → inside t (first e.
 literals_below e t stands below =
     All-map (λ pin. pin < lines e + length (turned e)) (literal_signal e) (members t) (All-from_recursion _ (members t) (each_member (λ j. literal_signal e j < lines e + length (turned e)) (members t) (λ j m.
     let h : has t j ≡ true = sym (members-has t j) ∙ m in
-    literal_below e j (members_below e.polarity.n t below j h) (used_since e t j stands h))))
+    literal_below e j (inside-below e.polarity.n t below j h) (used_since e t j stands h))))
 
 IsGate-term : (s : ℕ) (e : Terms) (out : List ℕ) (t : Set) → is_name out ≡ true → e.polarity.n ≤ NET_LINES → lines e + and_place e ≤ s → Stands e t → inside t (first e.polarity.n) ≡ true → IsGate s (and_gate out (map (literal_signal e) (members t)))
 IsGate-term s e out t named few low stands below =
@@ -134,7 +135,7 @@ term_below e t stands below some = by_width (is_wide t) refl
     by_width true wide = omega (arith, place_below (wide_terms e) t (wide_stands e t stands wide))
     by_width false narrow =
         let h : has t (slice_index (members t) 0) ≡ true = first_member t some in
-        omega (arith, literal_below e (slice_index (members t) 0) (members_below e.polarity.n t below _ h) (used_since e t _ stands h), and_place_from e)
+        omega (arith, literal_below e (slice_index (members t) 0) (inside-below e.polarity.n t below _ h) (used_since e t _ stands h), and_place_from e)
 
 -- a chain's gates, where its start and its terms are earlier signals
 AreGates-links : (k : ℕ) (e : Terms) (out : List ℕ) (c i y : ℕ) (t : Set) (ts : List Set) → k ≤ SOURCE_NAME_BYTES + 1 → is_name out ≡ true → c + length ts < 2 ^ 64 → y < lines e + i

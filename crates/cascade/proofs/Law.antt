@@ -3,13 +3,14 @@ use Rattle.std.proofs.Common.{◌≡◌, ◌≢◌, ℕ, zero, suc, ◌+◌, ◌
 use Rattle.std.specs.Prelude.{Option, Some, None, filter, slice_get, slice_index, codes}
 use Rattle.std.specs.List.{list_any, list_all, flat_map, range_with_len, AllByRecursion}
 use Rattle.std.specs.Fmt.{decimal}
-use Rattle.std.proofs.lemmas.Bool.{cases_eq, cases_Bool, and_from, lt-ltb, ltb-true, ltb-false}
+use Rattle.std.proofs.lemmas.Bool.{cases_eq, cases_Bool, and_from, lt-ltb, ltb-false, or_left, or_right}
 use Rattle.std.proofs.lemmas.List.Elements.{recursion_from_All}
 use Rattle.std.proofs.lemmas.List.Folds.{list_all-map}
 use Rattle.std.proofs.lemmas.Option.{slice_get_within, get_or_from_slice_get}
 use Rattle.std.specs.declared.cmp.Ordering.TheVariants.{Less}
+use Rattle.std.proofs.Math.Bool.{and-true}
 use Rattle.ae_base.specs.Mask.{Set, differ, has, empty, first, inside, len, members, cmp_terms}
-use Rattle.ae_base.proofs.Sets.{same_set, has-empty, has-first, inside-has, has-where_below}
+use Rattle.ae_base.proofs.Sets.{same_set, has-empty, has-where_below, inside-below}
 use Rattle.ae_base.proofs.Members.{members-has, cmp_same, len-members, len-none}
 use Rattle.ae_net.specs.declared.net.Gate.{Gate}
 use Rattle.ae_net.specs.declared.net.Fault.{Fault}
@@ -19,15 +20,18 @@ use Rattle.ae_net.specs.Run.{value_of, IsRun, run, out}
 use Rattle.ae_net.proofs.Runs.{IsRun-run, out_of_run}
 use Rattle.expansion.specs.Terms.{Terms, IsTerms}
 use Rattle.ae_base.specs.Terms.{IsInOrder, literal, product, exor_of, value}
+use Rattle.ae_base.proofs.InOrder.{in_order-tail, any-in_order}
+use Rattle.ae_base.proofs.Truth.{differ-assoc, differ-front}
 use Rattle.ae_net.specs.Names.{Names, lead, inner}
 use Rattle.ae_net.specs.Gates.{and_gate}
 use Rattle.expansion.specs.Terms.{is_used}
+use Rattle.expansion.proofs.Lists.{any_at}
 use Rattle.cascade.specs.Reddy.{place_of, gates_for, lines, turned, literal_signal, inverters, has_one, control_gates, start, is_wide, wide_terms, and_place, chain_place, term_signal, and_gates, chain, links, rest, inner_gates, chains, ends, gates, reddy_net}
 use Rattle.cascade.specs.Shows.{Fits as FitsNames}
 use Rattle.ae_net.proofs.Distinct.{each_weaker}
 use Rattle.ae_net.proofs.Follow.{EachGate, EachGate-append, Fits, Follows, Follows-run}
 use Rattle.ae_net.proofs.Tables.{table-inverter, table-and, all_see-none}
-use Rattle.cascade.proofs.Lists.{or_left, or_right, any_weaker, any_flat, any_at, any_kept, any_range, any-in_order, list_all_agree, filter_all}
+use Rattle.cascade.proofs.Lists.{any_weaker, any_flat, any_kept, any_range, list_all_agree, filter_all}
 use Rattle.cascade.proofs.Values.{EachGate-gates_for, Shows, value-chain}
 
 -- some output has the term
@@ -54,11 +58,7 @@ no_members t e = same_set t empty (λ k. sym (members-has t k) ∙ ap (list_any 
 
 narrow_all : (f : ℕ → Bool) (ms : List ℕ) → length ms ≤ 1 → (ms ≢ []) → f (slice_index ms 0) ≡ list_all f ms
 narrow_all f [] l some = absurd (some refl)
-narrow_all f (j ∷ []) l some = and_one (f j)
-  where
-    and_one : (b : Bool) → b ≡ (b && true)
-    and_one true = refl
-    and_one false = refl
+narrow_all f (j ∷ []) l some = sym (and-true (f j))
 narrow_all f (j ∷ k ∷ ms) l some = absurd (omega (arith, l))
 
 -- ---- the values of a run without a fault
@@ -87,9 +87,6 @@ value-literal k e x w parts j l used = by_sign (has e.polarity.plain j) refl
         ∙ table-inverter None w (place_of (turned e) j) _ j
         ∙ ap not (parts.inputs j (omega arith))
 
-pub members_below : (n : ℕ) (t : Set) → inside t (first n) ≡ true → (j : ℕ) → has t j ≡ true → j < n
-members_below n t h j m = ltb-true j n (sym (has-first n j) ∙ inside-has t (first n) h j m)
-
 pub and_fits : (fault : Option Fault) (k : ℕ) (e : Terms) (w : List Bool) → Follows fault w (lines e) (and_place e) (and_gates k e) → (t : Set) → Stands e t → is_wide t ≡ true
     → Fits fault w (lines e) (and_place e + place_of (wide_terms e) t) (and_of k e (place_of (wide_terms e) t) t)
 and_fits fault k e w h t stands wide =
@@ -105,7 +102,7 @@ unfolding product
 value-literals e x w literals t stands below =
     list_all_agree _ _ (members t) (λ j m.
     let h : has t j ≡ true = sym (members-has t j) ∙ m in
-    literals j (members_below e.polarity.n t below j h) (used_since e t j stands h))
+    literals j (inside-below e.polarity.n t below j h) (used_since e t j stands h))
 
 pub value-term : (k : ℕ) (e : Terms) (x : Set) (w : List Bool) → Literals e x w → (t : Set) → FitsAnd k e w t → Stands e t → inside t (first e.polarity.n) ≡ true → (t ≢ empty)
     → value_of w (term_signal e t) ≡ product e.polarity t x
@@ -163,23 +160,14 @@ later_terms t ts order e0 =
     less_not_equal : cmp_terms t t ≡ Less → ⊥
     less_not_equal h = let k = sym (cmp_same t) ∙ h in cc
 
-pub order_tail : (t : Set) (ts : List Set) → IsInOrder (t ∷ ts) → IsInOrder ts
-order_tail t ts order i j d l h = order (suc i) (suc j) d (omega arith) (omega (arith, h))
-
 -- the empty term is 1 everywhere, and stands at most once
 pub value-rest : (e : Terms) (x : Set) (ts : List Set) → IsInOrder ts → value e.polarity ts x ≡ differ (has_one ts) (value e.polarity (rest ts) x)
 value-rest e x [] order = refl
 value-rest e x (t ∷ ts) order =
     elim (cases_eq t empty) [
       | inl e0 ↦ rw (eq-eqb t empty e0, rest_all ts (later_terms t ts order e0)) (ap (λ b. differ b (value e.polarity ts x)) (ap (λ s. product e.polarity s x) e0 ∙ product-empty e x))
-      | inr some ↦ rw (ne_eqb t empty some) (ap (differ (product e.polarity t x)) (value-rest e x ts (order_tail t ts order)) ∙ differ-swap (product e.polarity t x) (has_one ts) (value e.polarity (rest ts) x))
+      | inr some ↦ rw (ne_eqb t empty some) (ap (differ (product e.polarity t x)) (value-rest e x ts (in_order-tail t ts order)) ∙ differ-front (product e.polarity t x) (has_one ts) (value e.polarity (rest ts) x))
     ]
-  where
-    differ-swap : (a b c : Bool) → differ a (differ b c) ≡ differ b (differ a c)
-    differ-swap true true c = refl
-    differ-swap true false c = refl
-    differ-swap false true c = refl
-    differ-swap false false c = refl
 
 -- ---- the start of a chain
 
@@ -249,12 +237,9 @@ built P k names e all =
       outputs = subst (λ p. EachGate P p (chains k e 0 (and_place e + length (wide_terms e)) e.outs names.outputs)) (ap (λ n. and_place e + n) (length-gates_for _ 0 (wide_terms e))) three.1;
     }
 
-pub differ-flip : (a b c : Bool) → differ (differ a b) c ≡ differ b (differ a c)
-differ-flip true true true = refl
-differ-flip true true false = refl
-differ-flip true false c = refl
-differ-flip false true c = refl
-differ-flip false false c = refl
+-- the second before the others
+pub differ-past : (a b c : Bool) → differ (differ a b) c ≡ differ b (differ a c)
+differ-past a b c = differ-assoc a b c ∙ differ-front a b c
 
 -- output o shows its function, complemented where the control is 1
 pub shows : (names : Names) (e : Terms) → IsTerms e → FitsNames names e → IsValid (reddy_net names e) → (x : Set) (o : ℕ) (ts : List Set) → slice_get e.outs o ≡ Some ts
@@ -279,5 +264,5 @@ shows names e terms fits valid x o ts there =
     ∙ ap (λ c. c && value_of w (slice_index n.outputs o)) (lt-ltb o (length n.outputs) (omega (arith, length-ends e (chain_place e) e.outs)))
     ∙ value-port (lead names) e w (λ t. product e.polarity t x) 0 (chain_place e) e.outs names.outputs b.outputs fits.outputs o ts there products
     ∙ ap (λ c. differ c (value e.polarity (rest ts) x)) (value-start (lead names) e (has x e.polarity.n) w (inputs.inputs e.polarity.n (omega arith)) b.control o ts there)
-    ∙ differ-flip (has_one ts) (has x e.polarity.n) (value e.polarity (rest ts) x)
+    ∙ differ-past (has_one ts) (has x e.polarity.n) (value e.polarity (rest ts) x)
     ∙ ap (differ (has x e.polarity.n)) (sym (value-rest e x ts order))

@@ -1,63 +1,38 @@
 -- The shared terms stand in term order without repeats: a sort lists them, and a binary search finds them.
-use Rattle.std.proofs.Common.{◌≡◌, ◌≢◌, ℕ, zero, suc, ◌<◌, ◌≤◌, true, cond, inl, inr, List, [], ◌∷◌, length, get_or, refl, sym, ap, ◌∙◌, subst, arith, eqb, eqb-true, eq-eqb, ne_eqb}
+use Rattle.std.proofs.Common.{◌≡◌, ◌≢◌, ℕ, zero, suc, ◌<◌, ◌≤◌, true, inl, inr, List, [], ◌∷◌, length, get_or, refl, sym, ap, ◌∙◌, subst, arith, eqb, eqb-true, eq-eqb, ne_eqb}
 use Rattle.std.specs.Prelude.{filter, Contains, nat_eq}
 use Rattle.std.specs.declared.cmp.Ordering.{Ordering}
 use Rattle.std.specs.declared.cmp.Ordering.TheVariants.{Less, Equal, Greater}
-use Rattle.std.specs.Ordering.{is_lt, ordering_index, ordering_reverse}
+use Rattle.std.specs.Ordering.{ordering_index}
 use Rattle.std.specs.List.{HoldsAt, dedup, flat_map, list_any}
 use Rattle.std.specs.List.Retain.{IsFiltered, DiffersFromLast}
 use Rattle.std.specs.List.Sorted.{IsPermutation, IsSorted, IsStrictlySortedBy, IsNonDecreasingBy, IsPartitionPoint}
-use Rattle.std.proofs.lemmas.Bool.{cases_eq, cases_lt}
+use Rattle.std.proofs.lemmas.Bool.{cases_lt}
 use Rattle.std.proofs.lemmas.List.Elements.{All-from_recursion}
 use Rattle.std.proofs.lemmas.List.Filters.{dedup_is}
 use Rattle.std.proofs.lemmas.List.Folds.{Any-from_list_any, list_any_at}
 use Rattle.std.proofs.lemmas.List.Kept.{AllPairs-cons, Contains-dedup_nat, Contains-from_dedup, IsStrictlySortedBy-dedup}
 use Rattle.std.proofs.lemmas.List.Sorted.{list_any-IsPermutation}
 use Rattle.ae_base.specs.Mask.{Set, cmp_terms}
-use Rattle.ae_base.specs.Terms.{IsInOrder}
-use Rattle.ae_base.proofs.InOrder.{in_order-same}
+use Rattle.ae_base.specs.Terms.{IsInOrder, in_order}
+use Rattle.ae_base.proofs.InOrder.{in_order-same, in_order-order, any-in_order}
 use Rattle.ae_base.proofs.Order.{cmp_terms_total, cmp_equal, cmp_same, equal_where_tied, less_apart, less_trans}
-use Rattle.ae_net.proofs.Distinct.{each_weaker}
-use Rattle.ae_net.proofs.Rows.{same_truth}
+use Rattle.ae_base.proofs.Truth.{same_truth}
 use Rattle.expansion.specs.Terms.{Terms}
 use Rattle.cascade.specs.declared.signals.Plan.{Plan}
 use Rattle.cascade.specs.Plan.{IsPlan}
-use Rattle.cascade.specs.Reddy.{place_of, placed, in_order, is_wide, wide_terms}
-use Rattle.cascade.proofs.Lists.{any-in_order}
-use Rattle.cascade.proofs.Valid.{each_placed}
+use Rattle.cascade.specs.Reddy.{place_of, is_wide, wide_terms}
 
--- ---- terms that are put in their places
-
-placed_rises : (t : Set) (us : List Set) → IsStrictlySortedBy cmp_terms us → IsStrictlySortedBy cmp_terms (placed t us)
-unfolding IsStrictlySortedBy
-placed_rises t [] h = (tt, tt)
-placed_rises t (u ∷ us) (h, hs) =
-    elim (cases_eq t u) [
-      | inl e ↦ rw (eq-eqb t u e) (h, hs)
-      | inr ne ↦ rw (ne_eqb t u ne) (by_order (cmp_terms t u) refl ne (placed_rises t us hs))
-    ]
-  where
-    by_order : (o : Ordering) → cmp_terms t u ≡ o → t ≢ u → IsStrictlySortedBy cmp_terms (placed t us) → IsStrictlySortedBy cmp_terms (cond (is_lt o) (t ∷ u ∷ us) (u ∷ placed t us))
-    by_order Less e ne k = ((e, each_weaker (λ v. cmp_terms u v ≡ Less) (λ v. cmp_terms t v ≡ Less) (λ v l. less_trans t u v e l) us h), (h, hs))
-    by_order Equal e ne k = absurd (ne (cmp_equal t u e))
-    by_order Greater e ne k = (each_placed (λ v. cmp_terms u v ≡ Less) t us (cmp_terms_total.antisymm u t ∙ ap ordering_reverse e) h, k)
-
-in_order_rises : (ts : List Set) → IsStrictlySortedBy cmp_terms (in_order ts)
-unfolding IsStrictlySortedBy
-in_order_rises [] = tt
-in_order_rises (t ∷ ts) = placed_rises t (in_order ts) (in_order_rises ts)
+-- ---- terms in order
 
 IsInOrder-from_rises : (ts : List Set) → IsStrictlySortedBy cmp_terms ts → IsInOrder ts
 unfolding IsStrictlySortedBy
 IsInOrder-from_rises [] h = λ i j d l k. absurd (omega (arith, k))
 IsInOrder-from_rises (t ∷ ts) (h, hs) = AllPairs-cons (λ s u. cmp_terms s u ≡ Less) t ts (All-from_recursion (λ u. cmp_terms t u ≡ Less) ts h) (IsInOrder-from_rises ts hs)
 
-pub IsInOrder-in_order : (ts : List Set) → IsInOrder (in_order ts)
-IsInOrder-in_order ts = IsInOrder-from_rises (in_order ts) (in_order_rises ts)
-
 pub IsInOrder-wide_terms : (e : Terms) → IsInOrder (wide_terms e)
 unfolding wide_terms
-IsInOrder-wide_terms e = IsInOrder-in_order (filter is_wide (flat_map (λ ts. ts) e.outs))
+IsInOrder-wide_terms e = in_order-order (filter is_wide (flat_map (λ ts. ts) e.outs))
 
 pub plan_in_order : (plan : Plan) (e : Terms) → IsPlan plan e → IsInOrder plan.wide.items
 plan_in_order plan e is = subst IsInOrder (sym is.wide) (IsInOrder-wide_terms e)
@@ -67,7 +42,7 @@ plan_in_order plan e is = subst IsInOrder (sym is.wide) (IsInOrder-wide_terms e)
 any-from_Contains : (ts : List Set) (t : Set) → Contains ts t → list_any (λ u. eqb u t) ts ≡ true
 any-from_Contains ts t (k, l, e) = list_any_at (λ u. eqb u t) ts k t l (eq-eqb _ t e)
 
-Contains-from_any : (ts : List Set) (t : Set) → list_any (λ u. eqb u t) ts ≡ true → Contains ts t
+pub Contains-from_any : (ts : List Set) (t : Set) → list_any (λ u. eqb u t) ts ≡ true → Contains ts t
 Contains-from_any ts t h =
     let at = Any-from_list_any (λ u. eqb u t) ts h in
     let same : at.1 ≡ t = eqb-true at.1 t at.4 in
@@ -86,7 +61,7 @@ sorted_terms ts us vs moved sorted kept =
     dedup_is nat_eq us vs kept
     ∙ in_order-same (dedup nat_eq us) (in_order ts)
     (IsInOrder-from_rises (dedup nat_eq us) (IsStrictlySortedBy-dedup cmp_terms_total equal_where_tied us sorted))
-    (IsInOrder-in_order ts)
+    (in_order-order ts)
     (λ v. any-dedup us v ∙ sym (list_any-IsPermutation (λ u. eqb u v) ts us moved) ∙ sym (any-in_order (λ u. eqb u v) ts))
 
 -- ---- a binary search

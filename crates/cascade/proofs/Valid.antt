@@ -3,7 +3,7 @@ use Rattle.std.proofs.Common.{◌≡◌, ℕ, suc, ◌+◌, ◌<◌, ◌≤◌, 
 use Rattle.std.specs.Prelude.{filter, codes, All}
 use Rattle.std.specs.List.{list_any, flat_map, range_with_len, AllByRecursion}
 use Rattle.std.specs.Ordering.{is_lt}
-use Rattle.std.proofs.lemmas.Bool.{cases_eq, cases_Bool}
+use Rattle.std.proofs.lemmas.Bool.{cases_eq, cases_Bool, or_left, or_right}
 use Rattle.std.proofs.lemmas.List.Elements.{All-from_recursion, recursion_from_All}
 use Rattle.std.proofs.lemmas.List.Concat.{length-flat_map}
 use Rattle.std.proofs.lemmas.List.FromFn.{length-range_with_len}
@@ -11,14 +11,16 @@ use Rattle.ae_base.specs.Mask.{Set, has, empty, first, inside, cmp_terms}
 use Rattle.ae_net.specs.Valid.{IsValid}
 use Rattle.expansion.specs.Terms.{Terms, IsTerms, cost, is_used}
 use Rattle.ae_net.specs.Names.{Names, IsNames, lead, inner}
-use Rattle.cascade.specs.Reddy.{lines, turned, inverters, has_one, control_gates, start, placed, in_order, is_wide, wide_terms, and_place, chain_place, term_signal, and_gates, chain, rest, inner_gates, chains, ends, gates, reddy_net}
+use Rattle.cascade.specs.Reddy.{lines, turned, inverters, has_one, control_gates, start, is_wide, wide_terms, and_place, chain_place, term_signal, and_gates, chain, rest, inner_gates, chains, ends, gates, reddy_net}
 use Rattle.cascade.specs.Shows.{Fits}
-use Rattle.cascade.proofs.Lists.{or_left, or_right, length_filter_le}
+use Rattle.cascade.proofs.Lists.{length_filter_le}
 use Rattle.ae_net.proofs.Distinct.{each_front, Distinct, AllPairs-from_Distinct, Distinct-from_AllPairs, each_weaker, each-append}
 use Rattle.ae_net.proofs.LeadLemmas.{lead_is_lead, lead_few}
 use Rattle.ae_net.proofs.InnerAreNames.{letter_is_name}
 use Rattle.ae_base.specs.declared.limits.TheConstants.{NET_LINES, SOURCE_NAME_BYTES}
 use Rattle.ae_base.specs.Name.{is_name}
+use Rattle.ae_base.proofs.InOrder.{each_placed}
+use Rattle.ae_base.specs.Terms.{placed, in_order}
 use Rattle.cascade.specs.declared.limits.TheConstants.{REDDY_TERMS}
 use Rattle.cascade.proofs.NamesApart.{names_apart, all_inner}
 use Rattle.cascade.proofs.Law.{Stands, length-chain, length-gates_for, length-control_gates, length-ends}
@@ -105,15 +107,6 @@ each_filter P p (x ∷ xs) (h, hs) = elim (cases_Bool (p x)) [ inl e ↦ rw e (h
 each_flat : (P : Set → Type 0) (tss : List (List Set)) → AllByRecursion (AllByRecursion P) tss → AllByRecursion P (flat_map (λ ts. ts) tss)
 each_flat P [] h = tt
 each_flat P (ts ∷ tss) (h, hs) = each-append P ts (flat_map (λ us. us) tss) h (each_flat P tss hs)
-
-pub each_placed : (P : Set → Type 0) (t : Set) (us : List Set) → P t → AllByRecursion P us → AllByRecursion P (placed t us)
-each_placed P t [] p h = (p, tt)
-each_placed P t (u ∷ us) p (h, hs) = by_same (eqb t u) (is_lt (cmp_terms t u)) (each_placed P t us p hs)
-  where
-    by_same : (b c : Bool) → AllByRecursion P (placed t us) → AllByRecursion P (cond b (u ∷ us) (cond c (t ∷ u ∷ us) (u ∷ placed t us)))
-    by_same true c k = (h, hs)
-    by_same false true k = (p, (h, hs))
-    by_same false false k = (h, k)
 
 each_in_order : (P : Set → Type 0) (ts : List Set) → AllByRecursion P ts → AllByRecursion P (in_order ts)
 each_in_order P [] h = tt

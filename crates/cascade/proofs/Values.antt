@@ -1,14 +1,14 @@
 -- What the gates of the Reddy network show without a fault.
-use Rattle.std.proofs.Common.{◌≡◌, ℕ, suc, ◌+◌, ◌-◌, Bool, true, false, inl, inr, List, [], ◌∷◌, length, refl, sym, ap, ◌∙◌, arith, eqb, eq-eqb, ne_eqb, add-zero}
-use Rattle.std.specs.Prelude.{Option, None}
+use Rattle.std.proofs.Common.{◌≡◌, ℕ, suc, ◌+◌, ◌-◌, Bool, true, inl, inr, List, [], ◌∷◌, length, sym, ap, ◌∙◌, arith, eqb, eq-eqb, ne_eqb, add-zero}
+use Rattle.std.specs.Prelude.{None}
 use Rattle.std.specs.List.{list_any, AllByRecursion}
 use Rattle.std.proofs.lemmas.Bool.{cases_eq, false≢true}
 use Rattle.ae_base.specs.Mask.{Set, differ}
 use Rattle.ae_net.specs.declared.net.Gate.{Gate}
-use Rattle.ae_net.specs.declared.net.Fault.{Fault}
 use Rattle.ae_net.specs.Run.{value_of}
 use Rattle.expansion.specs.Terms.{Terms}
 use Rattle.ae_base.specs.Terms.{exor_of}
+use Rattle.ae_base.proofs.Truth.{differ-assoc, differ-false}
 use Rattle.cascade.specs.Reddy.{place_of, gates_for, lines, term_signal, links, chain}
 use Rattle.ae_net.proofs.Follow.{EachGate, Follows}
 use Rattle.ae_net.proofs.Tables.{table-exor, table-buffer}
@@ -28,17 +28,6 @@ EachGate-gates_for P i c gate (y ∷ ys) (h, hs) x there =
     ]
 
 -- ---- chains
-
-differ-assoc : (a b c : Bool) → differ (differ a b) c ≡ differ a (differ b c)
-differ-assoc true true true = refl
-differ-assoc true true false = refl
-differ-assoc true false true = refl
-differ-assoc true false false = refl
-differ-assoc false b c = refl
-
-pub differ-false : (a : Bool) → differ a false ≡ a
-differ-false true = refl
-differ-false false = refl
 
 -- the signals of the terms show what the function gives of them
 abbrev pub Shows : Terms → List Bool → (Set → Bool) → List Set → Type 0

@@ -10,13 +10,9 @@ use Rattle.ae_base.specs.Cube.{Signs}
 use Rattle.ae_base.proofs.Sets.{same_set, has-both, has-xor, has-where_below}
 use Rattle.ae_net.proofs.Distinct.{Distinct, AllPairs-from_Distinct, Distinct-from_AllPairs, each_weaker}
 use Rattle.expansion.specs.Terms.{Terms, is_used, used_inputs}
+use Rattle.expansion.proofs.Even.{has-used}
 use Rattle.cascade.specs.FirstVectors.{literals_at, without_repeats}
 use Rattle.cascade.proofs.Lists.{filter_all, length_filter_le}
-
--- an input has its value, all the used ones being below n
-pub has-used : (e : Terms) (k : ℕ) → has (used_inputs e) k ≡ (ltb k e.polarity.n && is_used e k)
-unfolding used_inputs
-has-used e k = has-where_below e.polarity.n (is_used e) k
 
 pub has-literals_at : (p : Signs) (used : Set) (v : Bool) (k : ℕ) → has (literals_at p used v) k ≡ (ltb k p.n && (has used k && cond (has p.plain k) v (not v)))
 unfolding literals_at

@@ -2,8 +2,8 @@
 use Rattle.std.specs.Prelude.{ℕ, suc, ◌+◌, ◌-◌, ◌==◌, Bool, not, ◌&&◌, if◌then◌else◌, List, [], ◌∷◌, ◌++◌, length, map, filter, slice_index, nat_lt, codes}
 use Rattle.std.specs.List.{list_any, flat_map, range_with_len}
 use Rattle.std.specs.Fmt.{decimal}
-use Rattle.std.specs.Ordering.{is_lt}
-use Rattle.ae_base.specs.Mask.{Set, has, empty, members, len, cmp_terms}
+use Rattle.ae_base.specs.Mask.{Set, has, empty, members, len}
+use Rattle.ae_base.specs.Terms.{in_order}
 use Rattle.ae_net.specs.declared.net.Gate.{Gate}
 use Rattle.ae_net.specs.Network.{Network}
 use Rattle.expansion.specs.Terms.{Terms, is_used}
@@ -51,15 +51,6 @@ unfoldable pub start : Terms → List Set → ℕ
 start e ts = if has_one ts then lines e + length (turned e) else e.polarity.n
 
 -- ---- terms
-
--- puts a term in its place, where it is not there yet
-abbrev pub placed : Set → List Set → List Set
-placed t [] = t ∷ []
-placed t (u ∷ us) = if t == u then u ∷ us else if is_lt (cmp_terms t u) then t ∷ u ∷ us else u ∷ placed t us
-
-abbrev pub in_order : List Set → List Set
-in_order [] = []
-in_order (t ∷ ts) = placed t (in_order ts)
 
 -- it has two or more members
 abbrev pub is_wide : Set → Bool

@@ -1,1 +1,4 @@
+pub mod Even
+pub mod Lists
 pub mod OneTerm
+pub mod UsedInputs

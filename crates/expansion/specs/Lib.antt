@@ -1,1 +1,3 @@
+pub mod Even
+pub mod Functions
 pub mod Terms

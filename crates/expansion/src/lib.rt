@@ -2,11 +2,13 @@
 #![tactic(auto)]
 
 mod expansion;
+mod laws;
 mod limits;
 #[cfg(test)]
 mod tests;
 mod used;
 
 pub use expansion::{Expansion, pairs};
+pub use laws::even_law;
 pub use limits::{LISTS, TERMS};
 pub use used::{is_used, used_inputs};

@@ -6,10 +6,11 @@ ghost use Rattle.ae_base.specs.Cube.{Signs};
 ghost use Rattle.ae_base.specs.Terms.{IsPoint, IsInOrder, value};
 ghost use Rattle.fn_store.specs.Davio.{IsExpansion, DependsOn};
 
-/// Each truth function has one expansion at each polarity. The EXOR of the products of its terms is the function, and no other list
-/// in term order without repeats has that EXOR. The function depends on exactly the inputs that its terms hold, and
-/// of n inputs there are at most 2 to the n terms.
+/// Each truth function has one expansion at each polarity. Its terms are over the inputs. The EXOR of the products of its terms is the
+/// function, and no other list in term order without repeats has that EXOR. The function depends on exactly the inputs that its terms
+/// hold, and of n inputs there are at most 2 to the n terms.
 pub fn expansion_law()
+    ensures inside { (p : Signs) (f : Set → Bool) (ts : List Set) → IsExpansion p f ts → All (λ t. inside t (first p.n) ≡ true) ts }
     ensures meaning { (p : Signs) (f : Set → Bool) (ts : List Set) → IsExpansion p f ts → (x : Set) → IsPoint p.n x → value p ts x ≡ f x }
     ensures only { (p : Signs) (f : Set → Bool) (ts : List Set) → IsInOrder ts → All (λ t. inside t (first p.n) ≡ true) ts
         → ((x : Set) → IsPoint p.n x → value p ts x ≡ f x) → IsExpansion p f ts }

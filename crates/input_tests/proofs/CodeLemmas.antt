@@ -8,31 +8,28 @@ use Rattle.std.proofs.lemmas.List.{drop_all}
 use Rattle.std.proofs.lemmas.List.Elements.{All-from_recursion}
 use Rattle.std.proofs.lemmas.List.Folds.{find-append}
 use Rattle.std.proofs.lemmas.Bool.{le-ltb}
+use Rattle.std.proofs.Math.Bool.{or_assoc}
 use Rattle.ae_base.specs.Mask.{Set, differ, has, empty, with, first, inside, both, either, xor, members}
 use Rattle.ae_base.specs.Cube.{Signs}
 use Rattle.ae_base.specs.Terms.{IsPoint, exor_of}
-use Rattle.ae_base.proofs.Members.{members-filter, members-has, outside_first}
-use Rattle.ae_base.proofs.Sets.{same_set, has-both, has-xor, has-where_below, has-either, inside-below, inside-from}
+use Rattle.ae_base.proofs.Members.{members-filter, members-has}
+use Rattle.ae_base.proofs.Sets.{same_set, has-both, has-xor, has-either, inside-below, inside-from, inside-above}
+use Rattle.ae_base.proofs.Truth.{differ-assoc, differ-false}
 use Rattle.ae_net.specs.Valid.{IsDistinct}
 use Rattle.ae_net.proofs.Distinct.{AllPairs-from_Distinct, each-append}
+use Rattle.expansion.specs.Even.{is_odd, even_inputs}
 use Rattle.expansion.specs.Terms.{Terms, IsTerms, is_used, used_inputs}
+use Rattle.expansion.proofs.Even.{has-even, has-used}
+use Rattle.expansion.proofs.Lists.{odd_count}
 use Rattle.cascade.specs.FirstVectors.{literals_at, without_repeats}
 use Rattle.cascade.proofs.CodeLemmas.{filter_range_more}
 use Rattle.cascade.proofs.Found.{stands_inside}
 use Rattle.cascade.proofs.GatesValid.{each_member}
 use Rattle.cascade.proofs.Lists.{any_flat}
-use Rattle.cascade.proofs.Values.{differ-false}
-use Rattle.cascade.proofs.VectorLemmas.{add_last, added, each_once, has-literals_at, has-used, once_apart}
-use Rattle.universal_tests.proofs.AndFaults.{not_not}
-use Rattle.universal_tests.proofs.OddInputs.{odd_count}
-use Rattle.universal_tests.specs.Odd.{is_odd}
+use Rattle.cascade.proofs.VectorLemmas.{add_last, added, each_once, has-literals_at, once_apart}
 use Rattle.input_tests.specs.Added.{all_added}
-use Rattle.input_tests.specs.Inputs.{is_even, even_inputs, first_term, term_high, term_but, pair_at, input_vectors_of}
+use Rattle.input_tests.specs.Inputs.{first_term, term_high, term_but, pair_at, input_vectors_of}
 use Rattle.input_tests.proofs.FirstTerm.{find_member, has-high, has-but}
-
-pub has-even : (e : Terms) (k : ℕ) → has (even_inputs e) k ≡ (ltb k e.polarity.n && is_even e k)
-unfolding even_inputs
-has-even e k = has-where_below e.polarity.n (is_even e) k
 
 pub even_of : (e : Terms) (odd : Set) → ((j : ℕ) → has odd j ≡ is_odd e j) → xor (used_inputs e) (both (used_inputs e) odd) ≡ even_inputs e
 even_of e odd is =
@@ -111,7 +108,7 @@ but_low p used j t below low k l = has-but p used j t k ∙ rw (high_low p used 
 
 -- the first term is one of an expansion
 first_low : (e : Terms) → IsTerms e → (j : ℕ) (t : Set) → first_term e j ≡ Some t → Low e.polarity.n t
-first_low e is j t found = outside_first e.polarity.n t (stands_inside e is t (sym (any_flat (λ u. eqb u t) e.outs) ∙ (find_member (λ u. has u j) (flat_map (λ ts. ts) e.outs) t found).1))
+first_low e is j t found = inside-above e.polarity.n t (stands_inside e is t (sym (any_flat (λ u. eqb u t) e.outs) ∙ (find_member (λ u. has u j) (flat_map (λ ts. ts) e.outs) t found).1))
 
 pair_points : (e : Terms) → IsTerms e → (j : ℕ) → j < e.polarity.n → (t : Option Set) → first_term e j ≡ t → AllByRecursion (IsPoint (e.polarity.n + 1)) (pair_at e.polarity (used_inputs e) j t)
 pair_points e is j l None found = tt
@@ -141,14 +138,9 @@ pub odd_more : (k : ℕ) (odd next : Set) (ts : List Set) (i : ℕ) (item : Set)
     → differ (has next k) (exor_of (λ t. has t k) (drop (i + 1) ts)) ≡ exor_of (λ t. has t k) ts
 odd_more k odd next ts i item l is next_is so =
     ap (λ b. differ b (exor_of (λ t. has t k) (drop (i + 1) ts))) (ap (λ s. has s k) next_is ∙ has-xor odd item k)
-    ∙ by (has odd k) (has item k) (exor_of (λ t. has t k) (drop (i + 1) ts))
+    ∙ differ-assoc (has odd k) (has item k) (exor_of (λ t. has t k) (drop (i + 1) ts))
     ∙ ap (λ us. differ (has odd k) (exor_of (λ t. has t k) us)) (sym (at_item ts i item l is))
     ∙ so
-  where
-    by : (a b c : Bool) → differ (differ a b) c ≡ differ a (differ b c)
-    by true true c = not_not c
-    by true false c = refl
-    by false b c = refl
 
 -- whether the expansion holds the input an odd number of times
 abbrev pub odd_of : ℕ → List Set → Bool
@@ -161,13 +153,9 @@ pub odds_more : (k : ℕ) (odd own next : Set) (tss : List (List Set)) (i : ℕ)
     → (has odd k || list_any (odd_of k) (drop i tss)) ≡ all → (has next k || list_any (odd_of k) (drop (i + 1) tss)) ≡ all
 odds_more k odd own next tss i item all l is own_is next_is so =
     ap (λ b. b || list_any (odd_of k) (drop (i + 1) tss)) (ap (λ s. has s k) next_is ∙ has-either odd own k ∙ ap (λ b. has odd k || b) own_is)
-    ∙ by (has odd k) (odd_of k item) (list_any (odd_of k) (drop (i + 1) tss))
+    ∙ or_assoc (has odd k) (odd_of k item) (list_any (odd_of k) (drop (i + 1) tss))
     ∙ ap (λ us. has odd k || list_any (odd_of k) us) (sym (at_item tss i item l is))
     ∙ so
-  where
-    by : (a b c : Bool) → ((a || b) || c) ≡ (a || (b || c))
-    by true b c = refl
-    by false b c = refl
 
 -- the first term from output i on
 abbrev first_from : ℕ → List (List Set) → ℕ → Option Set

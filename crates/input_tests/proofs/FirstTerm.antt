@@ -1,31 +1,37 @@
 -- At the two vectors of an input an output differs: no other term that holds the input lies inside the first one.
-use Rattle.std.proofs.Common.{◌≡◌, ◌≢◌, ℕ, suc, ◌<◌, Bool, true, false, not, ◌&&◌, ◌||◌, cond, inl, inr, List, [], ◌∷◌, ◌++◌, refl, sym, ap, ap₂, ◌∙◌, subst, arith, eqb, eqb-true, eq-eqb, ne_eqb}
+use Rattle.std.proofs.Common.{◌≡◌, ◌≢◌, ℕ, suc, ◌<◌, Bool, true, false, not, ◌&&◌, ◌||◌, cond, inl, inr, List, [], ◌∷◌, ◌++◌, refl, sym, ap, ap₂, ◌∙◌, subst, arith, eqb, eq-eqb, ne_eqb}
 use Rattle.std.specs.Prelude.{Some, slice_get}
 use Rattle.std.specs.List.{find, flat_map, list_any, list_all, AllByRecursion}
 use Rattle.std.specs.declared.cmp.Ordering.TheVariants.{Less}
-use Rattle.std.proofs.lemmas.Bool.{cases_eq, cases_Bool, and_parts, false≢true, or_cases}
+use Rattle.std.proofs.lemmas.Bool.{cases_eq, cases_Bool, and_parts, false≢true, or_right}
 use Rattle.std.proofs.lemmas.List.Elements.{recursion_from_All}
 use Rattle.std.proofs.lemmas.Option.{same_Some}
-use Rattle.ae_base.specs.Mask.{Set, differ, has, empty, with, first, inside, members, cmp_terms}
+use Rattle.std.proofs.Math.Bool.{and-true}
+use Rattle.ae_base.specs.Mask.{Set, differ, has, first, inside, members, cmp_terms}
 use Rattle.ae_base.specs.Cube.{Signs}
 use Rattle.ae_base.specs.Terms.{IsInOrder, literal, product, exor_of}
 use Rattle.ae_base.proofs.Members.{members-has}
 use Rattle.ae_base.proofs.Order.{less_irreflexive, less_trans, order-inside}
-use Rattle.ae_base.proofs.Sets.{has-empty, has-inside, has-with, has-xor}
+use Rattle.ae_base.proofs.Sets.{has-inside, has-xor}
+use Rattle.ae_base.proofs.InOrder.{in_order-tail}
+use Rattle.ae_base.proofs.Truth.{differ-false, or-false}
 use Rattle.ae_net.specs.Names.{Names}
+use Rattle.fn_store.proofs.Lists.{all_at, exor_of_agree}
+use Rattle.fn_store.proofs.Products.{literals-product}
 use Rattle.expansion.specs.Terms.{Terms, is_used, used_inputs}
+use Rattle.expansion.proofs.Even.{has-flipped, product_false}
 use Rattle.cascade.specs.FirstVectors.{literals_at}
 use Rattle.cascade.specs.Shows.{CanBuild}
 use Rattle.cascade.proofs.Found.{All-get, stands_inside}
-use Rattle.cascade.proofs.Law.{Stands, order_tail}
-use Rattle.cascade.proofs.Lists.{list_all_agree, or_right}
+use Rattle.cascade.proofs.Law.{Stands}
+use Rattle.cascade.proofs.Lists.{list_all_agree}
 use Rattle.cascade.proofs.Valid.{terms_stand}
-use Rattle.cascade.proofs.Values.{differ-false}
-use Rattle.universal_tests.proofs.AtVectors.{used_part, product_true, product_false}
+use Rattle.universal_tests.proofs.AtVectors.{used_part}
+use Rattle.universal_tests.proofs.Line.{Pair}
 use Rattle.universal_tests.proofs.Products.{member_used}
 use Rattle.universal_tests.proofs.Turns.{differ-not_right, stands_at, all_inside}
+use Rattle.universal_tests.proofs.ControlFaults.{other_way}
 use Rattle.input_tests.specs.Inputs.{term_high, term_but}
-use Rattle.input_tests.proofs.Line.{Pair}
 
 -- ---- the first term
 
@@ -76,11 +82,7 @@ has-high p used t k = has-xor (literals_at p used false) t k
 
 pub has-but : (p : Signs) (used : Set) (j : ℕ) (t : Set) (k : ℕ) → has (term_but p used j t) k ≡ differ (has (term_high p used t) k) (eqb k j)
 unfolding term_but
-has-but p used j t k = has-xor (term_high p used t) (with empty j) k ∙ ap (differ (has (term_high p used t) k)) (has-with empty j k ∙ ap (λ b. eqb k j || b) (has-empty k) ∙ or_none (eqb k j))
-  where
-    or_none : (b : Bool) → (b || false) ≡ b
-    or_none true = refl
-    or_none false = refl
+has-but p used j t k = has-flipped j (term_high p used t) k
 
 literal-high : (p : Signs) (used t : Set) (k : ℕ) → k < p.n → has used k ≡ true → literal p k (term_high p used t) ≡ has t k
 literal-high p used t k l u = ap (λ b. cond (has p.plain k) b (not b)) (has-high p used t k ∙ ap (λ b. differ b (has t k)) (used_part p used false k l u)) ∙ by (has p.plain k) (has t k)
@@ -103,29 +105,17 @@ literal-but p used j t k l u =
 
 -- where the term holds the input: a member's literal is 1, but the input's own at the second
 literal-pair : (p : Signs) (used : Set) (j : ℕ) (t : Set) → has t j ≡ true → (b : Bool) (k : ℕ) → k < p.n → has used k ≡ true → literal p k (pair p used j t b) ≡ (has t k && (b || not (eqb k j)))
-literal-pair p used j t m true k l u = literal-high p used t k l u ∙ and_true (has t k)
-  where
-    and_true : (b : Bool) → b ≡ (b && true)
-    and_true true = refl
-    and_true false = refl
-literal-pair p used j t m false k l u = literal-but p used j t k l u ∙ elim (cases_eq k j) [ inl e ↦ rw (eq-eqb k j e, ap (has t) e ∙ m) refl | inr n ↦ rw (ne_eqb k j n) (by (has t k)) ]
-  where
-    by : (b : Bool) → differ b false ≡ (b && true)
-    by true = refl
-    by false = refl
+literal-pair p used j t m true k l u = literal-high p used t k l u ∙ sym (and-true (has t k))
+literal-pair p used j t m false k l u = literal-but p used j t k l u ∙ elim (cases_eq k j) [ inl e ↦ rw (eq-eqb k j e, ap (has t) e ∙ m) refl | inr n ↦ rw (ne_eqb k j n) (differ-false (has t k) ∙ sym (and-true (has t k))) ]
 
 -- ---- the products at the two vectors
-
-every : (f : ℕ → Bool) (xs : List ℕ) → list_all f xs ≡ true → (k : ℕ) → list_any (λ m. eqb m k) xs ≡ true → f k ≡ true
-every f [] h k m = absurd (false≢true m)
-every f (x ∷ xs) h k m = let parts = and_parts _ _ h in elim (or_cases _ _ m) [ inl e ↦ ap f (sym (eqb-true x k e)) ∙ parts.0 | inr later ↦ every f xs parts.1 k later ]
 
 -- a product is 0 where the literals that are 1 are those of members of t, and the term is not inside t
 product_outside : (p : Signs) (x t u : Set) → ((k : ℕ) → has u k ≡ true → literal p k x ≡ true → has t k ≡ true) → (inside u t ≡ true → ⊥) → product p u x ≡ false
 unfolding product
 product_outside p x t u only apart =
     elim (cases_Bool (list_all (λ k. literal p k x) (members u))) [
-      | inl all ↦ absurd (apart (has-inside u t (λ k m. only k m (every (λ k. literal p k x) (members u) all k (members-has u k ∙ m)))))
+      | inl all ↦ absurd (apart (has-inside u t (λ k m. only k m (all_at (λ k. literal p k x) k (members u) (members-has u k ∙ m) all))))
       | inr none ↦ none
     ]
 
@@ -135,10 +125,6 @@ later_outside t u before within = elim (cases_eq u t) [ inl e ↦ less_irreflexi
 product_agree : (p : Signs) (u x y : Set) → ((k : ℕ) → has u k ≡ true → literal p k x ≡ literal p k y) → product p u x ≡ product p u y
 unfolding product
 product_agree p u x y h = list_all_agree (λ k. literal p k x) (λ k. literal p k y) (members u) (λ k m. h k (sym (members-has u k) ∙ m))
-
-exor_both : (f g : Set → Bool) (ts : List Set) → AllByRecursion (λ t. f t ≡ g t) ts → exor_of f ts ≡ exor_of g ts
-exor_both f g [] h = refl
-exor_both f g (t ∷ ts) (h, hs) = ap₂ differ h (exor_both f g ts hs)
 
 later : (t : Set) (us : List Set) → IsInOrder (t ∷ us) → AllByRecursion (λ u. cmp_terms t u ≡ Less) us
 later t us order = recursion_from_All _ us (λ k d l. order 0 (suc k) d (omega arith) (omega (arith, l)))
@@ -182,7 +168,7 @@ module _ (names : Names) (e : Terms) (can : CanBuild names e) (j : ℕ) (used : 
 
   -- the first one
   first_is : (b : Bool) → f b at.t ≡ b
-  first_is true = product_true e.polarity at.t (own true) (λ k m. literal_own true at.t stands below k m ∙ ap (λ a. a && true) m)
+  first_is true = literals-product e.polarity at.t (own true) (λ k m. literal_own true at.t stands below k m ∙ ap (λ a. a && true) m)
   first_is false = product_false e.polarity at.t (own false) j held.0 (literal_own false at.t stands below j held.0 ∙ rw (held.0, eq-eqb j j refl) refl)
 
   rest_same : (b : Bool) (us : List Set) → AllByRecursion (λ u. Stands e u × (inside u (first e.polarity.n) ≡ true)) us → AllByRecursion (λ u. cmp_terms at.t u ≡ Less) us → AllByRecursion (λ u. f b u ≡ f (not b) u) us
@@ -195,28 +181,19 @@ module _ (names : Names) (e : Terms) (can : CanBuild names e) (j : ℕ) (used : 
       elim (cases_Bool (has u j)) [
         | inl e1 ↦
             let same : u ≡ at.t = same_Some u at.t (rw e1 at found) in
-            let rest : exor_of (f b) us ≡ exor_of (f (not b)) us = exor_both (f b) (f (not b)) us (rest_same b us hs (subst (λ t. AllByRecursion (λ u. cmp_terms t u ≡ Less) us) same (later u us order))) in
-            ap₂ differ (ap (f b) same ∙ first_is b) rest ∙ by b (exor_of (f (not b)) us) ∙ ap (λ a. not (differ a (exor_of (f (not b)) us))) (sym (ap (f (not b)) same ∙ first_is (not b)))
-        | inr e1 ↦ ap₂ differ (same_without b u h.0 h.1 e1) (turn b us hs (order_tail u us order) (rw e1 at found)) ∙ differ-not_right (f (not b) u) (exor_of (f (not b)) us)
+            let rest : exor_of (f b) us ≡ exor_of (f (not b)) us = exor_of_agree (f b) (f (not b)) us (rest_same b us hs (subst (λ t. AllByRecursion (λ u. cmp_terms t u ≡ Less) us) same (later u us order))) in
+            ap₂ differ (ap (f b) same ∙ first_is b) rest ∙ other_way b (exor_of (f (not b)) us) ∙ ap (λ a. not (differ a (exor_of (f (not b)) us))) (sym (ap (f (not b)) same ∙ first_is (not b)))
+        | inr e1 ↦ ap₂ differ (same_without b u h.0 h.1 e1) (turn b us hs (in_order-tail u us order) (rw e1 at found)) ∙ differ-not_right (f (not b) u) (exor_of (f (not b)) us)
       ]
-    where
-      by : (b x : Bool) → differ b x ≡ not (differ (not b) x)
-      by true x = refl
-      by false true = refl
-      by false false = refl
 
   pub tells : Pair e j at.o at.ts own
   tells = record {
     there = at.there;
     others = others;
-    own = λ b. let r = member_used e at.t stands below j held.0 in literal-pair e.polarity (used_inputs e) j at.t held.0 b j r.0 r.1 ∙ rw (held.0, eq-eqb j j refl) (or_none b);
+    own = λ b. let r = member_used e at.t stands below j held.0 in literal-pair e.polarity (used_inputs e) j at.t held.0 b j r.0 r.1 ∙ rw (held.0, eq-eqb j j refl) (or-false b);
     turns = λ b. turn b at.ts (terms_stand e at.ts (stands_at e at.o at.ts at.there) (all_inside names e can at.o at.ts at.there)) (All-get IsInOrder e.outs at.o at.ts can.terms.order at.there) at.first;
   }
     where
-      or_none : (b : Bool) → (b || false) ≡ b
-      or_none true = refl
-      or_none false = refl
-
       but_same : (k : ℕ) → (k ≢ j) → has (own false) k ≡ has (own true) k
       but_same k other = has-but e.polarity (used_inputs e) j at.t k ∙ ap (differ (has (own true) k)) (ne_eqb k j other) ∙ differ-false _
 

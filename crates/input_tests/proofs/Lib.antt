@@ -1,6 +1,6 @@
-pub mod Line
 pub mod Reading
 pub mod FirstTerm
 pub mod CodeLemmas
 pub mod Whole
+pub mod Joined
 pub mod Small

@@ -3,10 +3,11 @@ use Rattle.std.proofs.Common.{◌≡◌, ◌≢◌, ℕ, suc, ◌+◌, ◌<◌, 
 use Rattle.std.specs.Prelude.{slice_index, codes}
 use Rattle.std.specs.List.{list_any, range_with_len, AllByRecursion}
 use Rattle.std.specs.Fmt.{decimal}
-use Rattle.std.proofs.lemmas.Bool.{cases_Bool, and_parts, false≢true, or_cases}
+use Rattle.std.proofs.lemmas.Bool.{cases_Bool, and_parts, false≢true, or_cases, or_left, or_right}
 use Rattle.std.proofs.lemmas.List.Elements.{filter_passes, recursion_from_All}
 use Rattle.ae_base.specs.Mask.{Set, has, empty, members}
 use Rattle.ae_base.proofs.Members.{members-has}
+use Rattle.ae_base.proofs.Truth.{or-false}
 use Rattle.ae_net.specs.declared.net.Gate.{Gate}
 use Rattle.ae_net.specs.Faults.{is_read, is_read_by}
 use Rattle.ae_net.specs.Gates.{inverter, and_gate}
@@ -17,15 +18,11 @@ use Rattle.cascade.specs.Reddy.{place_of, lines, gates_for, turned, literal_sign
 use Rattle.cascade.proofs.Found.{any_filter_parts, wide_found}
 use Rattle.cascade.proofs.GatesValid.{each_member, first_member}
 use Rattle.cascade.proofs.Law.{Stands, used_since}
-use Rattle.cascade.proofs.Lists.{or_left, or_right}
+use Rattle.universal_tests.proofs.Literals.{start_late}
 use Rattle.universal_tests.proofs.TwoRuns.{gates_are, outputs_are}
 
-pub starts_late : (e : Terms) (ts : List Set) → e.polarity.n ≤ start e ts
-unfolding start
-starts_late e ts = elim (cases_Bool (has_one ts)) [ inl one ↦ rw one (omega arith) | inr none ↦ rw none (omega arith) ]
-
 none_in : (q : ℕ → Bool) (x : ℕ) → (q x || false) ≡ true → q x ≡ true
-none_in q x h = elim (or_cases _ _ h) [ inl e ↦ e | inr never ↦ absurd (false≢true never) ]
+none_in q x h = sym (or-false (q x)) ∙ h
 
 mapped : (f : ℕ → ℕ) (j : ℕ) (xs : List ℕ) → list_any (λ pin. eqb pin j) (map f xs) ≡ true → (m : ℕ) × (list_any (λ x. eqb x m) xs ≡ true) × (f m ≡ j)
 mapped f j [] h = absurd (false≢true h)
@@ -47,7 +44,7 @@ module _ (e : Terms) (j : ℕ) (l : j < e.polarity.n) where
   two_pins : (y s : ℕ) → e.polarity.n ≤ y → Shown s → list_any (λ pin. eqb pin j) (y ∷ s ∷ []) ≡ true → is_used e j ≡ true
   two_pins y s low shown h =
       elim (or_cases _ _ h) [
-        | inl here ↦ absurd (omega (arith, low, l, eqb-true y j here))
+        | inl here ↦ let same : y ≡ j = eqb-true y j here in absurd (omega (arith, low, l, same))
         | inr later ↦ shown (eqb-true s j (none_in (λ k. eqb k j) s later))
       ]
 
@@ -111,7 +108,7 @@ module _ (e : Terms) (j : ℕ) (l : j < e.polarity.n) where
   of_chains k c i (ts ∷ tss) [] stands = tt
   of_chains k c i (ts ∷ tss) (out ∷ outs) stands =
       each-append Reads (chain k e out c i (start e ts) (rest ts)) _
-      (of_chain k out c i (start e ts) (rest ts) (starts_late e ts) (rest_shown ts (λ t m. stands t (or_left _ _ m))))
+      (of_chain k out c i (start e ts) (rest ts) (start_late e ts) (rest_shown ts (λ t m. stands t (or_left _ _ m))))
       (of_chains k (c + inner_gates ts) (suc (i + inner_gates ts)) tss outs (λ t m. stands t (or_right _ _ m)))
 
   of_gates : (k : ℕ) (names : Names) → AllByRecursion Reads (gates k names e)
@@ -128,7 +125,7 @@ module _ (e : Terms) (j : ℕ) (l : j < e.polarity.n) where
 
   no_output : (i : ℕ) (tss : List (List Set)) → list_any (λ o. eqb o j) (ends e i tss) ≡ true → ⊥
   no_output i [] m = false≢true m
-  no_output i (ts ∷ tss) m = elim (or_cases _ _ m) [ inl here ↦ absurd (omega (arith, l, eqb-true (lines e + (i + inner_gates ts)) j here)) | inr later ↦ no_output (suc (i + inner_gates ts)) tss later ]
+  no_output i (ts ∷ tss) m = elim (or_cases _ _ m) [ inl here ↦ let same : lines e + (i + inner_gates ts) ≡ j = eqb-true (lines e + (i + inner_gates ts)) j here in absurd (omega (arith, l, same)) | inr later ↦ no_output (suc (i + inner_gates ts)) tss later ]
 
   pub read_used : (names : Names) → is_read (reddy_net names e) j ≡ true → is_used e j ≡ true
   read_used names m =

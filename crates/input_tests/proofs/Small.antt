@@ -10,6 +10,7 @@ use Rattle.ae_base.specs.Terms.{IsInOrder}
 use Rattle.ae_base.proofs.Sets.{has-first}
 use Rattle.expansion.specs.Terms.{IsTerms}
 pub use Rattle.universal_tests.proofs.Small.{two, majority}
+use Rattle.universal_tests.proofs.Small.{single_order}
 
 less : cmp_terms (two 0 1) (with (two 0 1) 2) ≡ Less
 unfolding cmp_terms len members has with empty
@@ -18,9 +19,6 @@ less = refl
 within : (inside (two 0 1) (first 3) ≡ true) × (inside (with (two 0 1) 2) (first 3) ≡ true)
 unfolding inside both with empty first
 within = (refl, refl)
-
-single_order : (t : Set) → IsInOrder (t ∷ [])
-single_order t i j d l k = absurd (omega (arith, k, l))
 
 pub two_and_not : (p : Signs) (outs : List (List Set)) → p ≡ record { n = 3; plain = first 3 } → outs ≡ (two 0 1 ∷ with (two 0 1) 2 ∷ []) ∷ [] → IsTerms (record { polarity = p; outs = outs })
 two_and_not p outs p_is outs_is =

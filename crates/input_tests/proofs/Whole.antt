@@ -1,112 +1,39 @@
 -- Every fault is detected, and the vectors are few.
-use Rattle.std.proofs.Common.{◌≡◌, ◌⊎◌, ℕ, ◌-◌, ◌*◌, ◌<◌, ◌≤◌, Bool, true, false, not, ◌&&◌, inl, inr, List, [], ◌∷◌, ◌++◌, length, get_or, refl, sym, ap, ◌∙◌, subst, arith, eqb, eqb-true, eq-eqb, ne_eqb, length-append}
-use Rattle.std.specs.Prelude.{Contains, Option, Some, None, slice_get, slice_index}
-use Rattle.std.specs.List.{flat_map, list_any, range_with_len}
-use Rattle.std.proofs.lemmas.Bool.{cases_Bool, cases_eq, cases_lt, and_parts, false≢true, lt-ltb, ltb-true, or_cases}
+use Rattle.std.proofs.Common.{◌≡◌, ◌⊎◌, ℕ, ◌-◌, ◌*◌, ◌<◌, ◌≤◌, Bool, true, false, not, inl, inr, List, [], ◌∷◌, ◌++◌, length, get_or, refl, sym, ap, ◌∙◌, subst, arith, eqb, eqb-true, eq-eqb, length-append}
+use Rattle.std.specs.Prelude.{Contains, Option, Some, None}
+use Rattle.std.specs.List.{flat_map, list_any}
+use Rattle.std.proofs.lemmas.Bool.{cases_Bool, cases_lt, false≢true, lt-ltb, or_cases, or_left, or_right}
 use Rattle.std.proofs.lemmas.List.Elements.{Contains-append_left}
-use Rattle.std.proofs.lemmas.List.Folds.{list_any-append, list_any_at}
-use Rattle.std.proofs.lemmas.Option.{same_Some, slice_get_within}
-use Rattle.ae_base.specs.Mask.{Set, has, empty, len, members}
+use Rattle.std.proofs.lemmas.List.Folds.{list_any-append}
+use Rattle.ae_base.specs.Mask.{Set, has, members}
 use Rattle.ae_base.proofs.Members.{len-members, members-has}
-use Rattle.ae_net.specs.declared.net.Gate.{Gate}
 use Rattle.ae_net.specs.declared.net.Place.{Place}
 use Rattle.ae_net.specs.declared.net.Place.TheVariants.{Stem, Pin, Port}
-use Rattle.ae_net.specs.Detects.{Detects}
 use Rattle.ae_net.specs.Faults.{IsPlace, is_read}
-use Rattle.ae_net.specs.Gates.{inverter}
 use Rattle.ae_net.specs.Names.{Names}
-use Rattle.ae_net.proofs.OneGate.{InGate-stem, held}
+use Rattle.expansion.specs.Even.{is_odd, even_inputs}
 use Rattle.expansion.specs.Terms.{Terms, is_used, used_inputs}
 use Rattle.cascade.specs.FirstVectors.{without_repeats}
-use Rattle.cascade.specs.Reddy.{place_of, lines, turned, reddy_net}
+use Rattle.cascade.specs.Reddy.{lines, turned, reddy_net}
 use Rattle.cascade.specs.Shows.{CanBuild}
-use Rattle.cascade.proofs.Found.{any_filter_parts, place_at}
-use Rattle.cascade.proofs.Lists.{or_left, or_right, any_kept, length_filter_le}
+use Rattle.cascade.proofs.Lists.{any_kept, length_filter_le}
 use Rattle.cascade.proofs.VectorLemmas.{length_once_le}
-use Rattle.universal_tests.specs.Odd.{is_odd}
+use Rattle.cascade.proofs.Ordered.{Contains-from_any}
 use Rattle.universal_tests.specs.Sites.{IsInverterOf, IsOfLiteral, IsDetected}
 use Rattle.universal_tests.specs.Universal.{universal_vectors}
-use Rattle.universal_tests.proofs.AtVectors.{Contains-from_any}
-use Rattle.universal_tests.proofs.ChainFaults.{gate_at}
+use Rattle.universal_tests.proofs.AtVectors.{unrepeated_has}
 use Rattle.universal_tests.proofs.CodeLemmas.{universal_few}
-use Rattle.universal_tests.proofs.Literals.{detects_odd}
-use Rattle.universal_tests.proofs.OddInverters.{turned_apart, Inverts}
-use Rattle.universal_tests.proofs.TwoRuns.{two_runs, inputs_are}
-use Rattle.universal_tests.proofs.Whole.{Part, of_literal, of_control, of_and, of_output, part_of, inverts, is_control, is_and, detects}
-use Rattle.input_tests.specs.Inputs.{even_inputs, first_term, term_high, term_but, pair_at, input_vectors_of}
+use Rattle.universal_tests.proofs.Literals.{inverter_used, inverts_of, pair_detects, detects_odd}
+use Rattle.universal_tests.proofs.Line.{Inverts}
+use Rattle.universal_tests.proofs.TwoRuns.{inputs_are}
+use Rattle.universal_tests.proofs.Whole.{inverts, detects}
+use Rattle.input_tests.specs.Inputs.{first_term, term_high, term_but, pair_at, input_vectors_of}
 use Rattle.input_tests.specs.Whole.{new_ones, cascade_tests, vector_bound, DetectsAll}
-use Rattle.input_tests.proofs.CodeLemmas.{has-even}
+use Rattle.expansion.proofs.Even.{has-even}
 use Rattle.input_tests.proofs.FirstTerm.{FirstAt, pair, at, own, tells}
-use Rattle.input_tests.proofs.Reading.{starts_late, read_used}
-use Rattle.input_tests.proofs.Line.{source_stem, inverter_stem, inverter_pin}
-
--- ---- the sites of an input's literal
-
-is_turned : (e : Terms) (j : ℕ) → list_any (λ i. eqb i j) (turned e) ≡ true → has e.polarity.plain j ≡ false
-unfolding turned
-is_turned e j listed = by (has e.polarity.plain j) ((and_parts _ _ ((any_filter_parts (λ i. is_used e i && not (has e.polarity.plain i)) j (range_with_len 0 e.polarity.n) listed).0)).1)
-  where
-    by : (b : Bool) → not b ≡ true → b ≡ false
-    by true h = absurd (false≢true h)
-    by false h = refl
-
-inverter_used : (e : Terms) (j p : ℕ) → Inverts e p j → is_used e j ≡ true
-unfolding turned
-inverter_used e j p of = (and_parts _ _ ((any_filter_parts (λ i. is_used e i && not (has e.polarity.plain i)) j (range_with_len 0 e.polarity.n) of.listed).0)).0
-
-module _ (names : Names) (e : Terms) (can : CanBuild names e) (j : ℕ) (l : j < e.polarity.n) where
-  -- no gate but a literal's reads a source input alone
-  inverter_at : (p : ℕ) → IsInverterOf (reddy_net names e) p j → Inverts e p j
-  inverter_at p (name, there) = by_part (part_of names e can p few)
-    where
-      few : p < length ((reddy_net names e).gates)
-      few = slice_get_within ((reddy_net names e).gates) p (inverter name j) there
-
-      pin : (g : Gate) → slice_get ((reddy_net names e).gates) p ≡ Some g → (length g.pins ≡ 1) × (slice_index g.pins 0 ≡ j)
-      pin g sits = let same : inverter name j ≡ g = same_Some _ _ (sym there ∙ sits) in (sym (ap (λ (g : Gate). length g.pins) same), sym (ap (λ (g : Gate). slice_index g.pins 0) same))
-
-      by_part : Part e p → Inverts e p j
-      by_part (of_literal early) =
-          let i = inverts names e can p early in
-          let own : get_or (turned e) p 0 ≡ j = (pin (inverter i.1.0 (get_or (turned e) p 0)) i.1.1).1 in
-          let listed : list_any (λ k. eqb k j) (turned e) ≡ true = list_any_at (λ k. eqb k j) (turned e) p 0 early (eq-eqb (get_or (turned e) p 0) j own) in
-          record { place = sym (ap (place_of (turned e)) (sym own) ∙ place_at (turned e) (turned_apart e) p 0 early); early = early; listed = listed; complemented = is_turned e j listed }
-      by_part (of_control some is) = absurd (omega (arith, ap (λ (g : Gate). slice_index g.pins 0) (is_control names e can (inverter name j) some (ap (slice_get ((reddy_net names e).gates)) (sym is) ∙ there))))
-      by_part (of_and of) = absurd (omega (arith, is_and names e can p of (inverter name j) there, ltb-true 1 (len of.t) of.wide, len-members of.t))
-      by_part (of_output of) =
-          elim (gate_at names e can p of (held (lines e) p true) empty _ _ (two_runs names e can (held (lines e) p true) p empty (InGate-stem (lines e) p true) (omega (arith, few)))) [
-            | inl b ↦ absurd (omega (arith, (pin _ b.1.sits).1, starts_late e of.ts))
-            | inr r ↦ absurd (omega (arith, (pin _ r.gate.sits).0))
-          ]
-
-  -- each fault there is detected by one of the input's two vectors
-  literal_detected : (used : is_used e j ≡ true) (place : Place) (u : Bool) → IsPlace (reddy_net names e) place → IsOfLiteral (reddy_net names e) j place
-      → (b : Bool) × Detects (reddy_net names e) (record { place = place; value = u }) (own names e can j used b)
-  literal_detected used (Stem s) u h (inl same) = rw same (_, source_stem names e can j l used a.o a.ts (own names e can j used) (tells names e can j used) u)
-    where
-      a : FirstAt j e.outs
-      a = at names e can j used
-  literal_detected used (Stem s) u h (inr (p, same, of)) = rw (same, inputs_are names e can) (_, inverter_stem names e can j l used a.o a.ts (own names e can j used) (tells names e can j used) p (inverter_at p of) (slice_get_within ((reddy_net names e).gates) p _ of.1) u)
-    where
-      a : FirstAt j e.outs
-      a = at names e can j used
-  literal_detected used (Pin p q) u (gate, there, within) of =
-      let first : q ≡ 0 = omega (arith, within, ap (λ (g : Gate). length g.pins) (same_Some _ _ (sym there ∙ of.1))) in
-      rw first (_, inverter_pin names e can j l used a.o a.ts (own names e can j used) (tells names e can j used) p (inverter_at p of) (slice_get_within ((reddy_net names e).gates) p _ of.1) u)
-    where
-      a : FirstAt j e.outs
-      a = at names e can j used
-  literal_detected used (Port o) u h of = absurd of
+use Rattle.input_tests.proofs.Reading.{read_used}
 
 -- ---- a list's members
-
-once_has : (x : Set) (xs : List Set) → list_any (λ y. eqb y x) xs ≡ true → list_any (λ y. eqb y x) (without_repeats xs) ≡ true
-once_has x [] h = h
-once_has x (y ∷ ys) h =
-    elim (cases_eq y x) [
-      | inl e ↦ or_left _ _ (eq-eqb y x e)
-      | inr other ↦ or_right _ _ (any_kept (λ z. not (eqb z y)) x (ap not (ne_eqb x y (λ e. other (sym e)))) (without_repeats ys) (once_has x ys (rw (ne_eqb y x other) at h)))
-    ]
 
 flat_has : (f : ℕ → List Set) (x : Set) (j : ℕ) (js : List ℕ) → list_any (λ k. eqb k j) js ≡ true → list_any (λ y. eqb y x) (f j) ≡ true → list_any (λ y. eqb y x) (flat_map f js) ≡ true
 flat_has f x j [] h m = absurd (false≢true h)
@@ -126,7 +53,7 @@ universal_in e x h = Contains-append_left (universal_vectors e.polarity (used_in
 pair_in : (e : Terms) (j : ℕ) → has (even_inputs e) j ≡ true → (t : Set) → first_term e j ≡ Some t → (b : Bool) → Contains (cascade_tests e) (pair e.polarity (used_inputs e) j t b)
 unfolding cascade_tests input_vectors_of
 pair_in e j even t first b =
-    Contains-from_any _ _ (joined_has x (universal_vectors e.polarity (used_inputs e)) _ (once_has x _
+    Contains-from_any _ _ (joined_has x (universal_vectors e.polarity (used_inputs e)) _ (unrepeated_has x _
     (flat_has (λ k. pair_at e.polarity (used_inputs e) k (first_term e k)) x j (members (even_inputs e)) (members-has (even_inputs e) j ∙ even) (rw first (one_of b)))))
   where
     x : Set
@@ -149,7 +76,7 @@ module _ (names : Names) (e : Terms) (can : CanBuild names e) where
   gate_of p =
       elim (cases_lt p (length (turned e))) [
         | inl early ↦ let i = inverts names e can p early in inl (get_or (turned e) p 0, i.0, i.1)
-        | inr late ↦ inr (λ j l is. let of : Inverts e p j = inverter_at names e can j l p is in absurd (omega (arith, late, of.early)))
+        | inr late ↦ inr (λ j l is. let of : Inverts e p j = inverts_of names e can p j l is in absurd (omega (arith, late, of.early)))
       ]
 
   site_of : (place : Place) → Of place ⊎ Apart place
@@ -177,8 +104,8 @@ module _ (names : Names) (e : Terms) (can : CanBuild names e) where
   -- an input whose literal has a site is used
   site_used : (j : ℕ) → j < e.polarity.n → (place : Place) → IsPlace (reddy_net names e) place → IsOfLiteral (reddy_net names e) j place → is_used e j ≡ true
   site_used j l (Stem s) h (inl same) = read_used e j l names (ap (is_read (reddy_net names e)) (sym same) ∙ h)
-  site_used j l (Stem s) h (inr (p, same, is)) = inverter_used e j p (inverter_at names e can j l p is)
-  site_used j l (Pin p q) h is = inverter_used e j p (inverter_at names e can j l p is)
+  site_used j l (Stem s) h (inr (p, same, is)) = inverter_used e j p (inverts_of names e can p j l is)
+  site_used j l (Pin p q) h is = inverter_used e j p (inverts_of names e can p j l is)
   site_used j l (Port o) h of = absurd of
 
   all_told : (place : Place) (u : Bool) → IsPlace (reddy_net names e) place → IsDetected (reddy_net names e) (cascade_tests e) (record { place = place; value = u })
@@ -186,10 +113,11 @@ module _ (names : Names) (e : Terms) (can : CanBuild names e) where
       elim (site_of place) [
         | inr apart ↦ wider (detects names e can (record { place = place; value = u }) h apart)
         | inl (j, l, of) ↦ elim (cases_Bool (is_odd e j)) [
-          | inl odd ↦ wider (detects_odd names e can (record { place = place; value = u }) j l odd h of)
+          | inl odd ↦ wider (detects_odd names e can (record { place = place; value = u }) j (l, odd) h of)
           | inr even ↦
               let used = site_used j l place h of in
-              let r = literal_detected names e can j l used place u h of in
+              let first : FirstAt j e.outs = at names e can j used in
+              let r = pair_detects names e can j l first.o first.ts (own names e can j used) (tells names e can j used) place u h of in
               let is : has (even_inputs e) j ≡ true = has-even e j ∙ rw (lt-ltb j e.polarity.n l, used, even) refl in
               (own names e can j used r.0, pair_in e j is _ ((at names e can j used).overall) r.0, r.1)
         ]
@@ -211,7 +139,7 @@ pairs_few e (j ∷ js) = omega (arith, length-append (pair_at e.polarity (used_i
     two None = omega arith
     two (Some t) = omega arith
 
-pub few : (e : Terms) → length (cascade_tests e) ≤ vector_bound e
+pub few : (e : Terms) → length (cascade_tests e) ≤ vector_bound e.polarity.n (even_inputs e)
 unfolding cascade_tests input_vectors_of
 few e =
     let universal = universal_vectors e.polarity (used_inputs e) in

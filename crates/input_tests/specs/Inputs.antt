@@ -1,19 +1,12 @@
--- Even inputs and their two vectors. That two vectors for each even input suffice for several outputs, whatever terms they share, is this
+-- The two vectors of each even input. That two vectors for each even input suffice for several outputs, whatever terms they share, is this
 -- project's own, after S. M. Reddy, "Easily Testable Realizations for Logic Functions", 1972.
-use Rattle.std.specs.Prelude.{ℕ, Bool, false, not, ◌&&◌, Option, Some, None, List, [], ◌∷◌}
+use Rattle.std.specs.Prelude.{ℕ, false, Option, Some, None, List, [], ◌∷◌}
 use Rattle.std.specs.List.{find, flat_map}
-use Rattle.ae_base.specs.Mask.{Set, has, empty, with, xor, where_below, members}
+use Rattle.ae_base.specs.Mask.{Set, has, empty, with, xor, members}
 use Rattle.ae_base.specs.Cube.{Signs}
-use Rattle.expansion.specs.Terms.{Terms, is_used, used_inputs}
+use Rattle.expansion.specs.Even.{even_inputs}
+use Rattle.expansion.specs.Terms.{Terms, used_inputs}
 use Rattle.cascade.specs.FirstVectors.{literals_at, without_repeats}
-use Rattle.universal_tests.specs.Odd.{is_odd}
-
--- a used input that no output's expansion holds an odd number of times
-abbrev pub is_even : Terms → ℕ → Bool
-is_even e j = is_used e j && not (is_odd e j)
-
-unfoldable pub even_inputs : Terms → Set
-even_inputs e = where_below e.polarity.n (is_even e)
 
 -- of the first output whose expansion holds the input, the first term that holds it
 abbrev pub first_term : Terms → ℕ → Option Set

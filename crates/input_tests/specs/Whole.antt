@@ -8,7 +8,7 @@ use Rattle.ae_net.specs.Network.{Network}
 use Rattle.expansion.specs.Terms.{Terms, used_inputs}
 use Rattle.universal_tests.specs.Sites.{IsDetected}
 use Rattle.universal_tests.specs.Universal.{universal_vectors}
-use Rattle.input_tests.specs.Inputs.{even_inputs, input_vectors_of}
+use Rattle.input_tests.specs.Inputs.{input_vectors_of}
 
 -- the vectors of the second list that are not in the first
 abbrev pub new_ones : List Set → List Set → List Set
@@ -20,9 +20,9 @@ cascade_tests e =
     let universal = universal_vectors e.polarity (used_inputs e) in
     universal ++ new_ones universal (input_vectors_of e)
 
--- the number of inputs, 4, and two for each even input
-abbrev pub vector_bound : Terms → ℕ
-vector_bound e = e.polarity.n + 4 + 2 * len (even_inputs e)
+-- the number n of inputs, 4, and two for each even input
+abbrev pub vector_bound : ℕ → Set → ℕ
+vector_bound n evens = n + 4 + 2 * len evens
 
 -- each fault at a site is detected
 abbrev pub DetectsAll : Network → List Set → Type 0

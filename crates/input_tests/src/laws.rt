@@ -3,6 +3,7 @@ ghost use Rattle.std.specs.Prelude.{◌≤◌, length};
 ghost use Rattle.ae_net.specs.Names.{Names};
 ghost use Rattle.cascade.specs.Reddy.{reddy_net};
 ghost use Rattle.cascade.specs.Shows.{CanBuild};
+ghost use Rattle.expansion.specs.Even.{even_inputs};
 ghost use Rattle.expansion.specs.Terms.{Terms};
 ghost use Rattle.input_tests.specs.Whole.{cascade_tests, vector_bound, DetectsAll};
 
@@ -10,5 +11,5 @@ ghost use Rattle.input_tests.specs.Whole.{cascade_tests, vector_bound, DetectsAl
 /// inputs. Together they are no more than the number of inputs, 4, and two for each even input.
 pub fn input_law()
     ensures complete { (names : Names) (e : Terms) → CanBuild names e → DetectsAll (reddy_net names e) (cascade_tests e) }
-    ensures few { (e : Terms) → length (cascade_tests e) ≤ vector_bound e }
+    ensures few { (e : Terms) → length (cascade_tests e) ≤ vector_bound e.polarity.n (even_inputs e) }
 {}

@@ -3,7 +3,7 @@ ghost use Rattle.std.specs.Prelude.{◌≡◌, ◌<◌, [], ◌∷◌, IfOk};
 ghost use Rattle.ae_base.specs.declared.limits.TheConstants.{WIDTH};
 ghost use Rattle.ae_base.specs.Mask.{empty, with};
 
-use crate::input_vectors;
+use crate::{cascade_vectors, input_vectors};
 use ae_base::{Mask, Memory, Polarity, Seq};
 use expansion::Expansion;
 use std::alloc::Global;
@@ -64,6 +64,27 @@ fn two_of_three_even(rt: HostRuntime) -> Result<(), Fail> {
     let found = input_vectors(alloc, &two_and_not(alloc)?)?;
     let none = Mask::empty();
     let wanted = [two(0, 1), none.with(1), none.with(0)];
+    assert!(rt; found.as_slice() == wanted.as_slice());
+    Ok(())
+}
+
+/// The universal vectors first, and of the others those that are not among them; the control is the last.
+#[test]
+fn majority_whole(rt: HostRuntime) -> Result<(), Fail> {
+    let alloc = rt.alloc();
+    let found = cascade_vectors(alloc, &majority(alloc)?)?;
+    let none = Mask::empty();
+    let wanted = [
+        none,
+        Mask::first(3),
+        none.with(3),
+        Mask::first(4),
+        two(1, 2),
+        two(0, 2),
+        two(0, 1),
+        none.with(1),
+        none.with(0),
+    ];
     assert!(rt; found.as_slice() == wanted.as_slice());
     Ok(())
 }

@@ -1,9 +1,10 @@
 -- Reading line by line.
 use Rattle.std.proofs.Common.{◌≡◌, ℕ, ◌+◌, ◌<◌, ◌≤◌, Bool, true, false, cond, List, [], ◌∷◌, ◌++◌, length, get_or, take, drop, map, Some, None, refl, sym, ap, ◌∙◌}
 use Rattle.std.proofs.lemmas.List.{append-nil, append_assoc, drop_more, take_more, drop_all, map-append}
+use Rattle.ae_lex.specs.First.{first_of}
 use Rattle.ae_lex.specs.declared.text.Line.{Line}
 use Rattle.pla_read.specs.Words.{Word}
-use Rattle.pla_read.specs.Pla.{Seen, Statement, Heads, Holds, Said, said, is_end, until_end, last_read, faults, first_of, first_fault, seen}
+use Rattle.pla_read.specs.Pla.{Seen, Statement, Heads, Holds, Said, said, is_end, until_end, last_read, faults, first_fault, seen}
 use Rattle.pla_read.specs.Step.{with_line}
 use Rattle.pla_read.specs.declared.fault.PlaFault.{PlaFault}
 use Rattle.pla_read.specs.declared.header.Header.TheVariants as header

@@ -3,8 +3,9 @@ use Rattle.std.proofs.Common.{◌≡◌, ℕ, suc, Bool, true, false, eqb, cond,
 use Rattle.std.specs.Prelude.{unwrap_or, option_map}
 use Rattle.std.specs.Option.{option_or}
 use Rattle.std.proofs.lemmas.List.{append-nil, map-append}
+use Rattle.ae_lex.specs.First.{first_of}
 use Rattle.pla_read.specs.Words.{Word, number, kind, row_of, same_header}
-use Rattle.pla_read.specs.Pla.{Seen, Statement, Heads, Holds, faults, first_of, seen, args_of, rows_of}
+use Rattle.pla_read.specs.Pla.{Seen, Statement, Heads, Holds, faults, seen, args_of, rows_of}
 use Rattle.pla_read.specs.Step.{with_line}
 use Rattle.pla_read.specs.declared.fault.PlaFault.TheVariants.{Late}
 use Rattle.std.proofs.lemmas.Bool.{ne_eqb}

@@ -3,13 +3,14 @@ use Rattle.std.proofs.Common.{◌≡◌, ℕ, true, false, List, [], length, map
 use Rattle.std.specs.Prelude.{IfSome, unwrap_or}
 use Rattle.std.proofs.lemmas.List.Elements.{All-append}
 use Rattle.ae_base.specs.Name.{is_source_name}
+use Rattle.ae_lex.specs.First.{first_of}
 use Rattle.ae_lex.specs.Lines.{lines_of}
 use Rattle.ae_lex.specs.declared.text.Style.TheVariants.{Pla}
 use Rattle.ae_lex.specs.declared.text.LineList.{LineList}
 use Rattle.ae_cover.specs.declared.parts.Kind.{Kind}
 use Rattle.ae_cover.specs.Cover.{IsCover, IsCount, IsRow}
 use Rattle.pla_read.specs.Words.{Word, share}
-use Rattle.pla_read.specs.Pla.{Seen, Said, said, until_end, last_read, first_fault, first_of, at_line, whole_faults, table_of, judged, lines_say, pla_says, seen}
+use Rattle.pla_read.specs.Pla.{Seen, Said, said, until_end, last_read, first_fault, at_line, whole_faults, table_of, judged, lines_say, pla_says, seen}
 use Rattle.pla_read.specs.Sound.{AreLabels, IsSound}
 use Rattle.pla_read.proofs.Labels.{distinct_append}
 use Rattle.pla_read.proofs.Reading.{says}

@@ -4,6 +4,7 @@ use Rattle.std.specs.List.{list_all}
 use Rattle.std.specs.Option.{option_or}
 use Rattle.std.specs.Fmt.{decimal}
 use Rattle.ae_base.specs.declared.limits.TheConstants.{SOURCE_LINES}
+use Rattle.ae_lex.specs.First.{first_of}
 use Rattle.ae_lex.specs.Lines.{lines_of}
 use Rattle.ae_lex.specs.declared.text.Style.TheVariants.{Pla}
 use Rattle.ae_lex.specs.declared.text.Line.{Line}
@@ -94,11 +95,6 @@ seen lines =
     }
 
 -- ---- the faults of a line
-
--- the fault of the first condition that holds
-abbrev pub first_of : List (Bool × PlaFault) → Option PlaFault
-first_of [] = None
-first_of (c ∷ cs) = if c.0 then Some c.1 else first_of cs
 
 abbrev pub has_rows : Seen → Bool
 has_rows seen = not (length seen.rows == 0)

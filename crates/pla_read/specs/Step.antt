@@ -1,8 +1,9 @@
 -- For private contracts alone: what reading one more line does.
 use Rattle.std.specs.Prelude.{◌≡◌, ℕ, List, [], ◌∷◌, ◌++◌, map, Some, None, Result, Ok, Err, unwrap_or}
 use Rattle.std.specs.Borrow.{Bor}
+use Rattle.ae_lex.specs.First.{first_of}
 use Rattle.pla_read.specs.Words.{Word, number, kind, row_of}
-use Rattle.pla_read.specs.Pla.{Seen, Statement, Heads, Holds, Said, faults, first_of, first_fault, until_end, last_read, seen}
+use Rattle.pla_read.specs.Pla.{Seen, Statement, Heads, Holds, Said, faults, first_fault, until_end, last_read, seen}
 use Rattle.pla_read.specs.declared.fault.LineErr.{LineErr}
 use Rattle.pla_read.specs.declared.fault.LineErr.TheVariants as line
 use Rattle.pla_read.specs.declared.fault.PlaErr.{PlaErr}

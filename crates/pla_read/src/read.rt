@@ -1,5 +1,6 @@
 //! Reads a PLA text.
 ghost use Rattle.std.specs.Prelude.{◌≡◌, ◌≤◌, length, map, All, IfOk};
+ghost use Rattle.ae_lex.specs.First.{first_of};
 ghost use Rattle.ae_lex.specs.Lines.{IsInside};
 ghost use Rattle.pla_read.specs.Pla as spec;
 ghost use Rattle.pla_read.specs.Reads.{Gives};
@@ -72,7 +73,7 @@ fn read_lines(
 /// The cover of a draft, or the first fault of the whole text.
 #[tactic(auto, unfolding(crate::specs::Pla::table_of))]
 fn finish(alloc: Global, draft: Draft, last: u32) -> Result<Cover, PlaErr>
-    ensures { Gives (spec.judged (spec.at_line last (spec.first_of (spec.whole_faults draft))) (spec.table_of draft)) result }
+    ensures { Gives (spec.judged (spec.at_line last (first_of (spec.whole_faults draft))) (spec.table_of draft)) result }
 {
     let Draft {
         inputs,

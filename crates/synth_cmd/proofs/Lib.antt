@@ -1,12 +1,5 @@
 pub mod Ends
-pub mod Expands
 pub mod Jobs
-pub mod Limits
-pub mod Meaning
-pub mod Shown
-pub mod Points
 pub mod Sources
-pub mod Synthesised
+pub mod Tested
 pub mod Telling
-pub mod Used
-pub mod Written

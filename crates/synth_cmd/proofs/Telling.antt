@@ -1,6 +1,5 @@
 -- What a report took, piece after piece.
-use Rattle.std.proofs.Common.{◌≡◌, ◌++◌, List, ℕ, take, Option, sym, ◌∙◌, ap}
-use Rattle.std.proofs.lemmas.List.{append-nil}
+use Rattle.std.proofs.Common.{List, ℕ, take, Option, ◌∙◌, ap}
 use Rattle.ae_outside.specs.Files.{added, TookFront}
 use Rattle.ae_outside.proofs.Laws.{added-added}
 use Rattle.synth_cmd.specs.Lines.{memory_line}

@@ -1,8 +1,5 @@
 pub mod Asked
-pub mod Expanding
+pub mod Headline
 pub mod Lines
 pub mod Outcome
-pub mod Steps
-pub mod Synthesis
-pub mod VectorFile
 pub mod Words

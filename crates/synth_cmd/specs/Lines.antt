@@ -1,12 +1,14 @@
 -- The lines of the report. Each ends with byte 10.
 use Rattle.std.specs.Prelude.{ℕ, suc, List, [], ◌∷◌, ◌++◌, codes}
 use Rattle.std.specs.Fmt.{decimal}
+use Rattle.ae_base.specs.Text.{text_of}
+use Rattle.vec_text.specs.VectorFile.{form_line, polarity_line}
 use Rattle.synth_cmd.specs.declared.TheConstants.{READ_FAULT, REFUSED, TOO_LONG, TOO_MANY_TERMS}
 use Rattle.synth_cmd.specs.declared.tell.Refusal.{Refusal}
 use Rattle.synth_cmd.specs.declared.tell.Refusal.TheVariants.{ReadFault, TooLong, Text, TooManyTerms}
 use Rattle.pla_read.specs.declared.fault.PlaFault.{PlaFault}
 use Rattle.pla_read.specs.Faults.{fault_name}
-use Rattle.synth_cmd.specs.declared.job.Summary.{Summary}
+use Rattle.synth_core.specs.declared.made.Summary.{Summary}
 
 abbrev pub usage_line : List ℕ
 usage_line = codes "usage: andexor synth IN NET VEC, grade NET VEC, check NET VEC, demo NUMBER NET VEC\n"
@@ -30,9 +32,23 @@ too_many_line output = codes "too many terms: output " ++ (decimal (suc output) 
 abbrev pub memory_line : List ℕ
 memory_line = codes "want of memory\n"
 
--- the report of a synthesis: its numbers of terms, gates and vectors
+-- the numbers of terms, gates, stuck-at faults, vectors, and faults that no vector detects
+abbrev pub count_lines : Summary → List (List (List ℕ))
+count_lines s =
+    (codes "terms" ∷ decimal s.terms ∷ []) ∷
+    (codes "gates" ∷ decimal s.gates ∷ []) ∷
+    (codes "faults" ∷ decimal s.faults ∷ []) ∷
+    (codes "vectors" ∷ decimal s.vectors ∷ []) ∷
+    (codes "unchanged" ∷ decimal s.unchanged ∷ []) ∷ []
+
+-- the report of a synthesis: its form, the source's inputs and outputs, a digit for each input that is 1 where its literal is plain, and
+-- the numbers
 abbrev pub report_lines : Summary → List ℕ
-report_lines s = codes "terms " ++ (decimal s.terms ++ (codes "\ngates " ++ (decimal s.gates ++ (codes "\nvectors " ++ (decimal s.vectors ++ codes "\n")))))
+report_lines s = text_of (
+    form_line s.form ∷
+    (codes "inputs" ∷ decimal s.inputs ∷ codes "outputs" ∷ decimal s.outputs ∷ []) ∷
+    polarity_line s.polarity ∷
+    count_lines s)
 
 -- the status of a refusal, and the line that tells it
 abbrev pub status_of : Refusal → ℕ

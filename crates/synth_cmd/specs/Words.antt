@@ -7,7 +7,7 @@ use Rattle.synth_cmd.specs.declared.words.Command.TheVariants.{Refused, Synth}
 
 abbrev pub command_of : Command → Asked
 command_of Refused = asked_refused
-command_of (Synth source net vectors) = asked_synth source.now net.now vectors.now
+command_of (Synth settings source net vectors) = asked_synth settings source.now net.now vectors.now
 
 -- the names of a command's files differ
 pub record ApartNames (source net vectors : List ℕ) : Type 0 where
@@ -17,4 +17,4 @@ pub record ApartNames (source net vectors : List ℕ) : Type 0 where
 
 abbrev pub AreApart : Asked → Type 0
 AreApart asked_refused = ⊤
-AreApart (asked_synth source net vectors) = ApartNames source net vectors
+AreApart (asked_synth settings source net vectors) = ApartNames source net vectors

@@ -6,23 +6,13 @@ ghost use Rattle.ae_outside.specs.Files.{written, IsWrittenInPart};
 ghost use Rattle.synth_cmd.specs.declared.job.SourceErr.TheVariants as source_err;
 ghost use Rattle.synth_cmd.specs.declared.job.Stop.TheVariants as stop;
 ghost use Rattle.synth_cmd.specs.declared.tell.Refusal.TheVariants as refusal;
-ghost use Rattle.synth_cmd.specs.Outcome.{Cause, HoldsCover, IsMade, NetInPart, VectorsInPart, InPart, BothWhole, CountsAtBoth};
+ghost use Rattle.synth_cmd.specs.Outcome.{Cause, HoldsText, IsMadeOf, NetInPart, VectorsInPart, InPart, BothWhole, CountsAtBoth};
 
-use crate::synthesis::{ExpandErr, Made, synthesise};
 use crate::tell::Refusal;
 use ae_base::TEXT_BYTES;
-use ae_cover::Cover;
 use ae_outside::{Files, ReadErr, WriteErr, read_whole, write_whole};
-use pla_read::{PlaErr, read_pla};
 use std::alloc::Global;
-
-/// The numbers of a synthesis: terms of all expansions, gates of the network, vectors of the file.
-#[derive(Clone, Copy, Debug, PartialEq, Eq)]
-pub struct Summary {
-    pub terms: u64,
-    pub gates: u64,
-    pub vectors: u64,
-}
+use synth_core::{Made, Settings, Summary, SynthErr, synthesise};
 
 /// Why a source gives no network.
 #[derive(Clone, Copy, Debug, PartialEq, Eq)]
@@ -49,9 +39,9 @@ pub enum Stop {
 }
 
 /// Reads the source.
-fn read_source<F: Files>(alloc: Global, files: &mut F, source: &str) -> Result<Cover, SourceErr>
-    ensures said { IfOk result (λ cover. HoldsCover source.now (F.held files.old) cover) }
-    ensures refused { (r : Refusal) → IsErrOf result (source_err.Refused r) → Cause r source.now (F.held files.old) (F.read_faults files.old) (F.read_faults files.new) }
+fn read_source<F: Files>(alloc: Global, files: &mut F, source: &str) -> Result<Vec<u8>, SourceErr>
+    ensures held { IfOk result (λ bytes. HoldsText source.now (F.held files.old) bytes.items) }
+    ensures refused { (r : Refusal) → IsErrOf result (source_err.Refused r) → (settings : Settings) → Cause settings r source.now (F.held files.old) (F.read_faults files.old) (F.read_faults files.new) }
     ensures not_held { IfSome (F.held files.old) (λ m. get m source.now ≡ None → IsErrOf result (source_err.Refused refusal.ReadFault) ⊎ IsErrOf result source_err.Memory) }
 
     ensures stays { F.held files.new ≡ F.held files.old }
@@ -59,11 +49,7 @@ fn read_source<F: Files>(alloc: Global, files: &mut F, source: &str) -> Result<C
     ensures writes { F.write_faults files.new ≡ F.write_faults files.old }
 {
     match read_whole(alloc, files, source, TEXT_BYTES as u64) {
-        Ok(bytes) => match read_pla(alloc, &bytes) {
-            Ok(cover) => Ok(cover),
-            Err(PlaErr::At { line, what }) => Err(SourceErr::Refused(Refusal::Text { line, what })),
-            Err(PlaErr::Memory) => Err(SourceErr::Memory),
-        },
+        Ok(bytes) => Ok(bytes),
         Err(ReadErr::Fault) => Err(SourceErr::Refused(Refusal::ReadFault)),
         Err(ReadErr::TooLong) => Err(SourceErr::Refused(Refusal::TooLong)),
         Err(ReadErr::Memory) => Err(SourceErr::Memory),
@@ -71,25 +57,31 @@ fn read_source<F: Files>(alloc: Global, files: &mut F, source: &str) -> Result<C
 }
 
 /// Reads the source and synthesises it.
-fn make<F: Files>(alloc: Global, files: &mut F, source: &str) -> Result<Made, SourceErr>
-    ensures made { IfOk result (λ made. IsMade source.now (F.held files.old) made.net_text.items made.vector_text.items made.summary) }
-    ensures refused { (r : Refusal) → IsErrOf result (source_err.Refused r) → Cause r source.now (F.held files.old) (F.read_faults files.old) (F.read_faults files.new) }
+fn make<F: Files>(
+    alloc: Global,
+    files: &mut F,
+    settings: &Settings,
+    source: &str,
+) -> Result<Made, SourceErr>
+    ensures made { IfOk result (λ made. IsMadeOf settings.now source.now (F.held files.old) made.net_text.items made.vec_text.items made.summary) }
+    ensures refused { (r : Refusal) → IsErrOf result (source_err.Refused r) → Cause settings.now r source.now (F.held files.old) (F.read_faults files.old) (F.read_faults files.new) }
     ensures not_held { IfSome (F.held files.old) (λ m. get m source.now ≡ None → IsErrOf result (source_err.Refused refusal.ReadFault) ⊎ IsErrOf result source_err.Memory) }
 
     ensures stays { F.held files.new ≡ F.held files.old }
     ensures reads { CountsAt source.now (F.read_faults files.old) (F.read_faults files.new) }
     ensures writes { F.write_faults files.new ≡ F.write_faults files.old }
 {
-    let cover = match read_source(alloc, files, source) {
-        Ok(cover) => cover,
+    let bytes = match read_source(alloc, files, source) {
+        Ok(bytes) => bytes,
         Err(err) => return Err(err),
     };
-    match synthesise(alloc, &cover) {
+    match synthesise(alloc, &bytes, settings) {
         Ok(made) => Ok(made),
-        Err(ExpandErr::TooManyTerms { output }) => {
+        Err(SynthErr::Pla { line, what }) => Err(SourceErr::Refused(Refusal::Text { line, what })),
+        Err(SynthErr::TooManyTerms { output }) => {
             Err(SourceErr::Refused(Refusal::TooManyTerms { output }))
         }
-        Err(ExpandErr::Memory) => Err(SourceErr::Memory),
+        Err(SynthErr::Memory) => Err(SourceErr::Memory),
     }
 }
 
@@ -100,14 +92,14 @@ fn write_texts<F: Files>(
     vectors: &str,
     made: &Made,
 ) -> Result<(), TextsErr>
-    ensures done { OnOk result (F.held files.new ≡ written (written (F.held files.old) net.now made.now.net_text.items) vectors.now made.now.vector_text.items) }
+    ensures done { OnOk result (F.held files.new ≡ written (written (F.held files.old) net.now made.now.net_text.items) vectors.now made.now.vec_text.items) }
     ensures net_fault { IsErrOf result TextsErr.NetFault → RoseAt net.now (F.write_faults files.old) (F.write_faults files.new) }
     ensures net_in_part { IsErrOf result TextsErr.NetFault → IsWrittenInPart (F.held files.old) net.now made.now.net_text.items (F.held files.new) }
     ensures vectors_fault { IsErrOf result TextsErr.VectorsFault → RoseAt vectors.now (F.write_faults files.old) (F.write_faults files.new) }
     ensures vectors_in_part { IsErrOf result TextsErr.VectorsFault
-        → IsWrittenInPart (written (F.held files.old) net.now made.now.net_text.items) vectors.now made.now.vector_text.items (F.held files.new) }
+        → IsWrittenInPart (written (F.held files.old) net.now made.now.net_text.items) vectors.now made.now.vec_text.items (F.held files.new) }
     ensures memory { IsErrOf result TextsErr.Memory → IsWrittenInPart (F.held files.old) net.now made.now.net_text.items (F.held files.new)
-        ⊎ IsWrittenInPart (written (F.held files.old) net.now made.now.net_text.items) vectors.now made.now.vector_text.items (F.held files.new) }
+        ⊎ IsWrittenInPart (written (F.held files.old) net.now made.now.net_text.items) vectors.now made.now.vec_text.items (F.held files.new) }
 
     ensures reads { F.read_faults files.new ≡ F.read_faults files.old }
     ensures writes { CountsAtBoth net.now vectors.now (F.write_faults files.old) (F.write_faults files.new) }
@@ -117,7 +109,7 @@ fn write_texts<F: Files>(
         Err(WriteErr::Fault) => return Err(TextsErr::NetFault),
         Err(WriteErr::Memory) => return Err(TextsErr::Memory),
     }
-    match write_whole(files, vectors, &made.vector_text) {
+    match write_whole(files, vectors, &made.vec_text) {
         Ok(()) => Ok(()),
         Err(WriteErr::Fault) => Err(TextsErr::VectorsFault),
         Err(WriteErr::Memory) => Err(TextsErr::Memory),
@@ -128,24 +120,25 @@ fn write_texts<F: Files>(
 pub fn synthesise_files<F: Files>(
     alloc: Global,
     files: &mut F,
+    settings: &Settings,
     source: &str,
     net: &str,
     vectors: &str,
 ) -> Result<Summary, Stop>
-    ensures done { IfOk result (λ summary. BothWhole source.now net.now vectors.now summary (F.held files.old) (F.held files.new)) }
-    ensures refused { (r : Refusal) → IsErrOf result (stop.Refused r) → Cause r source.now (F.held files.old) (F.read_faults files.old) (F.read_faults files.new) }
+    ensures done { IfOk result (λ summary. BothWhole settings.now source.now net.now vectors.now summary (F.held files.old) (F.held files.new)) }
+    ensures refused { (r : Refusal) → IsErrOf result (stop.Refused r) → Cause settings.now r source.now (F.held files.old) (F.read_faults files.old) (F.read_faults files.new) }
     ensures refused_stays { (r : Refusal) → IsErrOf result (stop.Refused r) → F.held files.new ≡ F.held files.old }
     ensures net_fault { IsErrOf result stop.NetFault → RoseAt net.now (F.write_faults files.old) (F.write_faults files.new) }
-    ensures net_in_part { IsErrOf result stop.NetFault → NetInPart source.now net.now (F.held files.old) (F.held files.new) }
+    ensures net_in_part { IsErrOf result stop.NetFault → NetInPart settings.now source.now net.now (F.held files.old) (F.held files.new) }
     ensures vectors_fault { IsErrOf result stop.VectorsFault → RoseAt vectors.now (F.write_faults files.old) (F.write_faults files.new) }
-    ensures vectors_in_part { IsErrOf result stop.VectorsFault → VectorsInPart source.now net.now vectors.now (F.held files.old) (F.held files.new) }
-    ensures memory { IsErrOf result stop.Memory → InPart source.now net.now vectors.now (F.held files.old) (F.held files.new) }
+    ensures vectors_in_part { IsErrOf result stop.VectorsFault → VectorsInPart settings.now source.now net.now vectors.now (F.held files.old) (F.held files.new) }
+    ensures memory { IsErrOf result stop.Memory → InPart settings.now source.now net.now vectors.now (F.held files.old) (F.held files.new) }
 
     ensures not_held { IfSome (F.held files.old) (λ m. get m source.now ≡ None → IsErrOf result (stop.Refused refusal.ReadFault) ⊎ IsErrOf result stop.Memory) }
     ensures reads { CountsAt source.now (F.read_faults files.old) (F.read_faults files.new) }
     ensures writes { CountsAtBoth net.now vectors.now (F.write_faults files.old) (F.write_faults files.new) }
 {
-    let made = match make(alloc, files, source) {
+    let made = match make(alloc, files, settings, source) {
         Ok(made) => made,
         Err(SourceErr::Refused(refusal)) => return Err(Stop::Refused(refusal)),
         Err(SourceErr::Memory) => return Err(Stop::Memory),

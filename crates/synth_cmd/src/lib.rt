@@ -3,16 +3,12 @@
 
 mod job;
 mod lines;
-mod synthesis;
+mod report;
 mod tell;
 mod top;
-mod vector_file;
-mod vector_text;
 mod words;
 
-pub use job::Summary;
 pub use top::run;
-pub use vector_file::{Form, VecFile, Vector};
 
 /// The command is done: all texts are written, and the report.
 pub const DONE: u8 = 0;

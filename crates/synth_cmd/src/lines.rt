@@ -1,8 +1,7 @@
-//! The lines of the report.
+//! The lines that tell a refusal or a fault.
 ghost use Rattle.std.specs.Prelude.{◌≡◌, IfOk, string_bytes};
 ghost use Rattle.synth_cmd.specs.Lines as spec;
 
-use crate::job::Summary;
 use pla_read::PlaFault;
 use std::alloc::{AllocError, Global};
 
@@ -40,14 +39,4 @@ pub fn too_many_terms(alloc: Global, output: u32) -> Result<String, AllocError>
 {
     let number = output as u64 + 1;
     format!(in alloc; "too many terms: output {number}\n")
-}
-
-/// The report of a synthesis.
-pub fn report(alloc: Global, summary: Summary) -> Result<String, AllocError>
-    ensures { IfOk result (λ lines. string_bytes lines ≡ spec.report_lines summary) }
-{
-    let terms = summary.terms;
-    let gates = summary.gates;
-    let vectors = summary.vectors;
-    format!(in alloc; "terms {terms}\ngates {gates}\nvectors {vectors}\n")
 }

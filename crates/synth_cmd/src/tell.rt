@@ -5,11 +5,12 @@ ghost use Rattle.ae_outside.specs.Files.{added, TookFront};
 ghost use Rattle.synth_cmd.specs.Lines.{memory_line, report_lines, status_of, line_of, write_fault_line};
 ghost use Rattle.synth_cmd.specs.Outcome.{Told, TellsMemory};
 
-use crate::job::Summary;
+use crate::report::report as report_of;
 use crate::{DONE, MEMORY, READ_FAULT, REFUSED, TOO_LONG, TOO_MANY_TERMS, WRITE_FAULT, lines};
 use ae_outside::{Sink, WriteErr, put_all};
 use pla_read::PlaFault;
 use std::alloc::{AllocError, Global};
+use synth_core::Summary;
 
 /// Why a source is refused.
 #[derive(Clone, Copy, Debug, PartialEq, Eq)]
@@ -106,8 +107,8 @@ pub fn finish<K: Sink>(alloc: Global, report: &mut K, summary: Summary) -> u8
     ensures memory { result ≡ MEMORY → TellsMemory (report_lines summary) (K.taken report.old) (K.taken report.new) }
     ensures counts { K.faults report.old ≤ K.faults report.new }
 {
-    match lines::report(alloc, summary) {
-        Ok(text) => match put_all(report, text.as_bytes()) {
+    match report_of(alloc, summary) {
+        Ok(text) => match put_all(report, &text) {
             Ok(()) => DONE,
             Err(WriteErr::Fault) => WRITE_FAULT,
             Err(WriteErr::Memory) => want_memory(report),

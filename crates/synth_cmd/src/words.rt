@@ -3,11 +3,22 @@ ghost use Rattle.std.specs.Prelude.{◌≡◌};
 ghost use Rattle.synth_cmd.specs.Asked.{asked};
 ghost use Rattle.synth_cmd.specs.Words.{command_of, AreApart};
 
-/// A command with the names of its files.
+use synth_core::{Choice, Settings, SourceKind};
+use vec_text::Form;
+
+/// A PLA text, the Reddy form, and the plain literal of each input.
+const USUAL: Settings = Settings {
+    kind: SourceKind::Pla,
+    form: Form::Reddy,
+    polarity: Choice::Positive,
+};
+
+/// A command with what it asks for and the names of its files.
 #[derive(Clone, Copy)]
 pub enum Command<'a> {
     Refused,
     Synth {
+        settings: Settings,
         source: &'a str,
         net: &'a str,
         vectors: &'a str,
@@ -26,6 +37,7 @@ pub fn read_command(words: &[String]) -> Command<'_>
                 && source.as_str() != vectors.as_str()
                 && net.as_str() != vectors.as_str() => {
             Command::Synth {
+                settings: USUAL,
                 source: source.as_str(),
                 net: net.as_str(),
                 vectors: vectors.as_str(),

@@ -6,10 +6,10 @@ use Rattle.std.proofs.lemmas.Bool.{cases_eq}
 use Rattle.std.proofs.lemmas.List.{length-map, get_or-map}
 use Rattle.std.proofs.lemmas.List.Folds.{list_any_at}
 use Rattle.std.proofs.lemmas.Option.{slice_get_within}
-use Rattle.ae_base.specs.Mask.{Set, has, empty, first, inside, members}
+use Rattle.ae_base.specs.Mask.{Set, has, first, inside, members}
 use Rattle.ae_base.specs.Terms.{literal, product}
 use Rattle.ae_base.proofs.Members.{members-has}
-use Rattle.ae_net.specs.declared.net.Gate.{Gate}
+use Rattle.ae_base.proofs.Sets.{inside-below}
 use Rattle.ae_net.specs.declared.net.Place.TheVariants.{Stem, Pin}
 use Rattle.ae_net.specs.declared.net.Fault.{Fault}
 use Rattle.ae_net.specs.Network.{Network}
@@ -18,17 +18,17 @@ use Rattle.ae_net.specs.Run.{seen, value_of, run}
 use Rattle.ae_net.proofs.OneGate.{InGate, InGate-stem, InGate-pin, held, stuck, at_stem, at_pin, at_other_pin}
 use Rattle.ae_net.proofs.Tables.{sees, all_see, all_to, all_see-false, table-and}
 use Rattle.expansion.specs.Terms.{Terms, is_used, used_inputs}
-use Rattle.cascade.specs.Reddy.{place_of, lines, literal_signal, is_wide, wide_terms, and_place, term_signal, reddy_net}
+use Rattle.cascade.specs.Reddy.{place_of, lines, literal_signal, is_wide, wide_terms, and_place, reddy_net}
 use Rattle.cascade.specs.Shows.{CanBuild}
 use Rattle.cascade.proofs.Found.{any_found, place_at, wide_apart, members_apart, wide_found, stands_inside}
 use Rattle.cascade.proofs.GatesValid.{literal_below, and_place_from}
-use Rattle.cascade.proofs.Law.{Stands, and_of, value-literal, used_since, members_below}
+use Rattle.cascade.proofs.Law.{Stands, and_of, value-literal, used_since}
 use Rattle.cascade.proofs.Values.{EachGate-gates_for}
 use Rattle.universal_tests.specs.Sites.{IsDetected}
 use Rattle.universal_tests.specs.Universal.{one_low, universal_vectors}
 use Rattle.universal_tests.proofs.Products.{member_used, product_high, product_all_at, product_one_low}
 use Rattle.universal_tests.proofs.Turns.{and_signal, and_turns, wide_some}
-use Rattle.universal_tests.proofs.TwoRuns.{Both, TwoRuns, Turned, two_runs, Detects-gate, plain_inputs, plain_term}
+use Rattle.universal_tests.proofs.TwoRuns.{Both, TwoRuns, two_runs, Detects-gate, plain_inputs, plain_term}
 use Rattle.universal_tests.proofs.AtVectors.{all_at, literal-one_low, Contains-all_at, Contains-one_low}
 
 pub not_not : (b : Bool) → b ≡ not (not b)
@@ -84,7 +84,7 @@ module _ (names : Names) (e : Terms) (can : CanBuild names e) (p : ℕ) (of : Of
     -- its literals are as without the fault
     literal_kept : (j : ℕ) → has of.t j ≡ true → value_of w (literal_signal e j) ≡ literal e.polarity j x
     literal_kept j m =
-        let l : j < e.polarity.n = members_below e.polarity.n of.t below j m in
+        let l : j < e.polarity.n = inside-below e.polarity.n of.t below j m in
         let used : is_used e j ≡ true = used_since e of.t j of.stands m in
         two.before (literal_signal e j) (omega (arith, literal_below e j l used, and_place_from e, of.place)) ∙ value-literal (lead names) e x v (plain_inputs names e fault p x w v two) j l used
 

@@ -1,18 +1,19 @@
 -- The values of literals and products at the universal vectors, and that each of these vectors is in the list.
-use Rattle.std.proofs.Common.{◌≡◌, ◌≢◌, ℕ, zero, suc, ◌<◌, ◌≤◌, Bool, true, false, not, ◌&&◌, ◌||◌, cond, inl, inr, List, [], ◌∷◌, ◌++◌, length, map, get_or, refl, sym, ap, ap₂, ◌∙◌, arith, eqb, eqb-true, eq-eqb, ne_eqb, ltb}
-use Rattle.std.specs.Prelude.{Contains, filter}
-use Rattle.std.specs.List.{list_any, list_all}
-use Rattle.std.proofs.lemmas.Bool.{cases_eq, cases_Bool, and_parts, false≢true, le-ltb, lt-ltb, or_cases}
+use Rattle.std.proofs.Common.{◌≡◌, ℕ, ◌<◌, Bool, true, false, not, ◌&&◌, ◌||◌, cond, inl, inr, List, [], ◌∷◌, ◌++◌, map, get_or, refl, sym, ap, ap₂, ◌∙◌, arith, eqb, eqb-true, eq-eqb, ne_eqb}
+use Rattle.std.specs.Prelude.{Contains}
+use Rattle.std.specs.List.{list_any}
+use Rattle.std.proofs.lemmas.Bool.{cases_eq, le-ltb, lt-ltb, or_cases, or_left, or_right}
 use Rattle.std.proofs.lemmas.List.Folds.{list_any-append, list_any_at}
-use Rattle.ae_base.specs.Mask.{Set, differ, has, empty, with, xor, first, inside, members}
+use Rattle.ae_base.specs.Mask.{Set, differ, has, with, members}
 use Rattle.ae_base.specs.Cube.{Signs}
-use Rattle.ae_base.specs.Terms.{literal, product}
+use Rattle.ae_base.specs.Terms.{literal}
 use Rattle.ae_base.proofs.Members.{members-has}
-use Rattle.ae_base.proofs.Sets.{has-empty, has-with, has-xor}
+use Rattle.ae_base.proofs.Sets.{has-with}
+use Rattle.expansion.proofs.Even.{has-flipped}
 use Rattle.cascade.specs.FirstVectors.{literals_at, without_repeats, first_vectors}
-use Rattle.cascade.proofs.Found.{any_found}
-use Rattle.cascade.proofs.Lists.{or_left, or_right, any_kept, list_all_agree}
+use Rattle.cascade.proofs.Lists.{any_kept}
 use Rattle.cascade.proofs.VectorLemmas.{has-literals_at}
+use Rattle.cascade.proofs.Ordered.{Contains-from_any}
 use Rattle.universal_tests.specs.Universal.{one_low, universal_vectors}
 
 -- all literals at v, and the control at c
@@ -30,11 +31,7 @@ control-all_at p used v false = outside p used v
 
 pub has-one_low : (p : Signs) (used : Set) (j k : ℕ) → has (one_low p used j) k ≡ differ (has (literals_at p used true) k) (eqb k j)
 unfolding one_low
-has-one_low p used j k = has-xor (literals_at p used true) (with empty j) k ∙ ap (differ (has (literals_at p used true) k)) (has-with empty j k ∙ ap (λ b. eqb k j || b) (has-empty k) ∙ or_none (eqb k j))
-  where
-    or_none : (b : Bool) → (b || false) ≡ b
-    or_none true = refl
-    or_none false = refl
+has-one_low p used j k = has-flipped j (literals_at p used true) k
 
 pub control-one_low : (p : Signs) (used : Set) (j : ℕ) → j < p.n → has (one_low p used j) p.n ≡ false
 control-one_low p used j l = has-one_low p used j p.n ∙ ap₂ differ (outside p used true) (ne_eqb p.n j (λ e. absurd (omega arith)))
@@ -49,13 +46,14 @@ low_part p used v false j l = refl
 pub used_part : (p : Signs) (used : Set) (v : Bool) (j : ℕ) → j < p.n → has used j ≡ true → has (literals_at p used v) j ≡ cond (has p.plain j) v (not v)
 used_part p used v j l u = has-literals_at p used v j ∙ ap₂ (λ a b. a && (b && cond (has p.plain j) v (not v))) (lt-ltb j p.n l) u
 
+-- a value that goes through a sign twice comes back
+pub signed_twice : (s v : Bool) → cond s (cond s v (not v)) (not (cond s v (not v))) ≡ v
+signed_twice true v = refl
+signed_twice false true = refl
+signed_twice false false = refl
+
 pub literal-all_at : (p : Signs) (used : Set) (v c : Bool) (j : ℕ) → j < p.n → has used j ≡ true → literal p j (all_at p used v c) ≡ v
-literal-all_at p used v c j l u = ap (λ b. cond (has p.plain j) b (not b)) (low_part p used v c j l ∙ used_part p used v j l u) ∙ by_sign (has p.plain j) v
-  where
-    by_sign : (s v : Bool) → cond s (cond s v (not v)) (not (cond s v (not v))) ≡ v
-    by_sign true v = refl
-    by_sign false true = refl
-    by_sign false false = refl
+literal-all_at p used v c j l u = ap (λ b. cond (has p.plain j) b (not b)) (low_part p used v c j l ∙ used_part p used v j l u) ∙ signed_twice (has p.plain j) v
 
 pub literal-one_low : (p : Signs) (used : Set) (j k : ℕ) → k < p.n → has used k ≡ true → literal p k (one_low p used j) ≡ not (eqb k j)
 literal-one_low p used j k l u = ap (λ b. cond (has p.plain k) b (not b)) (has-one_low p used j k ∙ ap (λ b. differ b (eqb k j)) (used_part p used true k l u)) ∙ by_sign (has p.plain k) (eqb k j)
@@ -65,42 +63,9 @@ literal-one_low p used j k l u = ap (λ b. cond (has p.plain k) b (not b)) (has-
     by_sign false true = refl
     by_sign false false = refl
 
--- ---- products
-
-all_true : (f : ℕ → Bool) (xs : List ℕ) → ((j : ℕ) → list_any (λ m. eqb m j) xs ≡ true → f j ≡ true) → list_all f xs ≡ true
-all_true f xs h = list_all_agree f (λ j. true) xs h ∙ none xs
-  where
-    none : (xs : List ℕ) → list_all (λ j. true) xs ≡ true
-    none [] = refl
-    none (x ∷ xs) = none xs
-
-pub product_true : (p : Signs) (t x : Set) → ((j : ℕ) → has t j ≡ true → literal p j x ≡ true) → product p t x ≡ true
-unfolding product
-product_true p t x h = all_true (λ j. literal p j x) (members t) (λ j m. h j (sym (members-has t j) ∙ m))
-
-one_false : (f : ℕ → Bool) (j : ℕ) (xs : List ℕ) → list_any (λ m. eqb m j) xs ≡ true → f j ≡ false → list_all f xs ≡ false
-one_false f j [] there h = absurd (false≢true there)
-one_false f j (x ∷ xs) there h = elim (or_cases _ _ there) [ inl e ↦ ap (λ b. b && list_all f xs) (ap f (eqb-true x j e) ∙ h) | inr later ↦ ap (λ b. f x && b) (one_false f j xs later h) ∙ and_none (f x) ]
-  where
-    and_none : (b : Bool) → (b && false) ≡ false
-    and_none true = refl
-    and_none false = refl
-
-pub product_false : (p : Signs) (t x : Set) (j : ℕ) → has t j ≡ true → literal p j x ≡ false → product p t x ≡ false
-unfolding product
-product_false p t x j m h = one_false (λ k. literal p k x) j (members t) (members-has t j ∙ m) h
-
 -- ---- the list has them
 
-pub Contains-from_any : (x : ℕ) (xs : List ℕ) → list_any (λ y. eqb y x) xs ≡ true → Contains xs x
-Contains-from_any x [] h = absurd (false≢true h)
-Contains-from_any x (y ∷ ys) h =
-    elim (or_cases _ _ h) [
-      | inl e ↦ (0, omega arith, eqb-true y x e)
-      | inr later ↦ let r = Contains-from_any x ys later in (suc r.0, omega (arith, r.1), r.2)
-    ]
-
-unrepeated_has : (x : Set) (xs : List Set) → list_any (λ y. eqb y x) xs ≡ true → list_any (λ y. eqb y x) (without_repeats xs) ≡ true
+pub unrepeated_has : (x : Set) (xs : List Set) → list_any (λ y. eqb y x) xs ≡ true → list_any (λ y. eqb y x) (without_repeats xs) ≡ true
 unrepeated_has x [] h = h
 unrepeated_has x (y ∷ ys) h =
     elim (cases_eq y x) [

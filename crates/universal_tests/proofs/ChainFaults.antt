@@ -1,16 +1,16 @@
 -- A fault at the stem or at a pin of a gate of a chain is detected.
-use Rattle.std.proofs.Common.{◌≡◌, ◌≢◌, ℕ, zero, suc, ◌+◌, ◌-◌, ◌<◌, ◌≤◌, Bool, true, false, not, inl, inr, List, [], ◌∷◌, length, refl, sym, ap, ap₂, ◌∙◌, subst, arith, eqb}
-use Rattle.std.specs.Prelude.{◌⊎◌, Contains, Option, Some, None, slice_get}
-use Rattle.std.specs.List.{list_any}
+use Rattle.std.proofs.Common.{◌≡◌, ℕ, zero, suc, ◌+◌, ◌-◌, ◌<◌, ◌≤◌, Bool, true, false, not, inl, inr, List, [], ◌∷◌, length, refl, sym, ap, ap₂, ◌∙◌, subst, arith}
+use Rattle.std.specs.Prelude.{◌⊎◌, Option, Some, None, slice_get}
 use Rattle.std.proofs.lemmas.Option.{same_Some, slice_get_within}
-use Rattle.ae_base.specs.Mask.{Set, differ, has, empty, first, inside}
+use Rattle.ae_base.specs.Mask.{Set, differ, has, empty}
+use Rattle.ae_base.proofs.Truth.{differ-false}
 use Rattle.ae_net.specs.declared.net.Gate.{Gate}
 use Rattle.ae_net.specs.declared.net.Place.TheVariants.{Stem, Pin}
 use Rattle.ae_net.specs.declared.net.Fault.{Fault}
-use Rattle.ae_net.specs.Gates.{exor, buffer}
+use Rattle.ae_net.specs.Gates.{buffer}
 use Rattle.ae_net.specs.Network.{Network}
 use Rattle.ae_net.specs.Names.{Names, lead}
-use Rattle.ae_net.specs.Run.{seen, value_of, run}
+use Rattle.ae_net.specs.Run.{value_of, run}
 use Rattle.ae_net.proofs.Follow.{EachGate, Fits}
 use Rattle.ae_net.proofs.OneGate.{InGate, InGate-stem, InGate-pin, held, stuck, at_stem, at_pin, at_other_pin}
 use Rattle.ae_net.proofs.Tables.{table-exor, table-buffer}
@@ -19,7 +19,7 @@ use Rattle.cascade.specs.Reddy.{lines, has_one, start, chain_place, term_signal,
 use Rattle.cascade.specs.Shows.{CanBuild}
 use Rattle.cascade.proofs.Found.{each_at}
 use Rattle.cascade.proofs.Law.{shows_rest}
-use Rattle.cascade.proofs.Values.{Shows, differ-false}
+use Rattle.cascade.proofs.Values.{Shows}
 use Rattle.universal_tests.specs.Sites.{IsDetected}
 use Rattle.universal_tests.specs.Universal.{universal_vectors}
 use Rattle.universal_tests.proofs.AndFaults.{not_not}

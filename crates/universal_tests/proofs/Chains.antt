@@ -1,28 +1,27 @@
 -- A fault in a gate of a chain that turns the gate's signal turns the output of the chain.
-use Rattle.std.proofs.Common.{◌≡◌, ◌≢◌, ℕ, zero, suc, ◌+◌, ◌-◌, ◌<◌, ◌≤◌, Bool, true, false, not, inl, inr, List, [], ◌∷◌, ◌++◌, length, refl, sym, ap, ap₂, ◌∙◌, subst, arith, eqb, eq-eqb}
+use Rattle.std.proofs.Common.{◌≡◌, ℕ, zero, suc, ◌+◌, ◌-◌, ◌<◌, ◌≤◌, Bool, true, false, not, inl, inr, List, [], ◌∷◌, ◌++◌, length, refl, sym, ap, ◌∙◌, subst, arith, eqb, eq-eqb}
 use Rattle.std.specs.Prelude.{Option, Some, None, slice_get, slice_index, codes}
-use Rattle.std.specs.List.{list_any, AllByRecursion}
+use Rattle.std.specs.List.{list_any}
 use Rattle.std.specs.Fmt.{decimal}
-use Rattle.std.proofs.lemmas.Bool.{cases_lt}
-use Rattle.ae_base.specs.Mask.{Set, differ, empty, first, inside}
+use Rattle.std.proofs.lemmas.Bool.{cases_lt, or_left, or_right}
+use Rattle.ae_base.specs.Mask.{Set, differ}
 use Rattle.ae_base.specs.Terms.{exor_of}
+use Rattle.ae_base.proofs.Truth.{differ-false}
 use Rattle.ae_net.specs.declared.net.Gate.{Gate}
 use Rattle.ae_net.specs.declared.net.Fault.{Fault}
-use Rattle.ae_net.specs.Gates.{exor, buffer}
+use Rattle.ae_net.specs.Gates.{exor}
 use Rattle.ae_net.specs.Names.{Names, lead, inner}
 use Rattle.ae_net.specs.Run.{value_of}
 use Rattle.ae_net.proofs.Follow.{EachGate, EachGate-append, Fits, Follows}
 use Rattle.ae_net.proofs.OneGate.{InGate, Follows-quiet}
-use Rattle.ae_net.proofs.Tables.{table-exor, table-buffer}
+use Rattle.ae_net.proofs.Tables.{table-exor}
 use Rattle.expansion.specs.Terms.{Terms}
-use Rattle.cascade.specs.Reddy.{place_of, lines, turned, start, is_wide, wide_terms, and_place, chain_place, term_signal, links, chain, rest, inner_gates, chains, ends, reddy_net}
+use Rattle.cascade.specs.Reddy.{lines, start, wide_terms, chain_place, term_signal, links, chain, rest, inner_gates, chains, ends, reddy_net}
 use Rattle.cascade.specs.Shows.{CanBuild}
-use Rattle.cascade.proofs.Found.{each_at}
 use Rattle.cascade.proofs.GatesValid.{place_below, and_place_from}
-use Rattle.cascade.proofs.Law.{Stands, wide_stands, shows_rest, length-chain}
-use Rattle.cascade.proofs.Lists.{or_left, or_right}
+use Rattle.cascade.proofs.Law.{wide_stands, shows_rest, length-chain}
 use Rattle.cascade.proofs.NamesApart.{all_inner}
-use Rattle.cascade.proofs.Values.{Shows, value-links, differ-false}
+use Rattle.cascade.proofs.Values.{Shows, value-links}
 use Rattle.universal_tests.proofs.TwoRuns.{Both, TwoRuns, Turned, faulty, plain, term_kept, itself}
 use Rattle.universal_tests.proofs.Turns.{differ-not_left, stands_at, all_inside, chain_after}
 

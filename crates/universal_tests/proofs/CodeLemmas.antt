@@ -13,10 +13,11 @@ use Rattle.std.proofs.lemmas.Bool.{le-ltb}
 use Rattle.std.proofs.lemmas.List.{length-map}
 use Rattle.std.proofs.lemmas.List.Elements.{All-from_recursion, All-map, recursion_from_All}
 use Rattle.expansion.specs.Terms.{Terms, used_inputs}
+use Rattle.expansion.proofs.Even.{has-used}
 use Rattle.cascade.specs.FirstVectors.{literals_at, without_repeats, first_vectors}
 use Rattle.cascade.proofs.CodeLemmas.{map_kept_more}
 use Rattle.cascade.proofs.GatesValid.{each_member, length-members}
-use Rattle.cascade.proofs.VectorLemmas.{added, add_last, each_once, has-literals_at, has-used, length_once_le, once_again, once_apart}
+use Rattle.cascade.proofs.VectorLemmas.{added, add_last, each_once, has-literals_at, length_once_le, once_again, once_apart}
 use Rattle.universal_tests.specs.Universal.{one_low, universal_vectors}
 use Rattle.universal_tests.proofs.AtVectors.{has-one_low}
 

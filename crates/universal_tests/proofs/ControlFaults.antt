@@ -1,38 +1,38 @@
 -- A fault at the stem of the control, at the stem or the pin of its inverter, or at a port is detected.
-use Rattle.std.proofs.Common.{◌≡◌, ◌≢◌, ℕ, ◌+◌, ◌<◌, ◌≤◌, Bool, true, false, not, cond, inl, inr, List, [], ◌∷◌, length, get_or, refl, sym, ap, ap₂, ◌∙◌, subst, arith, eqb, eq-eqb, ne_eqb}
-use Rattle.std.specs.Prelude.{Contains, Option, Some, None, slice_index, slice_get, codes}
+use Rattle.std.proofs.Common.{◌≡◌, ℕ, ◌+◌, ◌<◌, Bool, true, false, not, cond, inl, inr, List, [], ◌∷◌, length, get_or, refl, sym, ap, ap₂, ◌∙◌, arith, eq-eqb, ne_eqb}
+use Rattle.std.specs.Prelude.{Option, Some, None, slice_index, slice_get, codes}
 use Rattle.std.specs.List.{list_any, AllByRecursion}
 use Rattle.std.proofs.lemmas.Bool.{cases_eq}
 use Rattle.std.proofs.lemmas.Option.{slice_get_within, slice_get-get_or}
-use Rattle.ae_base.specs.Mask.{Set, differ, has, empty, first, inside, members}
+use Rattle.ae_base.specs.Mask.{Set, differ, has, first, inside, members}
 use Rattle.ae_base.specs.Terms.{IsInOrder, product, exor_of, value}
 use Rattle.ae_net.specs.declared.net.Gate.{Gate}
 use Rattle.ae_net.specs.declared.net.Place.TheVariants.{Stem, Pin, Port}
 use Rattle.ae_net.specs.declared.net.Fault.{Fault}
-use Rattle.ae_net.specs.Detects.{Detects}
 use Rattle.ae_net.specs.Gates.{inverter}
 use Rattle.ae_net.specs.Network.{Network}
 use Rattle.ae_net.specs.Names.{Names, lead, inner}
 use Rattle.ae_net.specs.Run.{seen, value_of, run, out}
 use Rattle.ae_base.proofs.Members.{members-has}
+use Rattle.ae_base.proofs.Sets.{inside-below}
+use Rattle.ae_base.proofs.Truth.{differ-false}
 use Rattle.ae_net.proofs.Follow.{EachGate}
-use Rattle.ae_net.proofs.OneGate.{InGate, InGate-stem, InGate-pin, Quiet, held, stuck, at_stem, at_pin, run_as, has-out, Detects-turned}
+use Rattle.ae_net.proofs.OneGate.{InGate, InGate-stem, InGate-pin, held, stuck, at_stem, at_pin, run_as, has-out, Detects-turned}
 use Rattle.ae_net.proofs.Tables.{table-inverter}
 use Rattle.expansion.specs.Terms.{Terms, used_inputs}
-use Rattle.cascade.specs.Reddy.{lines, turned, has_one, control_gates, start, and_place, chain_place, rest, ends, reddy_net}
+use Rattle.cascade.specs.Reddy.{lines, turned, has_one, control_gates, rest, reddy_net}
 use Rattle.cascade.specs.Shows.{CanBuild}
-use Rattle.cascade.proofs.Found.{any_found, All-get, stands_inside}
-use Rattle.cascade.proofs.Law.{members_below, value-rest, each_rest, shows}
+use Rattle.cascade.proofs.Found.{any_found, All-get}
+use Rattle.cascade.proofs.Law.{value-rest, each_rest, shows}
 use Rattle.cascade.proofs.Lists.{list_all_agree}
 use Rattle.cascade.proofs.Ports.{length-outputs}
 use Rattle.cascade.proofs.Shown.{valid}
-use Rattle.cascade.proofs.Values.{differ-false}
 use Rattle.universal_tests.specs.Sites.{IsDetected}
 use Rattle.universal_tests.specs.Universal.{universal_vectors}
 use Rattle.universal_tests.proofs.AndFaults.{not_not}
 use Rattle.universal_tests.proofs.Products.{product_low}
 use Rattle.universal_tests.proofs.Turns.{start_turns, stands_at, all_inside}
-use Rattle.universal_tests.proofs.TwoRuns.{Both, TwoRuns, Turned, two_runs, inputs_are, outputs_are, Detects-gate}
+use Rattle.universal_tests.proofs.TwoRuns.{Both, TwoRuns, two_runs, inputs_are, Detects-gate}
 use Rattle.universal_tests.proofs.AtVectors.{all_at, control-all_at, low_part, Contains-all_at}
 
 -- ---- the inverter of the control
@@ -81,6 +81,12 @@ module _ (names : Names) (e : Terms) (can : CanBuild names e) (some : list_any h
 
 -- ---- what the outputs are without a fault
 
+-- an EXOR turns with its first part
+pub other_way : (a b : Bool) → differ a b ≡ not (differ (not a) b)
+other_way true b = refl
+other_way false true = refl
+other_way false false = refl
+
 -- where all literals are 0 only the empty term is 1
 value_low : (names : Names) (e : Terms) → CanBuild names e → (c : Bool) (o : ℕ) (ts : List Set) → slice_get e.outs o ≡ Some ts → value e.polarity ts (all_at e.polarity (used_inputs e) false c) ≡ has_one ts
 value_low names e can c o ts there =
@@ -101,7 +107,7 @@ value_kept e [] c d h = refl
 value_kept e (t ∷ ts) c d (h, hs) =
     ap₂ differ
     (list_all_agree _ _ (members t) (λ j m.
-    let l : j < e.polarity.n = members_below e.polarity.n t h j (sym (members-has t j) ∙ m) in
+    let l : j < e.polarity.n = inside-below e.polarity.n t h j (sym (members-has t j) ∙ m) in
     ap (λ b. cond (has e.polarity.plain j) b (not b)) (low_part e.polarity (used_inputs e) false c j l ∙ sym (low_part e.polarity (used_inputs e) false d j l))))
     (value_kept e ts c d hs)
 
@@ -169,8 +175,3 @@ module _ (names : Names) (e : Terms) (can : CanBuild names e) where
             ∙ ap (λ c. not (differ c (value e.polarity ts x))) (sym (control-all_at e.polarity (used_inputs e) false (not u)))
             ∙ ap not (sym (shown x 0 ts there))),
       )
-    where
-      other_way : (a b : Bool) → differ a b ≡ not (differ (not a) b)
-      other_way true b = refl
-      other_way false true = refl
-      other_way false false = refl

@@ -8,7 +8,7 @@ pub mod ControlFaults
 pub mod ChainFaults
 pub mod Whole
 pub mod CodeLemmas
+pub mod Line
 pub mod OddInputs
-pub mod OddInverters
 pub mod Literals
 pub mod Small

@@ -1,24 +1,26 @@
 -- The products of the terms at the universal vectors.
-use Rattle.std.proofs.Common.{◌≡◌, ◌≢◌, ℕ, ◌<◌, Bool, true, false, not, ◌&&◌, refl, sym, ap, ap₂, ◌∙◌, eqb, eq-eqb}
+use Rattle.std.proofs.Common.{◌≡◌, ◌≢◌, ℕ, ◌<◌, Bool, true, false, not, ◌&&◌, refl, ap, ap₂, ◌∙◌, eq-eqb}
 use Rattle.std.specs.Prelude.{slice_index}
 use Rattle.std.proofs.lemmas.Bool.{lt-ltb}
+use Rattle.fn_store.proofs.Products.{literals-product}
 use Rattle.ae_base.specs.Mask.{Set, has, empty, first, inside, members}
 use Rattle.ae_base.specs.Terms.{product}
+use Rattle.ae_base.proofs.Sets.{inside-below}
 use Rattle.expansion.specs.Terms.{Terms, used_inputs}
+use Rattle.expansion.proofs.Even.{has-used, product_false}
 use Rattle.cascade.proofs.GatesValid.{first_member}
-use Rattle.cascade.proofs.Law.{Stands, used_since, members_below}
-use Rattle.cascade.proofs.VectorLemmas.{has-used}
+use Rattle.cascade.proofs.Law.{Stands, used_since}
 use Rattle.universal_tests.specs.Universal.{one_low}
-use Rattle.universal_tests.proofs.AtVectors.{all_at, literal-all_at, literal-one_low, product_true, product_false}
+use Rattle.universal_tests.proofs.AtVectors.{all_at, literal-all_at, literal-one_low}
 
 -- a member of a term is a used input
 pub member_used : (e : Terms) (t : Set) → Stands e t → inside t (first e.polarity.n) ≡ true → (j : ℕ) → has t j ≡ true → (j < e.polarity.n) × (has (used_inputs e) j ≡ true)
 member_used e t stands below j m =
-    let l : j < e.polarity.n = members_below e.polarity.n t below j m in
+    let l : j < e.polarity.n = inside-below e.polarity.n t below j m in
     (l, has-used e j ∙ ap₂ (λ a b. a && b) (lt-ltb j e.polarity.n l) (used_since e t j stands m))
 
 pub product_high : (e : Terms) (c : Bool) (t : Set) → Stands e t → inside t (first e.polarity.n) ≡ true → product e.polarity t (all_at e.polarity (used_inputs e) true c) ≡ true
-product_high e c t stands below = product_true e.polarity t _ (λ j m. let u = member_used e t stands below j m in literal-all_at e.polarity (used_inputs e) true c j u.0 u.1)
+product_high e c t stands below = literals-product e.polarity t _ (λ j m. let u = member_used e t stands below j m in literal-all_at e.polarity (used_inputs e) true c j u.0 u.1)
 
 pub product_low : (e : Terms) (c : Bool) (t : Set) → Stands e t → inside t (first e.polarity.n) ≡ true → (t ≢ empty) → product e.polarity t (all_at e.polarity (used_inputs e) false c) ≡ false
 product_low e c t stands below some =

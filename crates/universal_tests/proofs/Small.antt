@@ -1,5 +1,5 @@
 -- The expansions that the tests make.
-use Rattle.std.proofs.Common.{◌≡◌, ◌≢◌, ℕ, zero, suc, ◌+◌, ◌<◌, ◌≤◌, List, [], ◌∷◌, length, Less, true, refl, sym, ap, ◌∙◌, arith}
+use Rattle.std.proofs.Common.{◌≡◌, ℕ, ◌≤◌, List, [], ◌∷◌, length, Less, true, refl, sym, ◌∙◌, arith}
 use Rattle.std.specs.Prelude.{All}
 use Rattle.std.specs.List.{AllByRecursion}
 use Rattle.std.proofs.lemmas.Bool.{ltb-true}
@@ -33,7 +33,7 @@ one_output n ts small few below order = record {
   few_terms = omega (arith, few);
 }
 
-single_order : (t : Set) → IsInOrder (t ∷ [])
+pub single_order : (t : Set) → IsInOrder (t ∷ [])
 single_order t i j d l k = absurd (omega (arith, k, l))
 
 less_again : (cmp_terms (two 0 1) (two 1 2) ≡ Less) × (cmp_terms (two 0 2) (two 1 2) ≡ Less)

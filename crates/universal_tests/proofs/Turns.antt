@@ -1,5 +1,5 @@
 -- A fault in one gate before the chains that turns the gate's signal turns an output: a chain takes the signal in at one place.
-use Rattle.std.proofs.Common.{◌≡◌, ◌≢◌, ℕ, zero, suc, ◌+◌, ◌<◌, ◌≤◌, Bool, true, false, not, cond, inl, inr, List, [], ◌∷◌, length, refl, sym, ap, ap₂, ◌∙◌, subst, arith, eqb, eq-eqb, ne_eqb}
+use Rattle.std.proofs.Common.{◌≡◌, ◌≢◌, ℕ, suc, ◌+◌, ◌<◌, Bool, true, false, not, cond, inl, inr, List, [], ◌∷◌, length, refl, sym, ap, ap₂, ◌∙◌, arith, eqb, eq-eqb, ne_eqb}
 use Rattle.std.specs.Prelude.{Option, Some, None, slice_get, slice_index}
 use Rattle.std.specs.List.{list_any, AllByRecursion}
 use Rattle.std.specs.declared.cmp.Ordering.TheVariants.{Less}
@@ -9,16 +9,18 @@ use Rattle.std.proofs.lemmas.List.Kept.{AllPairs-filter}
 use Rattle.ae_base.specs.Mask.{Set, differ, empty, first, inside, cmp_terms, len, members}
 use Rattle.ae_base.specs.Terms.{IsInOrder, exor_of}
 use Rattle.ae_base.proofs.Order.{less_apart}
+use Rattle.ae_base.proofs.InOrder.{in_order-tail}
 use Rattle.ae_net.specs.declared.net.Fault.{Fault}
 use Rattle.ae_net.specs.Names.{Names}
 use Rattle.ae_net.specs.Run.{value_of}
 use Rattle.expansion.specs.Terms.{Terms}
-use Rattle.cascade.specs.Reddy.{place_of, lines, turned, has_one, start, is_wide, wide_terms, and_place, chain_place, term_signal, rest, ends}
+use Rattle.expansion.proofs.Lists.{any_at}
+use Rattle.cascade.specs.Reddy.{place_of, lines, turned, has_one, start, is_wide, wide_terms, and_place, chain_place, term_signal, rest}
 use Rattle.cascade.specs.Shows.{CanBuild}
-use Rattle.cascade.proofs.Found.{All-get, place_apart, stands_inside}
+use Rattle.cascade.proofs.Found.{All-get, place_apart}
 use Rattle.cascade.proofs.GatesValid.{place_below, and_place_from}
-use Rattle.cascade.proofs.Law.{Stands, wide_stands, shows_rest, order_tail}
-use Rattle.cascade.proofs.Lists.{any_at, any_kept}
+use Rattle.cascade.proofs.Law.{Stands, wide_stands, shows_rest}
+use Rattle.cascade.proofs.Lists.{any_kept}
 use Rattle.cascade.proofs.Values.{Shows}
 use Rattle.universal_tests.proofs.TwoRuns.{TwoRuns, Turned, term_kept, faulty_port, plain_port, itself}
 
@@ -49,7 +51,7 @@ exor-turned t f [] order h = absurd (false≢true h)
 exor-turned t f (u ∷ us) order h =
     elim (cases_eq u t) [
       | inl a ↦ rw (eq-eqb u t a, exor-others t f us (later_others t u us a order)) (differ-not_left (f u) (exor_of f us))
-      | inr n ↦ rw (ne_eqb u t n) (ap (differ (f u)) (exor-turned t f us (order_tail u us order) (rw (ne_eqb u t n) at h)) ∙ differ-not_right (f u) (exor_of f us))
+      | inr n ↦ rw (ne_eqb u t n) (ap (differ (f u)) (exor-turned t f us (in_order-tail u us order) (rw (ne_eqb u t n) at h)) ∙ differ-not_right (f u) (exor_of f us))
     ]
 
 -- ---- what is known of the terms of an output

@@ -1,24 +1,24 @@
 -- The Reddy network with a fault in one gate, beside the network without it.
-use Rattle.std.proofs.Common.{◌≡◌, ◌≢◌, ℕ, zero, suc, ◌+◌, ◌-◌, ◌<◌, ◌≤◌, Bool, true, false, not, cond, inl, inr, List, [], ◌∷◌, ◌++◌, length, map, refl, sym, ap, ap₂, ◌∙◌, subst, arith, length-append, zero-add}
+use Rattle.std.proofs.Common.{◌≡◌, ◌≢◌, ℕ, ◌+◌, ◌<◌, ◌≤◌, Bool, true, false, not, cond, List, [], ◌∷◌, length, refl, sym, ap, ◌∙◌, subst, arith, length-append, zero-add}
 use Rattle.std.specs.Prelude.{Option, Some, None, slice_get, slice_index, codes}
-use Rattle.std.specs.List.{list_any, AllByRecursion}
 use Rattle.ae_base.specs.Mask.{Set, differ, has, empty, first, inside, members}
 use Rattle.ae_base.specs.Terms.{product, exor_of}
+use Rattle.ae_base.proofs.Sets.{inside-below}
 use Rattle.ae_net.specs.declared.net.Gate.{Gate}
 use Rattle.ae_net.specs.declared.net.Fault.{Fault}
 use Rattle.ae_net.specs.Detects.{Detects}
 use Rattle.ae_net.specs.Names.{Names, lead, inner}
 use Rattle.ae_net.specs.Network.{Network}
-use Rattle.ae_net.specs.Run.{table, value_of, ones_seen, IsRun, run}
+use Rattle.ae_net.specs.Run.{table, value_of, IsRun, run}
 use Rattle.ae_net.proofs.Follow.{EachGate, EachGate-from_get, EachGate-weaker, Fits, Follows}
 use Rattle.ae_net.proofs.OneGate.{InGate, Fits-quiet, Follows-quiet, before_gate, has-out, Detects-turned}
 use Rattle.ae_net.proofs.Runs.{IsRun-run, ones_seen_agree}
 use Rattle.expansion.specs.Terms.{Terms}
-use Rattle.cascade.specs.Reddy.{place_of, lines, turned, literal_signal, inverters, has_one, control_gates, start, is_wide, wide_terms, and_place, chain_place, term_signal, and_gates, rest, chains, ends, gates, reddy_net}
+use Rattle.cascade.specs.Reddy.{place_of, lines, turned, literal_signal, inverters, has_one, control_gates, start, is_wide, wide_terms, and_place, chain_place, term_signal, and_gates, rest, ends, gates, reddy_net}
 use Rattle.cascade.specs.Shows.{CanBuild}
-use Rattle.cascade.proofs.Law.{Stands, Inputs, Built, built, and_of, and_fits, value-literal, value-term, value-start, value-port, shows_rest}
-use Rattle.cascade.proofs.GatesValid.{literal_below, literals_below, first_member, and_place_from}
-use Rattle.cascade.proofs.Law.{used_since, members_below}
+use Rattle.cascade.proofs.Law.{Stands, Inputs, Built, built, and_of, and_fits, value-literal, value-term, value-start, value-port}
+use Rattle.cascade.proofs.GatesValid.{literal_below, literals_below, first_member}
+use Rattle.cascade.proofs.Law.{used_since}
 use Rattle.cascade.proofs.Ports.{length-outputs}
 use Rattle.cascade.proofs.Shown.{valid}
 use Rattle.cascade.proofs.Values.{Shows}
@@ -119,7 +119,7 @@ module _ (names : Names) (e : Terms) (fault : Option Fault) (p : ℕ) (x : Set) 
           ∙ sym (and_fits None (lead names) e v (plain (and_place e) (and_gates (lead names) e) two.parts.ands) t stands wide)
       by_width false narrow =
           let h : has t (slice_index (members t) 0) ≡ true = first_member t some in
-          two.before (literal_signal e (slice_index (members t) 0)) (omega (arith, literal_below e (slice_index (members t) 0) (members_below e.polarity.n t below _ h) (used_since e t _ stands h)))
+          two.before (literal_signal e (slice_index (members t) 0)) (omega (arith, literal_below e (slice_index (members t) 0) (inside-below e.polarity.n t below _ h) (used_since e t _ stands h)))
 
   -- what output o shows where the fault is before the chains
   pub faulty_port : CanBuild names e → (f : Set → Bool) (o : ℕ) (ts : List Set) → p < chain_place e → slice_get e.outs o ≡ Some ts → Shows e w f (rest ts) → value_of w (slice_index (ends e (chain_place e) e.outs) o) ≡ differ (value_of w (start e ts)) (exor_of f (rest ts))

@@ -1,25 +1,24 @@
 -- Each fault at a site of the Reddy network is detected, but those of the literals of the source's inputs.
-use Rattle.std.proofs.Common.{◌≡◌, ℕ, zero, suc, ◌+◌, ◌-◌, ◌<◌, ◌≤◌, Bool, true, false, cond, inl, inr, List, [], ◌∷◌, length, map, get_or, refl, sym, ap, ◌∙◌, subst, arith, zero-add}
+use Rattle.std.proofs.Common.{◌≡◌, ℕ, zero, suc, ◌+◌, ◌-◌, ◌<◌, ◌≤◌, Bool, true, false, cond, inl, inr, List, [], ◌∷◌, length, get_or, refl, sym, ap, ◌∙◌, subst, arith, zero-add}
 use Rattle.std.specs.Prelude.{◌++◌, Some, slice_get, codes}
-use Rattle.std.specs.List.{list_any, range_with_len, AllByRecursion}
+use Rattle.std.specs.List.{list_any, AllByRecursion}
 use Rattle.std.specs.Fmt.{decimal}
-use Rattle.std.proofs.lemmas.Bool.{cases_Bool, cases_eq, cases_lt}
+use Rattle.std.proofs.lemmas.Bool.{cases_eq, cases_lt}
 use Rattle.std.proofs.lemmas.List.{length-map}
 use Rattle.std.proofs.lemmas.List.Elements.{All-from_recursion}
 use Rattle.std.proofs.lemmas.Option.{same_Some, slice_get_within}
-use Rattle.ae_base.specs.Mask.{Set, members}
+use Rattle.ae_base.specs.Mask.{members}
 use Rattle.ae_net.specs.declared.net.Gate.{Gate}
 use Rattle.ae_net.specs.declared.net.Place.{Place}
 use Rattle.ae_net.specs.declared.net.Place.TheVariants.{Stem, Pin, Port}
-use Rattle.ae_net.specs.declared.net.Fault.{Fault}
 use Rattle.ae_net.specs.Faults.{IsPlace}
 use Rattle.ae_net.specs.Gates.{inverter}
 use Rattle.ae_net.specs.Names.{Names, lead, inner}
 use Rattle.ae_net.specs.Network.{Network}
 use Rattle.ae_net.proofs.Follow.{EachGate, EachGate-from_get}
-use Rattle.ae_net.proofs.ReadSignals.{read_within}
+use Rattle.ae_net.proofs.FaultLaws.{read_within}
 use Rattle.expansion.specs.Terms.{Terms, used_inputs}
-use Rattle.cascade.specs.Reddy.{gates_for, place_of, lines, turned, literal_signal, has_one, wide_terms, and_place, chain_place, gates, reddy_net}
+use Rattle.cascade.specs.Reddy.{gates_for, place_of, lines, turned, literal_signal, has_one, wide_terms, and_place, chain_place, reddy_net}
 use Rattle.cascade.specs.Shows.{CanBuild}
 use Rattle.cascade.proofs.GatesValid.{range_below}
 use Rattle.cascade.proofs.Law.{Built, built, and_of}

@@ -3,16 +3,19 @@ ghost use Rattle.std.specs.Prelude.{◌≡◌, ◌<◌, ◌≤◌, ◌+◌, ◌=
 ghost use Rattle.std.specs.List.{list_any};
 ghost use Rattle.ae_base.specs.declared.limits.TheConstants.{WIDTH};
 ghost use Rattle.ae_base.specs.Mask.{empty, has, with, xor};
+ghost use Rattle.ae_base.specs.Source.{Source};
 ghost use Rattle.ae_base.specs.Terms.{IsPoint};
 ghost use Rattle.ae_net.specs.Valid.{IsDistinct};
 ghost use Rattle.ae_net.specs.Names.{Names};
 ghost use Rattle.cascade.specs.Reddy.{reddy_net};
 ghost use Rattle.cascade.specs.Shows.{CanBuild};
+ghost use Rattle.expansion.specs.Functions.{AreExpansions};
 ghost use Rattle.expansion.specs.Terms.{used_inputs};
-ghost use Rattle.universal_tests.specs.Odd.{is_odd, DetectsLiterals};
+ghost use Rattle.universal_tests.specs.Odd.{IsHeldOddly, IsUsedNotEven, DetectsLiterals};
 ghost use Rattle.universal_tests.specs.Sites.{DetectsAllBut};
 ghost use Rattle.universal_tests.specs.Universal as spec;
 
+use crate::laws::universal_law;
 use ae_base::{Mask, Memory, Point};
 use cascade::{first_vectors, literals_high, push_new};
 use expansion::{Expansion, used_inputs};
@@ -35,7 +38,8 @@ fn push_turned(list: &mut Vec<Point>, used: Mask, high: Point, j: u32) -> Result
 /// They are n + 4 at most, n being the number of inputs (after S. M. Reddy, "Easily Testable Realizations for Logic Functions", 1972).
 ///
 /// On the Reddy network of the expansions they detect every stuck-at fault but those of the literals of the source's inputs, and of these
-/// each whose input some output's expansion holds an odd number of times; `universal_law` says the same of the definitions.
+/// each whose input some output's expansion holds an odd number of times, which is where a source of these expansions uses it and it is
+/// not even; `universal_law` says the same of the definitions.
 #[tactic(auto, using(crate::proofs::CodeLemmas::none_so_far))]
 pub fn universal(alloc: Global, e: &Expansion) -> Result<Vec<Point>, Memory>
     ensures vectors { IfOk result (λ list. list.items ≡ spec.universal_vectors e.now.polarity (used_inputs e.now)) }
@@ -43,7 +47,9 @@ pub fn universal(alloc: Global, e: &Expansion) -> Result<Vec<Point>, Memory>
     ensures distinct { IfOk result (λ list. IsDistinct list.items) }
     ensures points { IfOk result (λ list. All (IsPoint (e.now.polarity.n + 1)) list.items) }
     ensures others { IfOk result (λ list. (names : Names) → CanBuild names e.now → DetectsAllBut (reddy_net names e.now) e.now.polarity.n list.items) }
-    ensures literals { IfOk result (λ list. (names : Names) → CanBuild names e.now → DetectsLiterals (reddy_net names e.now) e.now.polarity.n (is_odd e.now) list.items) }
+    ensures literals { IfOk result (λ list. (names : Names) → CanBuild names e.now → DetectsLiterals (reddy_net names e.now) (IsHeldOddly e.now) list.items) }
+    ensures used_not_even { IfOk result (λ list. (s : Source) (names : Names) → AreExpansions s e.now.polarity e.now → CanBuild names e.now
+        → DetectsLiterals (reddy_net names e.now) (IsUsedNotEven s e.now.polarity) list.items) }
 {
     let used = used_inputs(e);
     let high = literals_high(e);
@@ -51,5 +57,6 @@ pub fn universal(alloc: Global, e: &Expansion) -> Result<Vec<Point>, Memory>
     for j in 0..e.inputs() {
         push_turned(&mut list, used, high, j)?;
     }
+    universal_law();
     Ok(list)
 }

@@ -1,7 +1,7 @@
 //! A source that is cut off: BCD to seven segments.
 
 use crate::refused::{Refusal, first_wrong};
-use crate::written::{Row, gives};
+use crate::written::{Counts, Row, gives};
 use std::test::Fail;
 
 static CUT: [Refusal; 4] = [
@@ -35,8 +35,14 @@ static CONSTANTS: Row = Row {
     source: b"# BCD to seven segments\n.i 4\n.o 7",
     net: b".model andexor\n.inputs x1 x2 x3 x4 _c\n.outputs f1 f2 f3 f4 f5 f6 f7\n.names _c f1\n1 1\n.names _c f2\n1 1\n.names _c f3\n1 1\n.names _c f4\n1 1\n.names _c f5\n1 1\n.names _c f6\n1 1\n.names _c f7\n1 1\n.end\n",
     vectors: b"andexor-vectors 1\nform reddy\ninputs x1 x2 x3 x4 _c\noutputs f1 f2 f3 f4 f5 f6 f7\npolarity 1111\nvector 00000 0000000\nvector 00001 1111111\nend\n",
-    report: b"terms 0\ngates 7\nvectors 2\n",
-    faults: 44,
+    counts: Counts {
+        inputs: 4,
+        outputs: 7,
+        terms: 0,
+        gates: 7,
+        faults: 44,
+        vectors: 2,
+    },
 };
 
 #[test]

@@ -1,6 +1,6 @@
 //! What is written for sources of the whole PLA profile: types, names, don't cares, and the many ways to write one text.
 
-use crate::written::{AND, ONE_INPUT, Row, first_other, gives, gives_for};
+use crate::written::{AND, Counts, ONE_INPUT, Row, first_other, gives, gives_for};
 use std::test::Fail;
 
 /// BCD to seven segments, as a user has it: ten AND gates, fifty EXOR gates and the inverter of the control.
@@ -8,8 +8,14 @@ static BCD: Row = Row {
     source: b"# BCD to seven segments\n.i 4\n.o 7\n.ilb d8 d4 d2 d1\n.ob a b c d e f g\n.p 12\n0000 1111110\n0001 0110000\n0010 1101101\n0011 1111001\n0100 0110011\n0101 1011011\n0110 1011111\n0111 1110000\n1000 1111111\n1001 1111011\n101- -------\n11-- -------\n.e\n",
     net: b".model andexor\n.inputs d8 d4 d2 d1 _c\n.outputs a b c d e f g\n.names _c _m\n0 1\n.names d8 d4 _t1\n11 1\n.names d8 d2 _t2\n11 1\n.names d8 d1 _t3\n11 1\n.names d4 d2 _t4\n11 1\n.names d4 d1 _t5\n11 1\n.names d2 d1 _t6\n11 1\n.names d8 d4 d1 _t7\n111 1\n.names d8 d2 d1 _t8\n111 1\n.names d4 d2 d1 _t9\n111 1\n.names d8 d4 d2 d1 _t10\n1111 1\n.names _m d4 _x1\n10 1\n01 1\n.names _x1 d1 _x2\n10 1\n01 1\n.names _x2 _t2 _x3\n10 1\n01 1\n.names _x3 _t3 _x4\n10 1\n01 1\n.names _x4 _t4 _x5\n10 1\n01 1\n.names _x5 _t6 _x6\n10 1\n01 1\n.names _x6 _t8 a\n10 1\n01 1\n.names _m _t1 _x7\n10 1\n01 1\n.names _x7 _t2 _x8\n10 1\n01 1\n.names _x8 _t4 _x9\n10 1\n01 1\n.names _x9 _t5 _x10\n10 1\n01 1\n.names _x10 _t7 b\n10 1\n01 1\n.names _m d2 _x11\n10 1\n01 1\n.names _x11 _t1 _x12\n10 1\n01 1\n.names _x12 _t4 _x13\n10 1\n01 1\n.names _x13 _t6 _x14\n10 1\n01 1\n.names _x14 _t8 _x15\n10 1\n01 1\n.names _x15 _t9 _x16\n10 1\n01 1\n.names _x16 _t10 c\n10 1\n01 1\n.names _m d4 _x17\n10 1\n01 1\n.names _x17 d1 _x18\n10 1\n01 1\n.names _x18 _t2 _x19\n10 1\n01 1\n.names _x19 _t3 _x20\n10 1\n01 1\n.names _x20 _t4 _x21\n10 1\n01 1\n.names _x21 _t6 _x22\n10 1\n01 1\n.names _x22 _t8 _x23\n10 1\n01 1\n.names _x23 _t9 _x24\n10 1\n01 1\n.names _x24 _t10 d\n10 1\n01 1\n.names _m d4 _x25\n10 1\n01 1\n.names _x25 d1 _x26\n10 1\n01 1\n.names _x26 _t2 _x27\n10 1\n01 1\n.names _x27 _t4 _x28\n10 1\n01 1\n.names _x28 _t5 _x29\n10 1\n01 1\n.names _x29 _t8 _x30\n10 1\n01 1\n.names _x30 _t9 e\n10 1\n01 1\n.names _m d2 _x31\n10 1\n01 1\n.names _x31 d1 _x32\n10 1\n01 1\n.names _x32 _t1 _x33\n10 1\n01 1\n.names _x33 _t3 _x34\n10 1\n01 1\n.names _x34 _t4 _x35\n10 1\n01 1\n.names _x35 _t5 _x36\n10 1\n01 1\n.names _x36 _t6 _x37\n10 1\n01 1\n.names _x37 _t7 _x38\n10 1\n01 1\n.names _x38 _t8 f\n10 1\n01 1\n.names _c d8 _x39\n10 1\n01 1\n.names _x39 d4 _x40\n10 1\n01 1\n.names _x40 d2 _x41\n10 1\n01 1\n.names _x41 _t4 _x42\n10 1\n01 1\n.names _x42 _t9 _x43\n10 1\n01 1\n.names _x43 _t10 g\n10 1\n01 1\n.end\n",
     vectors: b"andexor-vectors 1\nform reddy\ninputs d8 d4 d2 d1 _c\noutputs a b c d e f g\npolarity 1111\nvector 00000 1111110\nvector 11110 0000000\nvector 00001 0000001\nvector 11111 1111111\nvector 01110 1110000\nvector 10110 0000000\nvector 11010 0000000\nvector 11100 0000000\nvector 01000 0110011\nvector 10100 0000000\nvector 10000 1111111\nvector 00010 0110000\nend\n",
-    report: b"terms 56\ngates 61\nvectors 12\n",
-    faults: 398,
+    counts: Counts {
+        inputs: 4,
+        outputs: 7,
+        terms: 56,
+        gates: 61,
+        faults: 398,
+        vectors: 12,
+    },
 };
 
 #[test]
@@ -32,8 +38,14 @@ static FREE_POINT: Row = Row {
     source: b".i 2\n.o 1\n.type fr\n1- 1\n01 0\n.e\n",
     net: b".model andexor\n.inputs x1 x2 _c\n.outputs f1\n.names _c x1 f1\n10 1\n01 1\n.end\n",
     vectors: b"andexor-vectors 1\nform reddy\ninputs x1 x2 _c\noutputs f1\npolarity 11\nvector 000 0\nvector 100 1\nvector 001 1\nvector 101 0\nend\n",
-    report: b"terms 1\ngates 1\nvectors 4\n",
-    faults: 12,
+    counts: Counts {
+        inputs: 2,
+        outputs: 1,
+        terms: 1,
+        gates: 1,
+        faults: 12,
+        vectors: 4,
+    },
 };
 
 #[test]
@@ -48,8 +60,14 @@ static UNDERSCORES: Row = Row {
     source: b".i 2\n.o 1\n.ilb _c x\n.ob f\n11 1\n.e\n",
     net: b".model andexor\n.inputs _c x __c\n.outputs f\n.names _c x __t1\n11 1\n.names __c __t1 f\n10 1\n01 1\n.end\n",
     vectors: b"andexor-vectors 1\nform reddy\ninputs _c x __c\noutputs f\npolarity 11\nvector 000 0\nvector 110 1\nvector 001 1\nvector 111 0\nvector 010 0\nvector 100 0\nend\n",
-    report: b"terms 1\ngates 2\nvectors 6\n",
-    faults: 20,
+    counts: Counts {
+        inputs: 2,
+        outputs: 1,
+        terms: 1,
+        gates: 2,
+        faults: 20,
+        vectors: 6,
+    },
 };
 
 #[test]

@@ -1,68 +1,110 @@
 //! What is written for sources, byte for byte.
 
-use crate::written::{AND, ONE_INPUT, Row, gives};
+use crate::written::{AND, Counts, ONE_INPUT, Row, gives};
 use std::test::Fail;
 
 static MAJORITY: Row = Row {
     source: b".i 3\n.o 1\n11- 1\n1-1 1\n-11 1\n.e\n",
     net: b".model andexor\n.inputs x1 x2 x3 _c\n.outputs f1\n.names x1 x2 _t1\n11 1\n.names x1 x3 _t2\n11 1\n.names x2 x3 _t3\n11 1\n.names _c _t1 _x1\n10 1\n01 1\n.names _x1 _t2 _x2\n10 1\n01 1\n.names _x2 _t3 f1\n10 1\n01 1\n.end\n",
     vectors: b"andexor-vectors 1\nform reddy\ninputs x1 x2 x3 _c\noutputs f1\npolarity 111\nvector 0000 0\nvector 1110 1\nvector 0001 1\nvector 1111 0\nvector 0110 1\nvector 1010 1\nvector 1100 1\nvector 0100 0\nvector 1000 0\nend\n",
-    report: b"terms 3\ngates 6\nvectors 9\n",
-    faults: 46,
+    counts: Counts {
+        inputs: 3,
+        outputs: 1,
+        terms: 3,
+        gates: 6,
+        faults: 46,
+        vectors: 9,
+    },
 };
 
 static EXOR: Row = Row {
     source: b".i 2\n.o 1\n10 1\n01 1\n.e\n",
     net: b".model andexor\n.inputs x1 x2 _c\n.outputs f1\n.names _c x1 _x1\n10 1\n01 1\n.names _x1 x2 f1\n10 1\n01 1\n.end\n",
     vectors: b"andexor-vectors 1\nform reddy\ninputs x1 x2 _c\noutputs f1\npolarity 11\nvector 000 0\nvector 110 0\nvector 001 1\nvector 111 1\nvector 010 1\nvector 100 1\nend\n",
-    report: b"terms 2\ngates 2\nvectors 6\n",
-    faults: 20,
+    counts: Counts {
+        inputs: 2,
+        outputs: 1,
+        terms: 2,
+        gates: 2,
+        faults: 20,
+        vectors: 6,
+    },
 };
 
 static CONSTANT_0: Row = Row {
     source: b".i 2\n.o 1\n.e\n",
     net: b".model andexor\n.inputs x1 x2 _c\n.outputs f1\n.names _c f1\n1 1\n.end\n",
     vectors: b"andexor-vectors 1\nform reddy\ninputs x1 x2 _c\noutputs f1\npolarity 11\nvector 000 0\nvector 001 1\nend\n",
-    report: b"terms 0\ngates 1\nvectors 2\n",
-    faults: 8,
+    counts: Counts {
+        inputs: 2,
+        outputs: 1,
+        terms: 0,
+        gates: 1,
+        faults: 8,
+        vectors: 2,
+    },
 };
 
 static CONSTANT_1: Row = Row {
     source: b".i 2\n.o 1\n-- 1\n.e\n",
     net: b".model andexor\n.inputs x1 x2 _c\n.outputs f1\n.names _c _m\n0 1\n.names _m f1\n1 1\n.end\n",
     vectors: b"andexor-vectors 1\nform reddy\ninputs x1 x2 _c\noutputs f1\npolarity 11\nvector 000 1\nvector 001 0\nend\n",
-    report: b"terms 1\ngates 2\nvectors 2\n",
-    faults: 12,
+    counts: Counts {
+        inputs: 2,
+        outputs: 1,
+        terms: 1,
+        gates: 2,
+        faults: 12,
+        vectors: 2,
+    },
 };
 
 static SHARED: Row = Row {
     source: b".i 2\n.o 2\n0- 11\n-0 10\n-1 01\n.e\n",
     net: b".model andexor\n.inputs x1 x2 _c\n.outputs f1 f2\n.names _c _m\n0 1\n.names x1 x2 _t1\n11 1\n.names _m _t1 f1\n10 1\n01 1\n.names _m x1 _x1\n10 1\n01 1\n.names _x1 _t1 f2\n10 1\n01 1\n.end\n",
     vectors: b"andexor-vectors 1\nform reddy\ninputs x1 x2 _c\noutputs f1 f2\npolarity 11\nvector 000 11\nvector 110 01\nvector 001 00\nvector 111 10\nvector 010 11\nvector 100 10\nend\n",
-    report: b"terms 5\ngates 5\nvectors 6\n",
-    faults: 38,
+    counts: Counts {
+        inputs: 2,
+        outputs: 2,
+        terms: 5,
+        gates: 5,
+        faults: 38,
+        vectors: 6,
+    },
 };
 
 static UNREAD_INPUT: Row = Row {
     source: b".i 3\n.o 1\n1-1 1\n.e\n",
     net: b".model andexor\n.inputs x1 x2 x3 _c\n.outputs f1\n.names x1 x3 _t1\n11 1\n.names _c _t1 f1\n10 1\n01 1\n.end\n",
     vectors: b"andexor-vectors 1\nform reddy\ninputs x1 x2 x3 _c\noutputs f1\npolarity 111\nvector 0000 0\nvector 1010 1\nvector 0001 1\nvector 1011 0\nvector 0010 0\nvector 1000 0\nend\n",
-    report: b"terms 1\ngates 2\nvectors 6\n",
-    faults: 20,
+    counts: Counts {
+        inputs: 3,
+        outputs: 1,
+        terms: 1,
+        gates: 2,
+        faults: 20,
+        vectors: 6,
+    },
 };
 
 /// Two terms: x1 and x2 stand in both, x3 in one.
-static TWO_EVEN_INPUTS: Row = Row {
+static TWO_EVEN_AND_ONE_ODD: Row = Row {
     source: b".i 3\n.o 1\n110 1\n.e\n",
     net: b".model andexor\n.inputs x1 x2 x3 _c\n.outputs f1\n.names x1 x2 _t1\n11 1\n.names x1 x2 x3 _t2\n111 1\n.names _c _t1 _x1\n10 1\n01 1\n.names _x1 _t2 f1\n10 1\n01 1\n.end\n",
     vectors: b"andexor-vectors 1\nform reddy\ninputs x1 x2 x3 _c\noutputs f1\npolarity 111\nvector 0000 0\nvector 1110 0\nvector 0001 1\nvector 1111 1\nvector 0110 0\nvector 1010 0\nvector 1100 1\nvector 0100 0\nvector 1000 0\nend\n",
-    report: b"terms 2\ngates 4\nvectors 9\n",
-    faults: 36,
+    counts: Counts {
+        inputs: 3,
+        outputs: 1,
+        terms: 2,
+        gates: 4,
+        faults: 36,
+        vectors: 9,
+    },
 };
 
 #[test]
-fn two_even_inputs_and_an_odd_one(rt: HostRuntime) -> Result<(), Fail> {
-    let given = gives(rt.alloc(), &TWO_EVEN_INPUTS)?;
+fn two_inputs_even_and_one_odd(rt: HostRuntime) -> Result<(), Fail> {
+    let given = gives(rt.alloc(), &TWO_EVEN_AND_ONE_ODD)?;
     assert!(rt; given);
     Ok(())
 }

@@ -8,13 +8,25 @@ use blif_read::{NetLimits, read_blif};
 use std::alloc::{AllocError, Global};
 use synth_cmd::DONE;
 
-/// A source, what is written for it, and the number of the network's stuck-at faults.
+/// The numbers of a report: the source's inputs and outputs, the terms of its expansions, the network's gates and stuck-at faults,
+/// and the vectors.
+///
+/// There are two faults for each place: one stem for each signal that some pin or port reads, each pin, and each port.
+pub struct Counts {
+    pub inputs: usize,
+    pub outputs: usize,
+    pub terms: usize,
+    pub gates: usize,
+    pub faults: usize,
+    pub vectors: usize,
+}
+
+/// A source, what is written for it, and the numbers that are reported.
 pub struct Row {
     pub source: &'static [u8],
     pub net: &'static [u8],
     pub vectors: &'static [u8],
-    pub report: &'static [u8],
-    pub faults: usize,
+    pub counts: Counts,
 }
 
 /// The AND of two inputs.
@@ -22,8 +34,14 @@ pub static AND: Row = Row {
     source: b".i 2\n.o 1\n11 1\n.e\n",
     net: b".model andexor\n.inputs x1 x2 _c\n.outputs f1\n.names x1 x2 _t1\n11 1\n.names _c _t1 f1\n10 1\n01 1\n.end\n",
     vectors: b"andexor-vectors 1\nform reddy\ninputs x1 x2 _c\noutputs f1\npolarity 11\nvector 000 0\nvector 110 1\nvector 001 1\nvector 111 0\nvector 010 0\nvector 100 0\nend\n",
-    report: b"terms 1\ngates 2\nvectors 6\n",
-    faults: 20,
+    counts: Counts {
+        inputs: 2,
+        outputs: 1,
+        terms: 1,
+        gates: 2,
+        faults: 20,
+        vectors: 6,
+    },
 };
 
 /// One input, and its value.
@@ -31,9 +49,33 @@ pub static ONE_INPUT: Row = Row {
     source: b".i 1\n.o 1\n1 1\n.e\n",
     net: b".model andexor\n.inputs x1 _c\n.outputs f1\n.names _c x1 f1\n10 1\n01 1\n.end\n",
     vectors: b"andexor-vectors 1\nform reddy\ninputs x1 _c\noutputs f1\npolarity 1\nvector 00 0\nvector 10 1\nvector 01 1\nvector 11 0\nend\n",
-    report: b"terms 1\ngates 1\nvectors 4\n",
-    faults: 12,
+    counts: Counts {
+        inputs: 1,
+        outputs: 1,
+        terms: 1,
+        gates: 1,
+        faults: 12,
+        vectors: 4,
+    },
 };
+
+/// The report at these numbers, each literal being plain.
+pub fn report_of(alloc: Global, counts: &Counts) -> Result<String, AllocError> {
+    let mut polarity = String::new(alloc);
+    for _ in 0..counts.inputs {
+        polarity.push('1')?;
+    }
+    format!(in alloc;
+        "form reddy\ninputs {} outputs {}\npolarity {}\nterms {}\ngates {}\nfaults {}\nvectors {}\nunchanged 0\n",
+        counts.inputs,
+        counts.outputs,
+        polarity,
+        counts.terms,
+        counts.gates,
+        counts.faults,
+        counts.vectors
+    )
+}
 
 /// Whether a text of BLIF is accepted as a written netlist, and the network that it says has so many faults.
 fn reads_back(alloc: Global, text: &[u8], count: usize) -> bool {
@@ -55,13 +97,14 @@ pub fn gives_for(alloc: Global, source: &[u8], row: &Row) -> Result<bool, AllocE
     let mut report = MemSink::new(alloc);
     files.put("in.pla", source).map_err(|_| AllocError)?;
     let status = run_words(alloc, "synth in.pla n.blif v.vec", &mut files, &mut report)?;
+    let wanted = report_of(alloc, &row.counts)?;
     Ok(
         status == DONE
             && holds(&files, "n.blif", row.net)
             && holds(&files, "v.vec", row.vectors)
             && holds(&files, "in.pla", source)
-            && report.bytes() == row.report
-            && reads_back(alloc, row.net, row.faults),
+            && report.bytes() == wanted.as_bytes()
+            && reads_back(alloc, row.net, row.counts.faults),
     )
 }
 

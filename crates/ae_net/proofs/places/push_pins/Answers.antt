@@ -2,7 +2,8 @@ use Rattle.std.proofs.Common.{◌∙◌, ◌++◌, ap}
 use Rattle.std.specs.List.{flat_map}
 use Rattle.ae_net.specs.Network.{gate_at}
 use Rattle.ae_net.specs.Faults.{both_values, pins_of}
-use Rattle.ae_net.proofs.PlaceLemmas.{faults_more_flat, pushed}
+use Rattle.ae_base.proofs.Written.{pushed}
+use Rattle.ae_net.proofs.PlaceLemmas.{faults_more_flat}
 use Rattle.ae_net.proofs.places.push_pins.Goals as goal
 
 pub loop-i-preserved : goal.loop-i-preserved

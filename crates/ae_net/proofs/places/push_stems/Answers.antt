@@ -1,6 +1,7 @@
 use Rattle.ae_net.specs.declared.net.Place.TheVariants.{Stem}
 use Rattle.ae_net.specs.Marks.{mark_at}
-use Rattle.ae_net.proofs.PlaceLemmas.{faults_more_kept, pushed}
+use Rattle.ae_base.proofs.Written.{pushed}
+use Rattle.ae_net.proofs.PlaceLemmas.{faults_more_kept}
 use Rattle.ae_net.proofs.places.push_stems.Goals as goal
 
 pub loop-s-preserved : goal.loop-s-preserved

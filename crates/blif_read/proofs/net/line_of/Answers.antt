@@ -1,4 +1,4 @@
-use Rattle.std.proofs.Common.{◌<◌, length, sym, subst, ℕ}
+use Rattle.std.proofs.Common.{◌<◌, length, sym, subst}
 use Rattle.blif_read.specs.declared.draft.Draft.{Draft}
 use Rattle.blif_read.proofs.Drafts.{line_number}
 use Rattle.blif_read.proofs.net.line_of.Goals as goal

@@ -4,7 +4,7 @@ use Rattle.std.proofs.lemmas.List.{length-map}
 use Rattle.ae_lex.specs.Words.{cut_line}
 use Rattle.ae_net.specs.Network.{Network}
 use Rattle.blif_read.specs.declared.fault.BlifFault.TheVariants as fault
-use Rattle.blif_read.specs.Build.{AreBuildable, IsPlan}
+use Rattle.blif_read.specs.Build.{AreBuildable}
 use Rattle.blif_read.proofs.Whole.{buildable_are, order_within, cycle_said, drawn_valid, net_said}
 use Rattle.blif_read.proofs.net.net_drafted.Goals as goal
 

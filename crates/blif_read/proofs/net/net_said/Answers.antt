@@ -1,4 +1,4 @@
-use Rattle.std.proofs.Common.{◌≡◌, ◌<◌, ℕ, List, length, map, sym, ap, subst, ◌∙◌, arith, Result}
+use Rattle.std.proofs.Common.{ℕ, List, map, sym, subst, ◌∙◌, arith, Result}
 use Rattle.std.proofs.lemmas.Result.{err_from_is_err_and}
 use Rattle.ae_lex.specs.Words.{cut_line}
 use Rattle.ae_net.specs.Network.{Network}

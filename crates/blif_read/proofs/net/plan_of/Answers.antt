@@ -1,4 +1,4 @@
-use Rattle.std.proofs.Common.{◌≡◌, ◌<◌, ◌^◌, ℕ, List, length, map, get_or, All, sym, ap, subst, ◌∙◌, arith, length-append}
+use Rattle.std.proofs.Common.{◌≡◌, ℕ, length, map, ap, ◌∙◌, arith, length-append}
 use Rattle.blif_place.specs.Order.{order_of}
 use Rattle.blif_read.specs.Build.{gates_among}
 use Rattle.blif_read.proofs.Whole.{signals_are, needs_fit, order_within}

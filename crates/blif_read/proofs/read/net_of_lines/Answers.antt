@@ -1,6 +1,5 @@
-use Rattle.std.proofs.Common.{◌≡◌, ℕ, List, length, map, sym, ap, subst, ◌∙◌, Result}
+use Rattle.std.proofs.Common.{◌≡◌, ℕ, map, sym, ap, subst, ◌∙◌, Result}
 use Rattle.std.proofs.lemmas.Result.{err_from_is_err_and}
-use Rattle.ae_lex.specs.declared.text.Line.{Line}
 use Rattle.ae_lex.specs.declared.text.LineList.{LineList}
 use Rattle.ae_lex.specs.declared.text.Style.TheVariants.{Blif}
 use Rattle.ae_lex.specs.Words.{cut_line, word_lines, last_line}

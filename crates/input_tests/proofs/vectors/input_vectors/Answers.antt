@@ -1,7 +1,9 @@
 use Rattle.std.proofs.Common.{◌≡◌, sym, ap, ◌∙◌, arith}
 use Rattle.ae_base.specs.Mask.{has}
 use Rattle.cascade.proofs.VectorLemmas.{all_low}
-use Rattle.input_tests.specs.Inputs.{even_inputs, input_vectors_of}
+use Rattle.expansion.specs.Even.{even_inputs}
+use Rattle.input_tests.specs.Inputs.{input_vectors_of}
+use Rattle.input_tests.specs.Whole.{cascade_tests}
 use Rattle.input_tests.proofs.CodeLemmas.{so_far, none_so_far, one_more, no_more, all_so_far, pairs_distinct, all_points}
 use Rattle.input_tests.proofs.vectors.input_vectors.Goals as goal
 use Rattle.input_tests.proofs.vectors.input_vectors.Goals.{then-has+in_ok-push_pair, else-has}
@@ -23,7 +25,7 @@ loop-j-preserved c =
     ]
 
 -- after the loop the list is whole
-whole : (c : goal.After-loop-j) → c.loop-j.list.items ≡ input_vectors_of c.args.e.now
+whole : (c : goal.After-input_law) → c.loop-j.list.items ≡ input_vectors_of c.args.e.now
 whole c =
     let z : c.loop-j.j ≡ c.args.e.now.polarity.n = omega (arith, c.inputs-j-end.ensures.inputs) in
     c.loop-j.invariant ∙ ap (so_far c.args.e.now) z ∙ all_so_far c.args.e.now
@@ -36,3 +38,7 @@ returns-clause-distinct c = rw (whole c) (pairs_distinct c.args.e.now)
 
 pub returns-clause-points : goal.returns-clause-points
 returns-clause-points c = rw (whole c) (all_points c.args.e.now c.inputs-j-end.ensures.valid)
+
+pub returns-clause-complete : goal.returns-clause-complete
+unfolding cascade_tests
+returns-clause-complete c = rw (whole c) (λ names can. c.input_law.ensures.complete names c.args.e.now can)

@@ -1,6 +1,7 @@
 use Rattle.std.proofs.Common.{◌≡◌, ◌+◌, ◌∷◌, ℕ, List, map, None, true, false, sym, ap, ap₂, ◌∙◌}
+use Rattle.ae_lex.specs.First.{first_of}
 use Rattle.pla_read.specs.Step.{texts}
-use Rattle.pla_read.specs.Pla.{Seen, said, seen, statement, is_end, faults, first_of, word}
+use Rattle.pla_read.specs.Pla.{Seen, said, seen, statement, is_end, faults, word}
 use Rattle.pla_read.specs.Step.{with_line}
 use Rattle.pla_read.proofs.Steps.{seen_push}
 use Rattle.pla_read.proofs.Reading.{before, rest, before_more, rest_more, IsAt, at_end, at_more}

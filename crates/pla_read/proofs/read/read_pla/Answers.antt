@@ -1,10 +1,11 @@
 use Rattle.std.proofs.Common.{◌≡◌, List, All, subst, sym, Result, ℕ}
+use Rattle.ae_lex.specs.First.{first_of}
 use Rattle.ae_lex.specs.declared.text.Line.{Line}
 use Rattle.ae_lex.specs.Lines.{IsInside}
 use Rattle.ae_cover.specs.Cover.{Table}
 use Rattle.pla_read.specs.declared.fault.PlaFault.{PlaFault}
 use Rattle.pla_read.specs.Reads.{Gives}
-use Rattle.pla_read.specs.Pla.{pla_says, first_of, whole_faults, at_line, judged, table_of}
+use Rattle.pla_read.specs.Pla.{pla_says, whole_faults, at_line, judged, table_of}
 use Rattle.pla_read.proofs.Whole.{text_says}
 use Rattle.pla_read.proofs.read.read_pla.Goals as goal
 

@@ -5,7 +5,7 @@ use Rattle.synth_cmd.proofs.tell.finish.Goals as goal
 
 pub returns-in-Ok-clause-memory : goal.returns-in-Ok-clause-memory
 returns-in-Ok-clause-memory g c _ =
-    subst (λ text. TellsMemory text (g.K.Sink.taken c.args.report.now) (g.K.Sink.taken c.want_memory.new.report)) (c.as_bytes.ensures.value ∙ c.in-Ok.ensures)
+    subst (λ text. TellsMemory text (g.K.Sink.taken c.args.report.now) (g.K.Sink.taken c.want_memory.new.report)) (c.deref.ensures.value ∙ c.in-Ok.ensures)
     (tells_both _ _ _ _ c.in-Err-Memory.ensures.front c.want_memory.ensures.told)
 
 pub returns-clause-memory : goal.returns-clause-memory

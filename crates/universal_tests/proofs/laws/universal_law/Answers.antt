@@ -7,3 +7,6 @@ returns-clause-others c = whole.detects
 
 pub returns-clause-literals : goal.returns-clause-literals
 returns-clause-literals c = literals.detects_odd
+
+pub returns-clause-used_not_even : goal.returns-clause-used_not_even
+returns-clause-used_not_even c s names e are can = literals.detects_not_even s names e are (c.even_law.ensures.used s e.polarity e are) (c.even_law.ensures.even s e.polarity e are) can

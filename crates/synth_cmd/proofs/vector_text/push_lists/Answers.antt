@@ -1,9 +1,0 @@
-use Rattle.std.proofs.Common.{◌∷◌, []}
-use Rattle.std.specs.Prelude.{codes}
-use Rattle.synth_cmd.proofs.Written.{lines_more}
-use Rattle.synth_cmd.proofs.vector_text.push_lists.Goals as goal
-
-pub returns : goal.returns
-returns c =
-    lines_more c.args.out.now.items c.push_list.new.out.items c.push_list-2.new.out.items ((codes "inputs" ∷ c.args.inputs.now) ∷ []) ((codes "outputs" ∷ c.args.outputs.now) ∷ [])
-    c.in_ok-push_list.ensures c.in_ok-push_list-2.ensures

@@ -1,0 +1,4 @@
+pub mod Asked
+pub mod Headline
+pub mod Made
+pub mod Steps

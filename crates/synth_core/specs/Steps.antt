@@ -1,0 +1,43 @@
+-- What the steps of a synthesis work on. For private contracts alone.
+use Rattle.std.specs.Prelude.{ℕ, ◌+◌, ◌≤◌, None, Result, Ok, Err, List, map, filter, All}
+use Rattle.ae_base.specs.Mask.{Set}
+use Rattle.ae_base.specs.Cube.{Product, Signs}
+use Rattle.ae_base.specs.Source.{Source}
+use Rattle.ae_base.specs.Terms.{IsPoint}
+use Rattle.ae_net.specs.Network.{Network}
+use Rattle.ae_net.specs.Run.{out}
+use Rattle.ae_cover.specs.declared.parts.Row.{Row}
+use Rattle.ae_cover.specs.Cover.{has_mark, is_one}
+use Rattle.cascade.specs.declared.limits.TheConstants.{REDDY_TERMS}
+use Rattle.expansion.specs.Functions.{AreExpansions}
+use Rattle.expansion.specs.Terms.{Terms, cost}
+use Rattle.input_tests.specs.Whole.{cascade_tests}
+use Rattle.synth_core.specs.Asked.{PassesAt}
+use Rattle.synth_core.specs.declared.error.SynthErr.{SynthErr}
+use Rattle.synth_core.specs.declared.error.SynthErr.TheVariants as err
+use Rattle.vec_text.specs.declared.file.Form.TheVariants.{Reddy}
+use Rattle.vec_text.specs.declared.file.Vector.{Vector}
+use Rattle.vec_text.specs.VectorFile.{VectorFile}
+
+-- the cubes of the rows that have One at output o
+abbrev pub cubes_of : List Row → ℕ → List Product
+cubes_of rows o = map (λ row. row.cube) (filter (has_mark is_one o) rows)
+
+-- the expansions, or the first output at which they are too many
+abbrev pub Expands : Source → Signs → Result Terms SynthErr → Type 0
+Expands s p (Ok e) = AreExpansions s p e × (cost e ≤ REDDY_TERMS)
+Expands s p (Err (err.TooManyTerms output)) = PassesAt s p REDDY_TERMS output
+Expands s p (Err (err.Pla line what)) = ⊥
+Expands s p (Err err.Memory) = Unit {0}
+
+-- each point with the network's fault-free outputs there
+abbrev pub vectors_of : Network → List Set → List Vector
+vectors_of n points = map (λ x. record { point = x; outs = out n None x }) points
+
+-- the vector file of a network over these points
+abbrev pub file_over : Network → List (List ℕ) → Signs → List Set → VectorFile
+file_over n outputs p points = record { form = Reddy; inputs = n.inputs; outputs = outputs; polarity = p; vectors = vectors_of n points }
+
+-- the vectors of the cascade are points of the network's inputs
+abbrev pub AreCascadePoints : Terms → Type 0
+AreCascadePoints e = All (IsPoint (e.polarity.n + 1)) (cascade_tests e)

@@ -1,0 +1,16 @@
+//! The whole job over bytes: a source's text in, the texts of its network and of the network's vectors out.
+#![tactic(auto)]
+
+mod error;
+mod expand;
+mod laws;
+mod made;
+mod settings;
+mod synthesis;
+#[cfg(test)]
+mod tests;
+
+pub use error::SynthErr;
+pub use made::{Made, Summary};
+pub use settings::{Choice, Settings, SourceKind};
+pub use synthesis::synthesise;

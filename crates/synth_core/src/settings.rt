@@ -1,0 +1,39 @@
+//! What is asked for.
+ghost use Rattle.std.specs.Prelude.{◌≡◌, ◌≤◌};
+ghost use Rattle.ae_base.specs.declared.limits.TheConstants.{NET_LINES};
+ghost use Rattle.synth_core.specs.Asked as spec;
+
+use ae_base::Polarity;
+use vec_text::Form;
+
+/// The kind of a source's text.
+#[derive(Clone, Copy, Debug, PartialEq, Eq)]
+pub enum SourceKind {
+    /// An espresso PLA text.
+    Pla,
+}
+
+/// Which polarity the expansions have.
+#[derive(Clone, Copy, Debug, PartialEq, Eq)]
+pub enum Choice {
+    /// Each input has its plain literal.
+    Positive,
+}
+
+/// What a synthesis is asked for.
+#[derive(Clone, Copy, Debug, PartialEq, Eq)]
+pub struct Settings {
+    pub kind: SourceKind,
+    pub form: Form,
+    pub polarity: Choice,
+}
+
+/// The polarity that is asked for, of `n` inputs.
+pub fn polarity_of(choice: Choice, n: u32) -> Polarity
+    requires { n ≤ NET_LINES }
+    ensures { result ≡ spec.polarity_of choice n }
+{
+    match choice {
+        Choice::Positive => Polarity::all_plain(n),
+    }
+}

@@ -1,0 +1,180 @@
+//! The network of a source and the network's vectors.
+ghost use Rattle.std.specs.Prelude.{◌≡◌, ◌≤◌, ◌⊎◌, ℕ, IfOk, IsOk, IsErrOf, length};
+ghost use Rattle.ae_base.specs.declared.limits.TheConstants.{TEXT_BYTES};
+ghost use Rattle.ae_base.specs.Source.{Source};
+ghost use Rattle.ae_cover.specs.Cover.{source_of};
+ghost use Rattle.cascade.specs.declared.limits.TheConstants.{REDDY_TERMS};
+ghost use Rattle.pla_read.specs.declared.fault.PlaFault.{PlaFault};
+ghost use Rattle.synth_core.specs.declared.error.SynthErr.TheVariants as synth_err;
+ghost use Rattle.synth_core.specs.Asked.{HasFault, HasTooMany, IsSource, PassesAt};
+ghost use Rattle.expansion.specs.Functions.{AreExpansions};
+ghost use Rattle.expansion.specs.Terms.{cost};
+ghost use Rattle.synth_core.specs.Made.{AreNumbers, IsMade, IsSynthesised, names_of};
+ghost use Rattle.synth_core.specs.Steps.{file_over, vectors_of};
+ghost use Rattle.vec_text.specs.VectorFile.{IsValidVectorFile};
+
+use crate::error::SynthErr;
+use crate::expand::expansions;
+use crate::laws::synthesis_law;
+use crate::made::{Made, Summary};
+use crate::settings::{Settings, SourceKind, polarity_of};
+use ae_base::{Memory, Name, Point, Polarity, Seq};
+use ae_cover::Cover;
+use ae_net::{Net, NetNames, answer, faults, scratch_for};
+use blif_write::blif_text;
+use cascade::reddy;
+use expansion::{Expansion, pairs};
+use fn_store::expansion_law;
+use input_tests::cascade_vectors;
+use pla_read::{PlaErr, read_pla};
+use std::alloc::Global;
+use vec_text::{Form, VecFile, Vector, vec_text};
+
+fn copies(alloc: Global, names: &[Name]) -> Result<Seq<Name>, Memory>
+    ensures { IfOk result (λ list. list ≡ names.now) }
+{
+    let mut list = Seq::new(alloc);
+    for name in names {
+        list.push(name.copy(alloc)?)?;
+    }
+    Ok(list)
+}
+
+/// The names of a network: a PLA text gives its model none of its own.
+fn net_names(alloc: Global, cover: &Cover) -> Result<NetNames, Memory>
+    ensures { IfOk result (λ names. names ≡ names_of (source_of cover.now)) }
+{
+    let inputs = copies(alloc, cover.inputs())?;
+    let outputs = copies(alloc, cover.outputs())?;
+    let model = Name::from_bytes(alloc, b"andexor")?.unwrap();
+    Ok(NetNames {
+        model,
+        inputs,
+        outputs,
+    })
+}
+
+/// Each point with the network's fault-free outputs there.
+fn responses(alloc: Global, net: &Net, points: &[Point]) -> Result<Seq<Vector>, Memory>
+    ensures { IfOk result (λ vectors. vectors ≡ vectors_of net.now points.now) }
+{
+    let mut scratch = scratch_for(alloc, net)?;
+    let mut vectors = Seq::new(alloc);
+    for point in points {
+        let outs = answer(net, None, *point, &mut scratch);
+        vectors.push(Vector {
+            point: *point,
+            outs,
+        })?;
+    }
+    Ok(vectors)
+}
+
+/// The vector file of a network over these points.
+fn vector_file(
+    alloc: Global,
+    net: &Net,
+    outputs: &[Name],
+    polarity: Polarity,
+    points: &[Point],
+) -> Result<VecFile, Memory>
+    requires { IsValidVectorFile (file_over net.now outputs.now polarity points.now) }
+    ensures { IfOk result (λ file. file ≡ file_over net.now outputs.now polarity points.now) }
+{
+    let inputs = copies(alloc, net.inputs())?;
+    let outputs = copies(alloc, outputs)?;
+    let vectors = responses(alloc, net, points)?;
+    Ok(VecFile {
+        form: Form::Reddy,
+        inputs,
+        outputs,
+        polarity,
+        vectors,
+    })
+}
+
+/// The numbers of the network of a cover's expansions and of its vector file.
+fn summary(
+    alloc: Global,
+    cover: &Cover,
+    e: &Expansion,
+    net: &Net,
+    file: &VecFile,
+) -> Result<Summary, Memory>
+    requires { e.now.polarity.n ≡ length cover.now.inputs }
+    ensures { IfOk result (λ summary. AreNumbers (source_of cover.now) e.now.polarity e.now net.now file.now summary) }
+{
+    let faults = faults(alloc, net)?;
+    Ok(Summary {
+        form: Form::Reddy,
+        inputs: e.inputs(),
+        outputs: cover.outputs().len() as u32,
+        polarity: e.polarity(),
+        terms: pairs(e),
+        cubes: 0,
+        gates: net.gates().len() as u64,
+        faults: faults.len() as u64,
+        vectors: file.vectors.len() as u64,
+        unchanged: 0,
+    })
+}
+
+/// The texts of the network of a cover's expansions and of its vectors.
+fn texts(alloc: Global, cover: &Cover, e: &Expansion) -> Result<Made, Memory>
+    requires expansions { AreExpansions (source_of cover.now) e.now.polarity e.now }
+    requires cheap { cost e.now ≤ REDDY_TERMS }
+    ensures { IfOk result (λ made. IsSynthesised (source_of cover.now) e.now.polarity made.net_text.items made.vec_text.items made.summary) }
+{
+    let names = net_names(alloc, cover)?;
+    let net = reddy(alloc, &names, e)?;
+    let points = cascade_vectors(alloc, e)?;
+    synthesis_law();
+    let file = vector_file(alloc, &net, cover.outputs(), e.polarity(), &points)?;
+    let summary = summary(alloc, cover, e, &net, &file)?;
+    let net_text = blif_text(alloc, &net)?;
+    let vec_text = vec_text(alloc, &file)?;
+    Ok(Made {
+        net_text,
+        vec_text,
+        summary,
+    })
+}
+
+/// The network of a cover at a polarity of its inputs, and the vectors of the cascade, as texts.
+fn synthesise_cover(alloc: Global, cover: &Cover, polarity: Polarity) -> Result<Made, SynthErr>
+    requires { polarity.n ≡ length cover.now.inputs }
+    ensures made { IfOk result (λ made. IsSynthesised (source_of cover.now) polarity made.net_text.items made.vec_text.items made.summary) }
+    ensures too_many { (output : ℕ) → IsErrOf result (synth_err.TooManyTerms output) → PassesAt (source_of cover.now) polarity REDDY_TERMS output }
+    ensures accepted { (line : ℕ) (what : PlaFault) → ¬ (IsErrOf result (synth_err.Pla line what)) }
+{
+    let expansions = expansions(alloc, cover, polarity)?;
+    let made = texts(alloc, cover, &expansions)?;
+    Ok(made)
+}
+
+/// Reads a source of the kind that is asked for, and gives the texts of its network in the form that is asked for and of the network's
+/// vectors, with their numbers. `Pla` comes exactly where the text has a fault, with the first one and its line; `TooManyTerms` exactly
+/// where it has none and the running sum of the expansions' terms passes the limit of the form, with the first output at which it
+/// does; `Memory` for want of memory alone.
+pub fn synthesise(alloc: Global, bytes: &[u8], settings: &Settings) -> Result<Made, SynthErr>
+    requires { length bytes.now ≤ TEXT_BYTES }
+    ensures made { IfOk result (λ made. IsMade settings.now bytes.now made.net_text.items made.vec_text.items made.summary) }
+    ensures refused { (line : ℕ) (what : PlaFault) → IsErrOf result (synth_err.Pla line what) → HasFault settings.now.kind bytes.now line what }
+    ensures too_many { (output : ℕ) → IsErrOf result (synth_err.TooManyTerms output) → HasTooMany settings.now bytes.now output }
+    // Each cause has its answer, unless memory is wanting.
+    ensures always_refused { (line : ℕ) (what : PlaFault) → HasFault settings.now.kind bytes.now line what → IsErrOf result (synth_err.Pla line what) ⊎ IsErrOf result synth_err.Memory }
+    ensures always_too_many { (output : ℕ) → HasTooMany settings.now bytes.now output → IsErrOf result (synth_err.TooManyTerms output) ⊎ IsErrOf result synth_err.Memory }
+    ensures complete { (s : Source) → IsSource settings.now.kind bytes.now s → ((output : ℕ) → ¬ (HasTooMany settings.now bytes.now output)) → IsOk result ⊎ IsErrOf result synth_err.Memory }
+{
+    match settings.kind {
+        SourceKind::Pla => match read_pla(alloc, bytes) {
+            Ok(cover) => {
+                let inputs = cover.inputs().len() as u32;
+                expansion_law();
+                synthesise_cover(alloc, &cover, polarity_of(settings.polarity, inputs))
+            }
+            Err(PlaErr::At { line, what }) => Err(SynthErr::Pla { line, what }),
+            Err(PlaErr::Memory) => Err(SynthErr::Memory),
+        },
+    }
+}

@@ -1,0 +1,2 @@
+pub mod AndFile
+pub mod VectorFile

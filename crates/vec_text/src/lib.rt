@@ -1,0 +1,10 @@
+//! Vector files: the production tests of a network with every expected response, and their text.
+#![tactic(auto)]
+
+mod file;
+#[cfg(test)]
+mod tests;
+mod text;
+
+pub use file::{Form, VecFile, Vector};
+pub use text::{push_form, push_polarity, vec_text};
