@@ -6,9 +6,10 @@
 # For each source (by default those in bench/sources) the program writes the netlist. Berkeley ABC (Debian's
 # `berkeley-abc`) and yosys read it. Then ABC's `cec` compares the netlist, its control tied to 0, with the source: each
 # output of the source is taken as the OR of the rows that have a 1 for it, so that a free point is 0, as it is in the
-# netlist. The program is the one that `rt run` or `rt ci` left in crates/andexor/out, or that the variable ANDEXOR names.
-# A tool that is missing is left out, and the script says so. The status is 1 where a tool does not read a netlist, or
-# `cec` does not find it equivalent.
+# netlist. bench/fault_sim.py, an independent fault simulator, grades the netlist against its vectors. The program is the
+# one that `rt run` or `rt ci` left in crates/andexor/out, or that the variable ANDEXOR names. A tool that is missing is
+# left out, and the script says so. The status is 1 where a tool does not read a netlist, `cec` does not find it
+# equivalent, or a response is wrong or a fault is missed.
 set -u
 here=$(cd "$(dirname "$0")/.." && pwd)
 program=${ANDEXOR:-$here/crates/andexor/out/andexor}
@@ -84,6 +85,12 @@ TEXTS
             echo "$name: cec does not find it equivalent to the source"
             status=1
         fi
+    fi
+    if graded=$("$here/bench/fault_sim.py" "$folder/net.blif" "$folder/net.vec"); then
+        echo "$name: simulated: $graded"
+    else
+        echo "$name: simulated: $graded"
+        status=1
     fi
     if [ -n "$yosys" ]; then
         if "$yosys" -q -p "read_blif $folder/net.blif; check -assert" >"$folder/yosys.log" 2>&1; then
