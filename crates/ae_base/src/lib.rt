@@ -8,8 +8,6 @@ mod mask;
 mod memory;
 mod name;
 mod seq;
-#[cfg(test)]
-mod tests;
 mod text;
 
 pub use cube::{Cube, Point, Polarity, Term};

@@ -10,5 +10,3 @@ pub use cover::{Cover, PLA_ROWS};
 pub use laws::clash_laws;
 pub use parts::{Clash, Kind, Mark, Row};
 
-#[cfg(test)]
-mod tests;

@@ -9,7 +9,8 @@ use Rattle.std.proofs.lemmas.List.Elements.{All-append, All-cons, All-replicate,
 use Rattle.std.proofs.lemmas.Fmt.{decimal_by_steps, length-decimal-le}
 use Rattle.ae_base.specs.declared.limits.TheConstants.{NAME_BYTES, SOURCE_NAME_BYTES}
 use Rattle.ae_base.specs.Name.{is_allowed, is_name}
-use Rattle.ae_net.specs.Names.{inner, IsLetter}
+use Rattle.ae_net.specs.Lead.{IsLetter}
+use Rattle.ae_net.specs.Names.{inner}
 
 -- a byte that may stand anywhere in a name
 abbrev IsPlain : ℕ → Type 0

@@ -1,9 +1,10 @@
 -- The search for the number of underscores of inner names.
-use Rattle.std.proofs.Common.{◌≡◌, ℕ, zero, suc, ◌+◌, ◌-◌, ◌<◌, ◌≤◌, Bool, true, false, ◌||◌, cond, max, inl, inr, List, [], ◌∷◌, ◌++◌, length, map, get_or, refl, ap, ◌∙◌, arith, eqb, ne_eqb}
-use Rattle.std.proofs.lemmas.Bool.{cases_eq, cases_Bool}
+use Rattle.std.proofs.Common.{◌≡◌, ℕ, zero, suc, ◌+◌, ◌-◌, ◌<◌, ◌≤◌, Bool, true, false, ◌||◌, cond, max, inl, inr, List, [], ◌∷◌, ◌++◌, length, map, get_or, refl, sym, ap, ◌∙◌, arith, eqb, ne_eqb}
+use Rattle.std.proofs.lemmas.Bool.{cases_eq, cases_lt, cases_Bool, false≢true}
 use Rattle.std.proofs.lemmas.List.Folds.{list_any-append}
 use Rattle.ae_base.specs.declared.limits.TheConstants.{SOURCE_NAME_BYTES}
-use Rattle.ae_net.specs.Names.{Names, IsNames, IsLead, underscores, is_taken, free_from, greatest, lead}
+use Rattle.ae_net.specs.Lead.{free_from, greatest, lead}
+use Rattle.ae_net.specs.Names.{Names, IsNames, IsLead, underscores, is_taken}
 
 pub taken_both : (a b : List (List ℕ)) (k : ℕ) → is_taken (a ++ b) k ≡ (is_taken a k || is_taken b k)
 taken_both a b k = list_any-append (λ name. eqb (underscores name) k) a b
@@ -91,3 +92,14 @@ lead_is_lead names =
 pub lead_few : (names : Names) → IsNames names → lead names ≤ SOURCE_NAME_BYTES + 1
 unfolding lead
 lead_few names h = omega (arith, few_of_source names h, free_is_soon (names.inputs ++ names.outputs) (greatest (map underscores (names.inputs ++ names.outputs))) 1)
+
+-- one number is the lead
+pub one_lead : (names : Names) (k m : ℕ) → IsLead names k → IsLead names m → k ≡ m
+one_lead names k m a b =
+    elim (cases_lt k m) [
+      | inl l ↦ absurd (false≢true (sym a.free ∙ b.least k a.positive l))
+      | inr l ↦ elim (cases_lt m k) [
+        | inl l' ↦ absurd (false≢true (sym b.free ∙ a.least m b.positive l'))
+        | inr l' ↦ omega arith
+      ]
+    ]

@@ -4,12 +4,12 @@ use Rattle.std.specs.Prelude.{Option, Some, None, ◌&&◌, slice_index}
 use Rattle.std.proofs.lemmas.Bool.{false≢true, lt-ltb}
 use Rattle.ae_base.specs.Mask.{Set, has}
 use Rattle.ae_base.proofs.Sets.{has-where_below}
-use Rattle.ae_net.specs.Detects.{Detects}
+use Rattle.ae_net.specs.Out.{Differs, run_to, run, out}
 use Rattle.ae_net.specs.declared.net.Gate.{Gate}
 use Rattle.ae_net.specs.declared.net.Place.TheVariants.{Stem, Pin, Port}
 use Rattle.ae_net.specs.declared.net.Fault.{Fault}
 use Rattle.ae_net.specs.Network.{Network, gate_at}
-use Rattle.ae_net.specs.Run.{table, seen, value_of, ones_seen, run_to, run, out}
+use Rattle.ae_net.specs.Run.{table, seen, value_of, ones_seen}
 use Rattle.ae_net.proofs.Follow.{Fits, Follows, EachGate-weaker}
 use Rattle.ae_net.proofs.Runs.{where_below_agree, map_range_agree, value_final}
 
@@ -100,5 +100,5 @@ not_own true e = false≢true (sym e)
 not_own false e = false≢true e
 
 -- a fault that turns an output is detected
-pub Detects-turned : (n : Network) (fault : Fault) (x : Set) (o : ℕ) → has (out n (Some fault) x) o ≡ not (has (out n None x) o) → Detects n fault x
-Detects-turned n fault x o turned same = not_own (has (out n None x) o) (sym (ap (λ s. has s o) same) ∙ turned)
+pub Differs-turned : (n : Network) (fault : Fault) (x : Set) (o : ℕ) → has (out n (Some fault) x) o ≡ not (has (out n None x) o) → Differs n fault x
+Differs-turned n fault x o turned same = not_own (has (out n None x) o) (sym (ap (λ s. has s o) same) ∙ turned)

@@ -3,9 +3,13 @@ pub mod Detects
 pub mod Faults
 pub mod Gates
 pub mod Implements
+pub mod Kept
+pub mod Lead
 pub mod Marks
+pub mod Named
 pub mod Names
 pub mod Network
+pub mod Out
 pub mod Run
 pub mod Scratch
 pub mod Valid

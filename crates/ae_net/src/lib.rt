@@ -8,11 +8,9 @@ mod net;
 mod pins;
 mod places;
 mod run;
-#[cfg(test)]
-mod tests;
 
 pub use gates::{and_gate, buffer, exor, inverter};
-pub use laws::{fault_laws, one_run};
+pub use laws::{fault_laws, lead_law, one_run};
 pub use names::{NetNames, lead, letter_name, numbered_name};
 pub use net::{Fault, Gate, Net, Place, Sig};
 pub use pins::Pins;

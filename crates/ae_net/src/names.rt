@@ -2,6 +2,7 @@
 ghost use Rattle.std.specs.Prelude.{map, ◌++◌, ◌≡◌, true, ◌≤◌, ◌<◌, ◌+◌, [], ◌∷◌, IfOk};
 ghost use Rattle.std.specs.Fmt.{decimal};
 ghost use Rattle.ae_base.specs.Name.{is_name};
+ghost use Rattle.ae_net.specs.Lead as lead_spec;
 ghost use Rattle.ae_net.specs.Names as spec;
 
 use ae_base::{Memory, Name, SOURCE_NAME_BYTES, Seq};
@@ -79,7 +80,7 @@ fn inner_bytes(alloc: Global, k: u32, letter: u8) -> Result<Vec<u8>, Memory>
 #[tactic(auto, using(crate::proofs::InnerAreNames::letter_is_name))]
 pub fn letter_name(alloc: Global, k: u32, letter: u8) -> Result<Name, Memory>
     requires short { k ≤ SOURCE_NAME_BYTES + 1 }
-    requires letter { spec.IsLetter letter }
+    requires letter { lead_spec.IsLetter letter }
     ensures { IfOk result (λ name. name ≡ spec.inner k (letter ∷ [])) }
 {
     let bytes = inner_bytes(alloc, k, letter)?;
@@ -89,7 +90,7 @@ pub fn letter_name(alloc: Global, k: u32, letter: u8) -> Result<Name, Memory>
 /// The inner name that has this letter and this number, in decimal digits, after `k` underscores.
 pub fn numbered_name(alloc: Global, k: u32, letter: u8, number: usize) -> Result<Name, Memory>
     requires short { k ≤ SOURCE_NAME_BYTES + 1 }
-    requires letter { spec.IsLetter letter }
+    requires letter { lead_spec.IsLetter letter }
     ensures { IfOk result (λ name. name ≡ spec.inner k (letter ∷ decimal number)) }
 {
     let mut bytes = inner_bytes(alloc, k, letter)?;
@@ -119,7 +120,7 @@ fn is_taken(names: &[Name], k: usize) -> bool
 
 /// The greatest number of underscores that a name begins with.
 fn most_underscores(names: &[Name]) -> usize
-    ensures { result ≡ spec.greatest (map spec.underscores names.now) }
+    ensures { result ≡ lead_spec.greatest (map spec.underscores names.now) }
 {
     let mut most = 0;
     for name in names {
@@ -140,7 +141,7 @@ fn is_source_taken(inputs: &[Name], outputs: &[Name], k: usize) -> bool
 #[tactic(auto, using(crate::proofs::LeadLemmas::free_now, crate::proofs::LeadLemmas::free_on))]
 fn least_free(inputs: &[Name], outputs: &[Name], most: usize) -> u32
     requires { most ≤ SOURCE_NAME_BYTES }
-    ensures { result ≡ spec.free_from (inputs.now ++ outputs.now) most 1 }
+    ensures { result ≡ lead_spec.free_from (inputs.now ++ outputs.now) most 1 }
 {
     for d in 0..most {
         if !is_source_taken(inputs, outputs, d + 1) {
@@ -153,7 +154,7 @@ fn least_free(inputs: &[Name], outputs: &[Name], most: usize) -> u32
 /// The number of underscores that inner names begin with: the least from 1 on such that no input or output name begins with exactly
 /// so many. It is at most one more than a name of a source has bytes.
 pub fn lead(names: &NetNames) -> u32
-    ensures lead { result ≡ spec.lead names.now }
+    ensures lead { result ≡ lead_spec.lead names.now }
     ensures least { spec.IsLead names.now result }
     ensures short { result ≤ SOURCE_NAME_BYTES + 1 }
 {

@@ -7,6 +7,8 @@ ghost use Rattle.std.specs.Prelude.{◌==◌};
 ghost use Rattle.std.specs.List.{list_any};
 ghost use Rattle.ae_base.specs.Cube.{holds};
 ghost use Rattle.std.specs.Borrow.{sem};
+ghost use Rattle.ae_net.specs.Kept as kept;
+ghost use Rattle.ae_net.specs.Out as out;
 ghost use Rattle.ae_net.specs.Run as run;
 ghost use Rattle.ae_net.specs.Scratch.{LendsBytes};
 
@@ -48,7 +50,7 @@ fn seen(fault: Option<Fault>, at: Place, value: bool) -> bool
 fn ones_kept(gate: &Gate, i: u32, fault: Option<Fault>, bytes: &[u8]) -> Mask
     requires few_pins { length gate.now.pins ≤ PINS }
     requires earlier { All (λ pin. pin < length bytes.now) gate.now.pins }
-    ensures { result ≡ run.ones_kept fault bytes.now i gate.now }
+    ensures { result ≡ kept.ones_kept fault bytes.now i gate.now }
 {
     let mut ones = Mask::empty();
     for (k, pin) in gate.pins.as_slice().iter().enumerate() {
@@ -60,10 +62,10 @@ fn ones_kept(gate: &Gate, i: u32, fault: Option<Fault>, bytes: &[u8]) -> Mask
 }
 
 /// Writes the values of the inputs.
-#[tactic(auto, unfolding(crate::specs::Run::run_to))]
+#[tactic(auto, unfolding(crate::specs::Out::run_to))]
 fn keep_inputs(net: &Net, fault: Option<Fault>, point: Mask, bytes: &mut [u8])
     requires { signals net.now ≤ length bytes.old }
-    ensures { run.AreKept bytes.new (run.run_to net.now fault point 0) }
+    ensures { kept.AreKept bytes.new (out.run_to net.now fault point 0) }
 {
     for j in 0..net.inputs.len() {
         bytes[j] = seen(fault, Place::Stem(j as u32), point.has(j as u32)) as u8;
@@ -73,8 +75,8 @@ fn keep_inputs(net: &Net, fault: Option<Fault>, point: Mask, bytes: &mut [u8])
 /// Writes the values of the gates, in order.
 fn keep_gates(net: &Net, fault: Option<Fault>, bytes: &mut [u8])
     requires { signals net.now ≤ length bytes.old }
-    ensures { (x : Set) → run.AreKept bytes.old (run.run_to net.now fault x 0)
-        → run.AreKept bytes.new (run.run_to net.now fault x (length net.now.gates)) }
+    ensures { (x : Set) → kept.AreKept bytes.old (out.run_to net.now fault x 0)
+        → kept.AreKept bytes.new (out.run_to net.now fault x (length net.now.gates)) }
 {
     let first = net.inputs().len();
     let gates = net.gates().len();
@@ -107,7 +109,7 @@ fn ports_kept(outputs: &[Sig], fault: Option<Fault>, bytes: &[u8]) -> Mask
 /// The outputs that show 1 at the point. The bytes, one for each signal, are written over.
 fn answer_over(net: &Net, fault: Option<Fault>, point: Mask, bytes: &mut [u8]) -> Mask
     requires { signals net.now ≤ length bytes.old }
-    ensures { result ≡ run.out net.now fault point }
+    ensures { result ≡ out.out net.now fault point }
 {
     keep_inputs(net, fault, point, bytes);
     keep_gates(net, fault, bytes);
@@ -160,7 +162,7 @@ pub fn scratch_for(alloc: Global, net: &Net) -> Result<Scratch, Memory>
 /// The outputs that show 1 at the point, with the fault or without.
 pub fn answer(net: &Net, fault: Option<Fault>, point: Point, scratch: &mut Scratch) -> Mask
     requires { signals net.now ≤ scratch.old }
-    ensures out { result ≡ run.out net.now fault point }
+    ensures out { result ≡ out.out net.now fault point }
     ensures room { scratch.new ≡ scratch.old }
 {
     answer_over(net, fault, point, scratch.bytes.as_mut_slice())

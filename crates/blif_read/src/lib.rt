@@ -13,8 +13,6 @@ mod read;
 mod seen;
 mod statement;
 mod table;
-#[cfg(test)]
-mod tests;
 
 pub use fault::{BlifErr, BlifFault, NetLimits};
 pub use read::read_blif;

@@ -8,7 +8,8 @@ use Rattle.ae_base.specs.declared.limits.TheConstants.{NET_LINES, SOURCE_NAME_BY
 use Rattle.ae_net.specs.Valid.{IsValid}
 use Rattle.cascade.specs.declared.limits.TheConstants.{REDDY_TERMS}
 use Rattle.expansion.specs.Terms.{Terms, IsTerms, cost}
-use Rattle.ae_net.specs.Names.{Names, IsNames, lead, inner}
+use Rattle.ae_net.specs.Lead.{lead}
+use Rattle.ae_net.specs.Names.{Names, IsNames, inner}
 use Rattle.cascade.specs.Reddy.{lines, turned, wide_terms, and_place, chain_place, ends, gates, reddy_net}
 use Rattle.cascade.specs.declared.signals.Plan.{Plan}
 use Rattle.cascade.specs.Plan.{IsPlan}

@@ -14,7 +14,8 @@ use Rattle.expansion.specs.Terms.{Terms}
 use Rattle.ae_base.specs.declared.limits.TheConstants.{NET_LINES, SOURCE_NAME_BYTES}
 use Rattle.ae_base.specs.Name.{is_name}
 use Rattle.ae_base.proofs.Sets.{inside-below}
-use Rattle.ae_net.specs.Names.{inner, IsLetter}
+use Rattle.ae_net.specs.Lead.{IsLetter}
+use Rattle.ae_net.specs.Names.{inner}
 use Rattle.ae_net.proofs.InnerAreNames.{letter_is_name, numbered_is_name}
 use Rattle.ae_net.proofs.GatesValid.{AreGates, AreGates-append, IsGate-inverter, IsGate-buffer, IsGate-exor, IsGate-and}
 use Rattle.cascade.proofs.NamesApart.{all_inner}

@@ -16,13 +16,15 @@ use Rattle.ae_net.specs.declared.net.Gate.{Gate}
 use Rattle.ae_net.specs.declared.net.Fault.{Fault}
 use Rattle.ae_net.specs.Network.{Network}
 use Rattle.ae_net.specs.Valid.{IsValid}
-use Rattle.ae_net.specs.Run.{value_of, IsRun, run, out}
+use Rattle.ae_net.specs.Out.{run, out}
+use Rattle.ae_net.specs.Run.{value_of, IsRun}
 use Rattle.ae_net.proofs.Runs.{IsRun-run, out_of_run}
 use Rattle.expansion.specs.Terms.{Terms, IsTerms}
 use Rattle.ae_base.specs.Terms.{IsInOrder, literal, product, exor_of, value}
 use Rattle.ae_base.proofs.InOrder.{in_order-tail, any-in_order}
 use Rattle.ae_base.proofs.Truth.{differ-assoc, differ-front}
-use Rattle.ae_net.specs.Names.{Names, lead, inner}
+use Rattle.ae_net.specs.Lead.{lead}
+use Rattle.ae_net.specs.Names.{Names, inner}
 use Rattle.ae_net.specs.Gates.{and_gate}
 use Rattle.expansion.specs.Terms.{is_used}
 use Rattle.expansion.proofs.Lists.{any_at}

@@ -5,7 +5,6 @@ pub mod NamesApart
 pub mod GatesValid
 pub mod Valid
 pub mod Ports
-pub mod Small
 pub mod Ordered
 pub mod CodeLemmas
 pub mod CodeBounds

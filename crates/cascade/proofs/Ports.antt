@@ -4,7 +4,8 @@ use Rattle.std.specs.Prelude.{Some, slice_get, slice_index, codes}
 use Rattle.ae_base.specs.Mask.{Set}
 use Rattle.ae_net.specs.declared.net.Gate.{Gate}
 use Rattle.expansion.specs.Terms.{Terms}
-use Rattle.ae_net.specs.Names.{Names, lead, inner}
+use Rattle.ae_net.specs.Lead.{lead}
+use Rattle.ae_net.specs.Names.{Names, inner}
 use Rattle.cascade.specs.Reddy.{lines, inverters, control_gates, start, wide_terms, and_place, chain_place, and_gates, links, chain, rest, inner_gates, chains, ends, gates, reddy_net}
 use Rattle.ae_net.specs.Network.{Network, gate_at}
 use Rattle.ae_net.specs.Implements.{port_names}

@@ -3,8 +3,9 @@ use Rattle.std.proofs.Common.{◌≡◌, ℕ, List, ap, ◌∙◌, refl}
 use Rattle.std.specs.Prelude.{Some, None, slice_get, codes}
 use Rattle.ae_base.specs.Mask.{Set, differ, has}
 use Rattle.ae_base.specs.Terms.{value}
-use Rattle.ae_net.specs.Names.{Names, lead, inner}
-use Rattle.ae_net.specs.Run.{out}
+use Rattle.ae_net.specs.Lead.{lead}
+use Rattle.ae_net.specs.Names.{Names, inner}
+use Rattle.ae_net.specs.Out.{out}
 use Rattle.ae_net.specs.Valid.{IsValid}
 use Rattle.expansion.specs.Terms.{Terms}
 use Rattle.cascade.specs.Reddy.{reddy_net}

@@ -10,7 +10,8 @@ use Rattle.std.proofs.lemmas.List.FromFn.{length-range_with_len}
 use Rattle.ae_base.specs.Mask.{Set, has, empty, first, inside, cmp_terms}
 use Rattle.ae_net.specs.Valid.{IsValid}
 use Rattle.expansion.specs.Terms.{Terms, IsTerms, cost, is_used}
-use Rattle.ae_net.specs.Names.{Names, IsNames, lead, inner}
+use Rattle.ae_net.specs.Lead.{lead}
+use Rattle.ae_net.specs.Names.{Names, IsNames, inner}
 use Rattle.cascade.specs.Reddy.{lines, turned, inverters, has_one, control_gates, start, is_wide, wide_terms, and_place, chain_place, term_signal, and_gates, chain, rest, inner_gates, chains, ends, gates, reddy_net}
 use Rattle.cascade.specs.Shows.{Fits}
 use Rattle.cascade.proofs.Lists.{length_filter_le}

@@ -7,7 +7,8 @@ use Rattle.ae_base.specs.Terms.{in_order}
 use Rattle.ae_net.specs.declared.net.Gate.{Gate}
 use Rattle.ae_net.specs.Network.{Network}
 use Rattle.expansion.specs.Terms.{Terms, is_used}
-use Rattle.ae_net.specs.Names.{Names, lead, inner}
+use Rattle.ae_net.specs.Lead.{lead}
+use Rattle.ae_net.specs.Names.{Names, inner}
 use Rattle.ae_net.specs.Gates.{inverter, buffer, exor, and_gate}
 
 -- the place of an element of a list
@@ -109,10 +110,15 @@ ends e i (ts ∷ tss) = (lines e + (i + inner_gates ts)) ∷ ends e (suc (i + in
 unfoldable pub gates : ℕ → Names → Terms → List Gate
 gates k names e = inverters k e ++ (control_gates k e ++ (and_gates k e ++ chains k e 0 (chain_place e) e.outs names.outputs))
 
-unfoldable pub reddy_net : Names → Terms → Network
-reddy_net names e = record {
+-- the network whose inner names begin with k underscores
+abbrev pub reddy_over : ℕ → Names → Terms → Network
+reddy_over k names e = record {
   model = names.model;
-  inputs = names.inputs ++ inner (lead names) (codes "c") ∷ [];
+  inputs = names.inputs ++ inner k (codes "c") ∷ [];
   outputs = ends e (chain_place e) e.outs;
-  gates = gates (lead names) names e;
+  gates = gates k names e;
 }
+
+-- the network whose inner names have the least free number of underscores
+unfoldable pub reddy_net : Names → Terms → Network
+reddy_net names e = reddy_over (lead names) names e

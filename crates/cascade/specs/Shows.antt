@@ -5,7 +5,7 @@ use Rattle.ae_base.specs.Terms.{value}
 use Rattle.ae_net.specs.Implements.{port_names}
 use Rattle.ae_net.specs.Names.{Names, IsNames}
 use Rattle.ae_net.specs.Network.{Network}
-use Rattle.ae_net.specs.Run.{out}
+use Rattle.ae_net.specs.Out.{out}
 use Rattle.expansion.specs.Terms.{Terms, IsTerms, cost}
 use Rattle.cascade.specs.declared.limits.TheConstants.{REDDY_TERMS}
 

@@ -1,7 +1,7 @@
 //! The Reddy network of expansions.
 ghost use Rattle.std.specs.Prelude.{◌≡◌, ◌≤◌, ◌<◌, ◌+◌, ◌++◌, ◌∷◌, [], length, All, IfOk, OnOk};
 ghost use Rattle.expansion.specs.Terms.{Terms, cost};
-ghost use Rattle.ae_net.specs.Names as names_spec;
+ghost use Rattle.ae_net.specs.Lead as lead_spec;
 ghost use Rattle.cascade.specs.Plan.{IsPlan, AreOver};
 ghost use Rattle.cascade.specs.Reddy as spec;
 ghost use Rattle.cascade.specs.Reddy.{reddy_net};
@@ -140,7 +140,7 @@ fn push_gates(
 /// The Reddy network, `lead` being the number of underscores that inner names begin with.
 #[tactic(auto, unfolding(crate::specs::Reddy::reddy_net))]
 fn reddy_with(alloc: Global, lead: u32, names: &NetNames, e: &Expansion) -> Result<Net, Memory>
-    requires lead { lead ≡ names_spec.lead names.now }
+    requires lead { lead ≡ lead_spec.lead names.now }
     requires short { lead ≤ SOURCE_NAME_BYTES + 1 }
     requires fits { Fits names.now e.now }
     requires cheap { cost e.now ≤ REDDY_TERMS }

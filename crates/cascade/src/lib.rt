@@ -7,8 +7,6 @@ mod limits;
 mod parts;
 mod signals;
 mod terms;
-#[cfg(test)]
-mod tests;
 mod vectors;
 
 pub use build::reddy;

@@ -1,4 +1,3 @@
 pub mod Even
 pub mod Lists
-pub mod OneTerm
 pub mod UsedInputs

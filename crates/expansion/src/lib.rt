@@ -4,8 +4,6 @@
 mod expansion;
 mod laws;
 mod limits;
-#[cfg(test)]
-mod tests;
 mod used;
 
 pub use expansion::{Expansion, pairs};

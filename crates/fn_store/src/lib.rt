@@ -4,8 +4,6 @@
 mod cubes;
 mod laws;
 mod terms;
-#[cfg(test)]
-mod tests;
 
 pub use cubes::cubes_expansion;
 pub use laws::expansion_law;

@@ -3,4 +3,3 @@ pub mod FirstTerm
 pub mod CodeLemmas
 pub mod Whole
 pub mod Joined
-pub mod Small

@@ -11,7 +11,8 @@ use Rattle.ae_base.proofs.Truth.{or-false}
 use Rattle.ae_net.specs.declared.net.Gate.{Gate}
 use Rattle.ae_net.specs.Faults.{is_read, is_read_by}
 use Rattle.ae_net.specs.Gates.{inverter, and_gate}
-use Rattle.ae_net.specs.Names.{Names, lead, inner}
+use Rattle.ae_net.specs.Lead.{lead}
+use Rattle.ae_net.specs.Names.{Names, inner}
 use Rattle.ae_net.proofs.Distinct.{each-append, each_weaker}
 use Rattle.expansion.specs.Terms.{Terms, is_used}
 use Rattle.cascade.specs.Reddy.{place_of, lines, gates_for, turned, literal_signal, inverters, has_one, control_gates, start, is_wide, wide_terms, and_place, chain_place, term_signal, and_gates, links, chain, rest, inner_gates, chains, ends, gates, reddy_net}

@@ -3,8 +3,6 @@
 
 mod complete;
 mod laws;
-#[cfg(test)]
-mod tests;
 mod vectors;
 
 pub use complete::cascade_vectors;

@@ -6,8 +6,6 @@ mod fault;
 mod header;
 mod names;
 mod read;
-#[cfg(test)]
-mod tests;
 mod words;
 
 pub use fault::{PlaErr, PlaFault};

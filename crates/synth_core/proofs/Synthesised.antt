@@ -15,7 +15,7 @@ use Rattle.ae_base.specs.Source.{Source, on_set}
 use Rattle.ae_base.proofs.Sets.{has-first, has-inside, has-where_below}
 use Rattle.ae_net.specs.Network.{Network}
 use Rattle.ae_net.specs.Valid.{IsValid, IsDistinct}
-use Rattle.ae_net.specs.Run.{out}
+use Rattle.ae_net.specs.Out.{out}
 use Rattle.ae_net.specs.Implements.{Implements}
 use Rattle.ae_net.specs.Names.{IsNames}
 use Rattle.ae_net.specs.Blif.{blif_text}

@@ -4,7 +4,7 @@ use Rattle.ae_base.specs.Mask.{Set}
 use Rattle.ae_base.specs.Source.{Source}
 use Rattle.ae_net.specs.Implements.{Implements}
 use Rattle.ae_net.specs.Network.{Network}
-use Rattle.ae_net.specs.Run.{out}
+use Rattle.ae_net.specs.Out.{out}
 use Rattle.blif_read.specs.declared.fault.NetLimits.TheVariants.{Written}
 use Rattle.blif_read.specs.Says.{blif_says}
 use Rattle.expansion.specs.Even.{AreEven}

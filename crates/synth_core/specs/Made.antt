@@ -9,7 +9,7 @@ use Rattle.ae_net.specs.Faults.{fault_list}
 use Rattle.ae_net.specs.Implements.{port_names}
 use Rattle.ae_net.specs.Names.{Names}
 use Rattle.ae_net.specs.Network.{Network}
-use Rattle.ae_net.specs.Run.{out}
+use Rattle.ae_net.specs.Out.{out}
 use Rattle.ae_net.specs.Valid.{IsValid}
 use Rattle.cascade.specs.declared.limits.TheConstants.{REDDY_TERMS}
 use Rattle.cascade.specs.Reddy.{reddy_net}

@@ -5,7 +5,7 @@ use Rattle.ae_base.specs.Cube.{Product, Signs}
 use Rattle.ae_base.specs.Source.{Source}
 use Rattle.ae_base.specs.Terms.{IsPoint}
 use Rattle.ae_net.specs.Network.{Network}
-use Rattle.ae_net.specs.Run.{out}
+use Rattle.ae_net.specs.Out.{out}
 use Rattle.ae_cover.specs.declared.parts.Row.{Row}
 use Rattle.ae_cover.specs.Cover.{has_mark, is_one}
 use Rattle.cascade.specs.declared.limits.TheConstants.{REDDY_TERMS}

@@ -7,8 +7,6 @@ mod laws;
 mod made;
 mod settings;
 mod synthesis;
-#[cfg(test)]
-mod tests;
 
 pub use error::SynthErr;
 pub use made::{Made, Summary};

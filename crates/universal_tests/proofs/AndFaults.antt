@@ -13,8 +13,10 @@ use Rattle.ae_base.proofs.Sets.{inside-below}
 use Rattle.ae_net.specs.declared.net.Place.TheVariants.{Stem, Pin}
 use Rattle.ae_net.specs.declared.net.Fault.{Fault}
 use Rattle.ae_net.specs.Network.{Network}
-use Rattle.ae_net.specs.Names.{Names, lead}
-use Rattle.ae_net.specs.Run.{seen, value_of, run}
+use Rattle.ae_net.specs.Lead.{lead}
+use Rattle.ae_net.specs.Names.{Names}
+use Rattle.ae_net.specs.Out.{run}
+use Rattle.ae_net.specs.Run.{seen, value_of}
 use Rattle.ae_net.proofs.OneGate.{InGate, InGate-stem, InGate-pin, held, stuck, at_stem, at_pin, at_other_pin}
 use Rattle.ae_net.proofs.Tables.{sees, all_see, all_to, all_see-false, table-and}
 use Rattle.expansion.specs.Terms.{Terms, is_used, used_inputs}
@@ -28,7 +30,7 @@ use Rattle.universal_tests.specs.Sites.{IsDetected}
 use Rattle.universal_tests.specs.Universal.{one_low, universal_vectors}
 use Rattle.universal_tests.proofs.Products.{member_used, product_high, product_all_at, product_one_low}
 use Rattle.universal_tests.proofs.Turns.{and_signal, and_turns, wide_some}
-use Rattle.universal_tests.proofs.TwoRuns.{Both, TwoRuns, two_runs, Detects-gate, plain_inputs, plain_term}
+use Rattle.universal_tests.proofs.TwoRuns.{Both, TwoRuns, two_runs, Differs-gate, plain_inputs, plain_term}
 use Rattle.universal_tests.proofs.AtVectors.{all_at, literal-one_low, Contains-all_at, Contains-one_low}
 
 pub not_not : (b : Bool) → b ≡ not (not b)
@@ -97,7 +99,7 @@ module _ (names : Names) (e : Terms) (can : CanBuild names e) (p : ℕ) (of : Of
       let two : TwoRuns names e (Some fault) p x (run n (Some fault) x) (run n None x) = two_runs names e can (Some fault) p x within (omega arith) in (
         x,
         listed,
-        Detects-gate names e fault p x found.0 within (slice_get_within e.outs found.0 found.1 found.2)
+        Differs-gate names e fault p x found.0 within (slice_get_within e.outs found.0 found.1 found.2)
             (and_turns names e can (Some fault) p x (run n (Some fault) x) (run n None x) two found.0 found.1 found.2 of.t found.3 of.wide of.place (turns (run n (Some fault) x) (run n None x) two)),
       )
 

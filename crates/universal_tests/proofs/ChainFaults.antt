@@ -9,8 +9,10 @@ use Rattle.ae_net.specs.declared.net.Place.TheVariants.{Stem, Pin}
 use Rattle.ae_net.specs.declared.net.Fault.{Fault}
 use Rattle.ae_net.specs.Gates.{buffer}
 use Rattle.ae_net.specs.Network.{Network}
-use Rattle.ae_net.specs.Names.{Names, lead}
-use Rattle.ae_net.specs.Run.{value_of, run}
+use Rattle.ae_net.specs.Lead.{lead}
+use Rattle.ae_net.specs.Names.{Names}
+use Rattle.ae_net.specs.Out.{run}
+use Rattle.ae_net.specs.Run.{value_of}
 use Rattle.ae_net.proofs.Follow.{EachGate, Fits}
 use Rattle.ae_net.proofs.OneGate.{InGate, InGate-stem, InGate-pin, held, stuck, at_stem, at_pin, at_other_pin}
 use Rattle.ae_net.proofs.Tables.{table-exor, table-buffer}
@@ -26,7 +28,7 @@ use Rattle.universal_tests.proofs.AndFaults.{not_not}
 use Rattle.universal_tests.proofs.Chains.{InChain, chain_start, chain_start_from, OfChain, of_chain, Linked, linked, chain_turns, terms_kept}
 use Rattle.universal_tests.proofs.Products.{product_all_at}
 use Rattle.universal_tests.proofs.Turns.{stands_at, all_inside, start_below, chain_after, differ-not_right}
-use Rattle.universal_tests.proofs.TwoRuns.{Both, TwoRuns, two_runs, Detects-gate, plain_start, plain_term}
+use Rattle.universal_tests.proofs.TwoRuns.{Both, TwoRuns, two_runs, Differs-gate, plain_start, plain_term}
 use Rattle.universal_tests.proofs.AtVectors.{all_at, control-all_at, Contains-all_at}
 
 -- a gate of a chain is a buffer of its start, or joins a term
@@ -80,7 +82,7 @@ module _ (names : Names) (e : Terms) (can : CanBuild names e) (p : ℕ) (of : In
       let w : List Bool = run n (Some fault) x in
       let v : List Bool = run n None x in
       let two : TwoRuns names e (Some fault) p x w v = two_runs names e can (Some fault) p x within (omega arith) in
-      (x, Contains-all_at e.polarity (used_inputs e) b c, Detects-gate names e fault p x of.o within (slice_get_within e.outs of.o of.ts of.there) (chain_turns names e can (Some fault) p x w v two of (turns w v two)))
+      (x, Contains-all_at e.polarity (used_inputs e) b c, Differs-gate names e fault p x of.o within (slice_get_within e.outs of.o of.ts of.there) (chain_turns names e can (Some fault) p x w v two of (turns w v two)))
 
   -- the control at which the start of the chain is the opposite of u, where all literals are 0
   against : Bool → Bool

@@ -10,7 +10,8 @@ use Rattle.ae_base.proofs.Truth.{differ-false}
 use Rattle.ae_net.specs.declared.net.Gate.{Gate}
 use Rattle.ae_net.specs.declared.net.Fault.{Fault}
 use Rattle.ae_net.specs.Gates.{exor}
-use Rattle.ae_net.specs.Names.{Names, lead, inner}
+use Rattle.ae_net.specs.Lead.{lead}
+use Rattle.ae_net.specs.Names.{Names, inner}
 use Rattle.ae_net.specs.Run.{value_of}
 use Rattle.ae_net.proofs.Follow.{EachGate, EachGate-append, Fits, Follows}
 use Rattle.ae_net.proofs.OneGate.{InGate, Follows-quiet}

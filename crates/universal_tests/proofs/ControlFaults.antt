@@ -11,13 +11,15 @@ use Rattle.ae_net.specs.declared.net.Place.TheVariants.{Stem, Pin, Port}
 use Rattle.ae_net.specs.declared.net.Fault.{Fault}
 use Rattle.ae_net.specs.Gates.{inverter}
 use Rattle.ae_net.specs.Network.{Network}
-use Rattle.ae_net.specs.Names.{Names, lead, inner}
-use Rattle.ae_net.specs.Run.{seen, value_of, run, out}
+use Rattle.ae_net.specs.Lead.{lead}
+use Rattle.ae_net.specs.Names.{Names, inner}
+use Rattle.ae_net.specs.Out.{run, out}
+use Rattle.ae_net.specs.Run.{seen, value_of}
 use Rattle.ae_base.proofs.Members.{members-has}
 use Rattle.ae_base.proofs.Sets.{inside-below}
 use Rattle.ae_base.proofs.Truth.{differ-false}
 use Rattle.ae_net.proofs.Follow.{EachGate}
-use Rattle.ae_net.proofs.OneGate.{InGate, InGate-stem, InGate-pin, held, stuck, at_stem, at_pin, run_as, has-out, Detects-turned}
+use Rattle.ae_net.proofs.OneGate.{InGate, InGate-stem, InGate-pin, held, stuck, at_stem, at_pin, run_as, has-out, Differs-turned}
 use Rattle.ae_net.proofs.Tables.{table-inverter}
 use Rattle.expansion.specs.Terms.{Terms, used_inputs}
 use Rattle.cascade.specs.Reddy.{lines, turned, has_one, control_gates, rest, reddy_net}
@@ -32,7 +34,7 @@ use Rattle.universal_tests.specs.Universal.{universal_vectors}
 use Rattle.universal_tests.proofs.AndFaults.{not_not}
 use Rattle.universal_tests.proofs.Products.{product_low}
 use Rattle.universal_tests.proofs.Turns.{start_turns, stands_at, all_inside}
-use Rattle.universal_tests.proofs.TwoRuns.{Both, TwoRuns, two_runs, inputs_are, Detects-gate}
+use Rattle.universal_tests.proofs.TwoRuns.{Both, TwoRuns, two_runs, inputs_are, Differs-gate}
 use Rattle.universal_tests.proofs.AtVectors.{all_at, control-all_at, low_part, Contains-all_at}
 
 -- ---- the inverter of the control
@@ -65,7 +67,7 @@ module _ (names : Names) (e : Terms) (can : CanBuild names e) (some : list_any h
       turns w v two ∙ not_not c ∙ ap (λ b. not (not b)) (sym (control-all_at e.polarity (used_inputs e) false c)) ∙ ap not (sym (inverter_plain (Some fault) x w v two)) in (
         x,
         Contains-all_at e.polarity (used_inputs e) false c,
-        Detects-gate names e fault (length (turned e)) x found.0 within (slice_get_within e.outs found.0 found.1 found.2)
+        Differs-gate names e fault (length (turned e)) x found.0 within (slice_get_within e.outs found.0 found.1 found.2)
             (start_turns names e can (Some fault) (length (turned e)) x w v two found.0 found.1 found.2 found.3 refl turned_here),
       )
 
@@ -130,7 +132,7 @@ module _ (names : Names) (e : Terms) (can : CanBuild names e) where
       let fault : Fault = record { place = Port o; value = u } in (
         x,
         Contains-all_at e.polarity (used_inputs e) false c,
-        Detects-turned n fault x o
+        Differs-turned n fault x o
             (has-out n (Some fault) x o (is_port o l)
             ∙ rw (eq-eqb o o refl) (not_not u)
             ∙ ap not (sym (shown x o ts there ∙ ap₂ differ (control-all_at e.polarity (used_inputs e) false c) (value_low names e can c o ts there) ∙ back (has_one ts) (not u)))),
@@ -165,7 +167,7 @@ module _ (names : Names) (e : Terms) (can : CanBuild names e) where
       let y : Set = all_at e.polarity (used_inputs e) false u in (
         x,
         Contains-all_at e.polarity (used_inputs e) false (not u),
-        Detects-turned n fault x 0
+        Differs-turned n fault x 0
             (has-out n (Some fault) x 0 (is_port 0 l)
             ∙ ap (λ w. value_of w (slice_index n.outputs 0)) (stem_as u)
             ∙ sym (has-out n None y 0 (is_port 0 l))

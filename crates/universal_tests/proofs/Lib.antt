@@ -11,4 +11,3 @@ pub mod CodeLemmas
 pub mod Line
 pub mod OddInputs
 pub mod Literals
-pub mod Small

@@ -11,13 +11,14 @@ use Rattle.ae_base.specs.Terms.{IsInOrder, literal, product, value}
 use Rattle.ae_net.specs.declared.net.Gate.{Gate}
 use Rattle.ae_net.specs.declared.net.Place.TheVariants.{Stem, Pin}
 use Rattle.ae_net.specs.declared.net.Fault.{Fault}
-use Rattle.ae_net.specs.Detects.{Detects}
+use Rattle.ae_net.specs.Out.{Differs, run, out}
 use Rattle.ae_net.specs.Gates.{inverter}
-use Rattle.ae_net.specs.Names.{Names, lead, inner}
+use Rattle.ae_net.specs.Lead.{lead}
+use Rattle.ae_net.specs.Names.{Names, inner}
 use Rattle.ae_net.specs.Network.{Network}
-use Rattle.ae_net.specs.Run.{value_of, run, out}
+use Rattle.ae_net.specs.Run.{value_of}
 use Rattle.ae_net.proofs.Follow.{Follows}
-use Rattle.ae_net.proofs.OneGate.{InGate, InGate-stem, InGate-pin, Fits-quiet, Follows-quiet, held, stuck, at_stem, at_pin, run_as, has-out, Detects-turned}
+use Rattle.ae_net.proofs.OneGate.{InGate, InGate-stem, InGate-pin, Fits-quiet, Follows-quiet, held, stuck, at_stem, at_pin, run_as, has-out, Differs-turned}
 use Rattle.ae_net.proofs.Tables.{table-inverter}
 use Rattle.expansion.specs.Terms.{Terms, is_used}
 use Rattle.cascade.specs.Reddy.{place_of, lines, turned, literal_signal, has_one, control_gates, and_place, chain_place, and_gates, rest, ends, reddy_net}
@@ -61,9 +62,9 @@ module _ (names : Names) (e : Terms) (can : CanBuild names e) (j : ℕ) (l : j <
   same_control b = two_of.others b e.polarity.n (λ same. absurd (omega (arith, same)))
 
   -- a fault that holds the literal at b is detected where it is the opposite
-  neighbour : (fault : Fault) (b : Bool) → has (out (reddy_net names e) (Some fault) (pair (not b))) o ≡ differ (has (pair b) e.polarity.n) (value e.polarity ts (pair b)) → Detects (reddy_net names e) fault (pair (not b))
+  neighbour : (fault : Fault) (b : Bool) → has (out (reddy_net names e) (Some fault) (pair (not b))) o ≡ differ (has (pair b) e.polarity.n) (value e.polarity ts (pair b)) → Differs (reddy_net names e) fault (pair (not b))
   neighbour fault b acts =
-      Detects-turned (reddy_net names e) fault (pair (not b)) o
+      Differs-turned (reddy_net names e) fault (pair (not b)) o
       (acts
       ∙ ap₂ differ (same_control b) (two_of.turns b)
       ∙ differ-not_right (has (pair (not b)) e.polarity.n) (value e.polarity ts (pair (not b)))
@@ -71,7 +72,7 @@ module _ (names : Names) (e : Terms) (can : CanBuild names e) (j : ℕ) (l : j <
 
   -- ---- the stem of the input
 
-  pub source_stem : (u : Bool) → Detects (reddy_net names e) (record { place = Stem j; value = u }) (pair (not (cond (has e.polarity.plain j) u (not u))))
+  pub source_stem : (u : Bool) → Differs (reddy_net names e) (record { place = Stem j; value = u }) (pair (not (cond (has e.polarity.plain j) u (not u))))
   source_stem u =
       let n : Network = reddy_net names e in
       let fault : Fault = record { place = Stem j; value = u } in
@@ -143,7 +144,7 @@ module _ (names : Names) (e : Terms) (can : CanBuild names e) (j : ℕ) (l : j <
           begin = differ-past (has_one ts) (has (pair b) e.polarity.n) (value e.polarity (rest ts) (pair b)) ∙ ap (differ (has (pair b) e.polarity.n)) (sym (value-rest e (pair b) ts (All-get IsInOrder e.outs o ts can.terms.order two_of.there)))
 
     -- a fault that holds the gate's signal at b is detected
-    inverter_detected : (fault : Fault) (b : Bool) → InGate (Some fault) (lines e) p → ((w v : List Bool) → TwoRuns names e (Some fault) p (pair (not b)) w v → value_of w (lines e + p) ≡ b) → Detects (reddy_net names e) fault (pair (not b))
+    inverter_detected : (fault : Fault) (b : Bool) → InGate (Some fault) (lines e) p → ((w v : List Bool) → TwoRuns names e (Some fault) p (pair (not b)) w v → value_of w (lines e + p) ≡ b) → Differs (reddy_net names e) fault (pair (not b))
     inverter_detected fault b within holds =
         let n : Network = reddy_net names e in
         let w : List Bool = run n (Some fault) (pair (not b)) in
@@ -155,10 +156,10 @@ module _ (names : Names) (e : Terms) (can : CanBuild names e) (j : ℕ) (l : j <
         ∙ ap (λ (ss : List ℕ). value_of w (slice_index ss o)) (outputs_are names e)
         ∙ acts (Some fault) b w v two (holds w v two))
 
-    pub inverter_stem : (u : Bool) → Detects (reddy_net names e) (record { place = Stem (lines e + p); value = u }) (pair (not u))
+    pub inverter_stem : (u : Bool) → Differs (reddy_net names e) (record { place = Stem (lines e + p); value = u }) (pair (not u))
     inverter_stem u =
         inverter_detected (record { place = Stem (lines e + p); value = u }) u (InGate-stem (lines e) p u) (λ w v two. at_stem w (lines e) p u _ ((own_gate (held (lines e) p u) u w v two).faulty))
 
-    pub inverter_pin : (u : Bool) → Detects (reddy_net names e) (record { place = Pin p 0; value = u }) (pair (not (not u)))
+    pub inverter_pin : (u : Bool) → Differs (reddy_net names e) (record { place = Pin p 0; value = u }) (pair (not (not u)))
     inverter_pin u =
         inverter_detected (record { place = Pin p 0; value = u }) (not u) (InGate-pin (lines e) p 0 u) (λ w v two. (own_gate (stuck p 0 u) (not u) w v two).faulty ∙ table-inverter (stuck p 0 u) w p _ j ∙ ap not (at_pin p 0 u _))

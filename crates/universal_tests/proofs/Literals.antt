@@ -14,7 +14,7 @@ use Rattle.ae_base.proofs.Members.{len-members}
 use Rattle.ae_net.specs.declared.net.Gate.{Gate}
 use Rattle.ae_net.specs.declared.net.Place.{Place}
 use Rattle.ae_net.specs.declared.net.Place.TheVariants.{Stem, Pin, Port}
-use Rattle.ae_net.specs.Detects.{Detects}
+use Rattle.ae_net.specs.Out.{Differs}
 use Rattle.ae_net.specs.Faults.{IsPlace}
 use Rattle.ae_net.specs.Gates.{inverter}
 use Rattle.ae_net.specs.Names.{Names}
@@ -97,7 +97,7 @@ module _ (names : Names) (e : Terms) (can : CanBuild names e) where
 
   -- each is detected at one of the two points
   pub pair_detects : (j : ℕ) → j < e.polarity.n → (o : ℕ) (ts : List Set) (pair : Bool → Set) → Pair e j o ts pair
-      → (place : Place) (u : Bool) → IsPlace (reddy_net names e) place → IsOfLiteral (reddy_net names e) j place → (b : Bool) × Detects (reddy_net names e) (record { place = place; value = u }) (pair b)
+      → (place : Place) (u : Bool) → IsPlace (reddy_net names e) place → IsOfLiteral (reddy_net names e) j place → (b : Bool) × Differs (reddy_net names e) (record { place = place; value = u }) (pair b)
   pair_detects j l o ts pair two (Stem s) u h (inl same) = rw same (_, source_stem names e can j l o ts pair two u)
   pair_detects j l o ts pair two (Stem s) u h (inr (p, same, of)) =
       rw (same, inputs_are names e can) (_, inverter_stem names e can j l o ts pair two p (inverts_of p j l of) (slice_get_within ((reddy_net names e).gates) p _ of.1) u)

@@ -6,12 +6,13 @@ use Rattle.ae_base.specs.Terms.{product, exor_of}
 use Rattle.ae_base.proofs.Sets.{inside-below}
 use Rattle.ae_net.specs.declared.net.Gate.{Gate}
 use Rattle.ae_net.specs.declared.net.Fault.{Fault}
-use Rattle.ae_net.specs.Detects.{Detects}
-use Rattle.ae_net.specs.Names.{Names, lead, inner}
+use Rattle.ae_net.specs.Out.{Differs, run}
+use Rattle.ae_net.specs.Lead.{lead}
+use Rattle.ae_net.specs.Names.{Names, inner}
 use Rattle.ae_net.specs.Network.{Network}
-use Rattle.ae_net.specs.Run.{table, value_of, IsRun, run}
+use Rattle.ae_net.specs.Run.{table, value_of, IsRun}
 use Rattle.ae_net.proofs.Follow.{EachGate, EachGate-from_get, EachGate-weaker, Fits, Follows}
-use Rattle.ae_net.proofs.OneGate.{InGate, Fits-quiet, Follows-quiet, before_gate, has-out, Detects-turned}
+use Rattle.ae_net.proofs.OneGate.{InGate, Fits-quiet, Follows-quiet, before_gate, has-out, Differs-turned}
 use Rattle.ae_net.proofs.Runs.{IsRun-run, ones_seen_agree}
 use Rattle.expansion.specs.Terms.{Terms}
 use Rattle.cascade.specs.Reddy.{place_of, lines, turned, literal_signal, inverters, has_one, control_gates, start, is_wide, wide_terms, and_place, chain_place, term_signal, and_gates, rest, ends, gates, reddy_net}
@@ -74,13 +75,13 @@ abbrev pub Turned : Terms → List Bool → List Bool → ℕ → Type 0
 Turned e w v o = value_of w (slice_index (ends e (chain_place e) e.outs) o) ≡ not (value_of v (slice_index (ends e (chain_place e) e.outs) o))
 
 -- then the fault is detected
-pub Detects-gate : (names : Names) (e : Terms) (fault : Fault) (p : ℕ) (x : Set) (o : ℕ) → InGate (Some fault) (lines e) p → o < length e.outs
-    → Turned e (run (reddy_net names e) (Some fault) x) (run (reddy_net names e) None x) o → Detects (reddy_net names e) fault x
-Detects-gate names e fault p x o within l h =
+pub Differs-gate : (names : Names) (e : Terms) (fault : Fault) (p : ℕ) (x : Set) (o : ℕ) → InGate (Some fault) (lines e) p → o < length e.outs
+    → Turned e (run (reddy_net names e) (Some fault) x) (run (reddy_net names e) None x) o → Differs (reddy_net names e) fault x
+Differs-gate names e fault p x o within l h =
     let n : Network = reddy_net names e in
     let l' : o < length n.outputs = omega (arith, l, length-outputs names e) in
     let h' : value_of (run n (Some fault) x) (slice_index n.outputs o) ≡ not (value_of (run n None x) (slice_index n.outputs o)) = subst (λ (ss : List ℕ). value_of (run n (Some fault) x) (slice_index ss o) ≡ not (value_of (run n None x) (slice_index ss o))) (sym (outputs_are names e)) h in
-    Detects-turned n fault x o (has-out n (Some fault) x o l' ∙ within.ports o _ ∙ h' ∙ ap not (sym (has-out n None x o l')))
+    Differs-turned n fault x o (has-out n (Some fault) x o l' ∙ within.ports o _ ∙ h' ∙ ap not (sym (has-out n None x o l')))
 
 -- ---- what the two runs share
 

@@ -4,7 +4,7 @@ use Rattle.ae_base.specs.Mask.{Set}
 use Rattle.ae_net.specs.declared.net.Place.{Place}
 use Rattle.ae_net.specs.declared.net.Place.TheVariants.{Stem, Pin, Port}
 use Rattle.ae_net.specs.declared.net.Fault.{Fault}
-use Rattle.ae_net.specs.Detects.{Detects}
+use Rattle.ae_net.specs.Out.{Differs}
 use Rattle.ae_net.specs.Faults.{IsPlace}
 use Rattle.ae_net.specs.Gates.{inverter}
 use Rattle.ae_net.specs.Network.{Network}
@@ -21,7 +21,7 @@ IsOfLiteral n j (Port o) = ⊥
 
 -- some vector of the list detects the fault
 abbrev pub IsDetected : Network → List Set → Fault → Type 0
-IsDetected n xs fault = (x : Set) × Contains xs x × Detects n fault x
+IsDetected n xs fault = (x : Set) × Contains xs x × Differs n fault x
 
 -- each fault at a site is detected, but those of the literals of the first m inputs
 abbrev pub DetectsAllBut : Network → ℕ → List Set → Type 0

@@ -1,2 +1,1 @@
-pub mod AndFile
 pub mod Written

@@ -2,8 +2,6 @@
 #![tactic(auto)]
 
 mod file;
-#[cfg(test)]
-mod tests;
 mod text;
 
 pub use file::{Form, VecFile, Vector};

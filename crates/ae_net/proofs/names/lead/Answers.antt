@@ -1,5 +1,6 @@
 use Rattle.std.proofs.Common.{◌≡◌, ℕ, ◌++◌, List, map, max, ap, ap₂, sym, subst, ◌∙◌, arith}
-use Rattle.ae_net.specs.Names.{Names, IsLead, underscores, greatest, free_from, lead}
+use Rattle.ae_net.specs.Lead.{greatest, free_from, lead}
+use Rattle.ae_net.specs.Names.{Names, IsLead, underscores}
 use Rattle.ae_net.proofs.LeadLemmas.{few_of_source, greatest_both, lead_is_lead, lead_few}
 use Rattle.ae_net.proofs.names.lead.Goals as goal
 
