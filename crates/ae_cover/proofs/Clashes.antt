@@ -1,9 +1,12 @@
 -- The first clash is a clash, and none is before it.
-use Rattle.std.proofs.Common.{◌≡◌, ℕ, zero, suc, ◌<◌, ◌⊎◌, Bool, true, false, ◌&&◌, List, length, Option, Some, None, refl, sym, ap, subst, ◌∙◌, inl, inr, eqb, eq-eqb, eqb-true, lt-ltb, arith}
-use Rattle.std.specs.Prelude.{slice_get, All}
+use Rattle.std.proofs.Common.{◌≡◌, ℕ, zero, suc, ◌<◌, ◌⊎◌, Bool, true, false, ◌&&◌, cond, List, length, get_or, Option, Some, None, refl, sym, ap, ap₂, subst, ◌∙◌, inl, inr, eqb, eq-eqb, eqb-true, lt-ltb, arith}
+use Rattle.std.specs.Prelude.{slice_get, is_some, zip, All}
+use Rattle.std.specs.List.{list_any}
 use Rattle.std.specs.Option.{option_or, option_map_or}
 use Rattle.std.proofs.lemmas.Bool.{and_from, and_parts, cases_eq, cases_Bool, false≢true, or_cases as bool_or_cases, or_from, or_left, or_right}
-use Rattle.std.proofs.lemmas.Option.{cond_some, slice_get_within, get_or_from_slice_get}
+use Rattle.std.proofs.lemmas.Option.{cond_some, slice_get_within, get_or_from_slice_get, slice_get_read}
+use Rattle.std.proofs.lemmas.List.Folds.{Any-from_list_any, list_any_at}
+use Rattle.std.proofs.lemmas.Slice.Zip.{get_or-zip, length-zip}
 use Rattle.std.proofs.lemmas.List.Elements.{All-get_or}
 use Rattle.ae_base.specs.Mask.{Set, has, len, both, either, first}
 use Rattle.ae_base.specs.Cube.{Product, IsProduct, holds}
@@ -11,14 +14,13 @@ use Rattle.ae_base.specs.Terms.{IsPoint}
 use Rattle.ae_base.proofs.Sets.{has-both, has-either, has-inside, has-first}
 use Rattle.ae_base.proofs.Members.{len-zero, len-none}
 use Rattle.ae_base.proofs.Products.{holds-has, has-holds}
-use Rattle.ae_cover.specs.declared.parts.Kind.{Kind}
-use Rattle.ae_cover.specs.declared.parts.Kind.TheVariants.{F, Fd, Fr, Fdr}
 use Rattle.ae_cover.specs.declared.parts.Mark.{Mark}
 use Rattle.ae_cover.specs.declared.parts.Mark.TheVariants.{One, Zero, Dash, Void}
 use Rattle.ae_cover.specs.declared.parts.Row.{Row}
 use Rattle.ae_cover.specs.declared.parts.Clash.{Clash}
 use Rattle.ae_cover.specs.Cover.{Table, IsRow, IsCover, is_one, is_zero, has_mark}
-use Rattle.ae_cover.specs.Clash.{IsClash, IsBefore, zero_is_off, meet, first_below, clash, clash_of, clash_at, least_clash, of_kind, first_clash}
+use Rattle.ae_cover.specs.Clash.{IsClash, zero_is_off, meet, disagree, has_clash}
+use Rattle.ae_cover.specs.FirstClash.{IsBefore, first_below, clash, clash_of, clash_at, least_clash, first_clash}
 
 -- ---- the first answer below n
 
@@ -139,6 +141,10 @@ zero_there (Some Void) e = absurd (false≢true e)
 
 -- ---- the first clash
 
+cond_is : (b : Bool) (o : Option Clash) (c : Clash) → cond b o None ≡ Some c → (b ≡ true) × (o ≡ Some c)
+cond_is true o c e = (refl, e)
+cond_is false o c e = absurd cc
+
 -- the answer for a row as the one with Zero
 off_answer : List Row → ℕ → ℕ → Row → ℕ → Option Clash
 off_answer rows output on_row on off_row = option_map_or (clash output on_row off_row on) (slice_get rows off_row) None
@@ -218,42 +224,29 @@ row_at n m rows i row all e =
     let P : Row → Type 0 = IsRow n m in
     subst P (get_or_from_slice_get rows i row row e) (All-get_or (IsRow n m) rows i row (slice_get_within rows i row e) all)
 
-of_kind_found : (k : Kind) (o : Option Clash) (c : Clash) → of_kind k o ≡ Some c → (zero_is_off k ≡ true) × (o ≡ Some c)
-of_kind_found F o c e = absurd cc
-of_kind_found Fd o c e = absurd cc
-of_kind_found Fr o c e = (refl, e)
-of_kind_found Fdr o c e = (refl, e)
-
-of_kind_none : (k : Kind) (o : Option Clash) → zero_is_off k ≡ true → of_kind k o ≡ None → o ≡ None
-of_kind_none F o h e = absurd (false≢true h)
-of_kind_none Fd o h e = absurd (false≢true h)
-of_kind_none Fr o h e = e
-of_kind_none Fdr o h e = e
-
-of_kind_unmarked : (k : Kind) (o : Option Clash) → zero_is_off k ≡ false → of_kind k o ≡ None
-of_kind_unmarked F o h = refl
-of_kind_unmarked Fd o h = refl
-of_kind_unmarked Fr o h = absurd (false≢true (sym h))
-of_kind_unmarked Fdr o h = absurd (false≢true (sym h))
-
-is_clash : (t : Table) (c : Clash) → IsCover t → zero_is_off t.kind ≡ true → IsLeast (length t.outputs) t.rows c → IsClash t c
-is_clash t c h k l =
-    let on = row_at _ _ t.rows c.on_row l.on h.rows l.on_row in
-    let off = row_at _ _ t.rows c.off_row l.off h.rows l.off_row in
+-- two rows of a cover that disagree at an output
+pub rows_clash : (t : Table) (c : Clash) (on off : Row) → IsCover t → zero_is_off t.kind ≡ true → c.output < length t.outputs → slice_get t.rows c.on_row ≡ Some on → slice_get t.rows c.off_row ≡ Some off
+    → slice_get on.outs c.output ≡ Some One → slice_get off.outs c.output ≡ Some Zero → meet on.cube off.cube ≡ true → IsClash t c
+rows_clash t c on off h k lt on_row off_row ones zeros meets =
+    let on_fits = row_at _ _ t.rows c.on_row on h.rows on_row in
+    let off_fits = row_at _ _ t.rows c.off_row off h.rows off_row in
     record {
       kind = k;
-      is_output = l.is_output;
-      on = l.on;
-      off = l.off;
-      on_row = l.on_row;
-      off_row = l.off_row;
-      one = one_there _ l.one;
-      zero = zero_there _ l.zero;
-      point = common l.on.cube l.off.cube;
-      is_point = common_is_point _ l.on.cube l.off.cube on.pos off.pos;
-      on_holds = left_holds l.on.cube l.off.cube on.is_product l.meet_is;
-      off_holds = right_holds l.on.cube l.off.cube off.is_product l.meet_is;
+      is_output = lt;
+      on = on;
+      off = off;
+      on_row = on_row;
+      off_row = off_row;
+      one = ones;
+      zero = zeros;
+      point = common on.cube off.cube;
+      is_point = common_is_point _ on.cube off.cube on_fits.pos off_fits.pos;
+      on_holds = left_holds on.cube off.cube on_fits.is_product meets;
+      off_holds = right_holds on.cube off.cube off_fits.is_product meets;
     }
+
+is_clash : (t : Table) (c : Clash) → IsCover t → zero_is_off t.kind ≡ true → IsLeast (length t.outputs) t.rows c → IsClash t c
+is_clash t c h k l = rows_clash t c l.on l.off h k l.is_output l.on_row l.off_row (one_there _ l.one) (zero_there _ l.zero) l.meet_is
 
 same_off : (t : Table) (c d : Clash) (l : IsLeast (length t.outputs) t.rows c) (h : IsClash t d) → d.output ≡ c.output → d.on_row ≡ c.on_row → off_answer t.rows d.output d.on_row h.on d.off_row ≡ off_answer t.rows c.output c.on_row l.on d.off_row
 same_off t c d l h o i =
@@ -274,17 +267,69 @@ none_before t c d l h before =
 pub found_is : (t : Table) (c : Clash) → IsCover t → first_clash t ≡ Some c → IsClash t c
 unfolding first_clash
 found_is t c h e =
-    let found = of_kind_found t.kind (least_clash (length t.outputs) t.rows) c e in
+    let found = cond_is (zero_is_off t.kind) (least_clash (length t.outputs) t.rows) c e in
     is_clash t c h found.0 (least (length t.outputs) t.rows c found.1)
 
 pub none_is_before : (t : Table) (c d : Clash) → first_clash t ≡ Some c → IsClash t d → IsBefore d c → ⊥
 unfolding first_clash
-none_is_before t c d e = none_before t c d (least (length t.outputs) t.rows c (of_kind_found t.kind (least_clash (length t.outputs) t.rows) c e).1)
+none_is_before t c d e = none_before t c d (least (length t.outputs) t.rows c (cond_is (zero_is_off t.kind) (least_clash (length t.outputs) t.rows) c e).1)
 
 pub none_is : (t : Table) (d : Clash) → first_clash t ≡ None → IsClash t d → ⊥
 unfolding first_clash
-none_is t d e h = not_least t d h (of_kind_none t.kind (least_clash (length t.outputs) t.rows) h.kind e)
+none_is t d e h = not_least t d h (rw h.kind at e)
 
 pub unmarked : (t : Table) → zero_is_off t.kind ≡ false → first_clash t ≡ None
 unfolding first_clash
-unmarked t h = of_kind_unmarked t.kind (least_clash (length t.outputs) t.rows) h
+unmarked t h = rw h refl
+
+-- ---- the test
+
+-- at an output of both rows the one has One and the other Zero
+marks_at : (on off : Row) (o : ℕ) → slice_get on.outs o ≡ Some One → slice_get off.outs o ≡ Some Zero → list_any (λ marks. is_one marks.0 && is_zero marks.1) (zip on.outs off.outs) ≡ true
+marks_at on off o ones zeros =
+    let pair : Mark × Mark = (One, Zero) in
+    let there : get_or (zip on.outs off.outs) o pair ≡ (get_or on.outs o One, get_or off.outs o Zero) = get_or-zip on.outs off.outs o pair (slice_get_within on.outs o One ones) (slice_get_within off.outs o Zero zeros) in
+    let same : get_or (zip on.outs off.outs) o pair ≡ pair = there ∙ ap₂ (λ (a b : Mark). let p : Mark × Mark = (a, b) in p) (get_or_from_slice_get on.outs o One One ones) (get_or_from_slice_get off.outs o Zero Zero zeros) in
+    let within : o < length (zip on.outs off.outs) = omega (arith, length-zip on.outs off.outs, slice_get_within on.outs o One ones, slice_get_within off.outs o Zero zeros) in
+    list_any_at (λ (marks : Mark × Mark). is_one marks.0 && is_zero marks.1) (zip on.outs off.outs) o pair within (ap (λ (marks : Mark × Mark). is_one marks.0 && is_zero marks.1) same)
+
+clash_is_seen : (t : Table) (c : Clash) → IsClash t c → has_clash t ≡ true
+unfolding has_clash
+clash_is_seen t c h =
+    let pair : disagree h.on h.off ≡ true = and_from _ _ (meets h.on.cube h.off.cube h.point h.on_holds h.off_holds) (marks_at h.on h.off c.output h.one h.zero) in
+    let off : list_any (disagree h.on) t.rows ≡ true =
+    list_any_at (disagree h.on) t.rows c.off_row h.off (slice_get_within t.rows c.off_row h.off h.off_row) (ap (disagree h.on) (get_or_from_slice_get t.rows c.off_row h.off h.off h.off_row) ∙ pair) in
+    let on : list_any (λ row. list_any (disagree row) t.rows) t.rows ≡ true =
+    list_any_at (λ row. list_any (disagree row) t.rows) t.rows c.on_row h.on (slice_get_within t.rows c.on_row h.on h.on_row) (ap (λ row. list_any (disagree row) t.rows) (get_or_from_slice_get t.rows c.on_row h.on h.on h.on_row) ∙ off) in
+    and_from _ _ h.kind on
+
+seen_is_clash : (t : Table) → IsCover t → has_clash t ≡ true → (c : Clash) × IsClash t c
+unfolding has_clash
+seen_is_clash t h e =
+    let parts = and_parts (zero_is_off t.kind) _ e in
+    let on = Any-from_list_any (λ row. list_any (disagree row) t.rows) t.rows parts.1 in
+    let off = Any-from_list_any (disagree on.1) t.rows on.4 in
+    let pair = and_parts (meet on.1.cube off.1.cube) _ off.4 in
+    let marks = Any-from_list_any (λ (marks : Mark × Mark). is_one marks.0 && is_zero marks.1) (zip on.1.outs off.1.outs) pair.1 in
+    let tests = and_parts (is_one marks.1.0) (is_zero marks.1.1) marks.4 in
+    let on_there : slice_get t.rows on.0 ≡ Some on.1 = slice_get_read t.rows (length t.rows) on.0 on.1 refl on.2 (sym on.3) in
+    let off_there : slice_get t.rows off.0 ≡ Some off.1 = slice_get_read t.rows (length t.rows) off.0 off.1 refl off.2 (sym off.3) in
+    let on_long = (row_at _ _ t.rows on.0 on.1 h.rows on_there).marks in
+    let off_long = (row_at _ _ t.rows off.0 off.1 h.rows off_there).marks in
+    let output : marks.0 < length t.outputs = omega (arith, marks.2, length-zip on.1.outs off.1.outs, on_long, off_long) in
+    let on_within : marks.0 < length on.1.outs = omega (arith, output, on_long) in
+    let off_within : marks.0 < length off.1.outs = omega (arith, output, off_long) in
+    let zipped = sym marks.3 ∙ get_or-zip on.1.outs off.1.outs marks.0 marks.1 on_within off_within in
+    let ones : slice_get on.1.outs marks.0 ≡ Some One = slice_get_read on.1.outs (length on.1.outs) marks.0 marks.1.0 refl on_within (ap (λ (p : Mark × Mark). p.0) zipped) ∙ one_there (Some marks.1.0) tests.0 in
+    let zeros : slice_get off.1.outs marks.0 ≡ Some Zero = slice_get_read off.1.outs (length off.1.outs) marks.0 marks.1.1 refl off_within (ap (λ (p : Mark × Mark). p.1) zipped) ∙ zero_there (Some marks.1.1) tests.1 in
+    let c : Clash = record { output = marks.0; on_row = on.0; off_row = off.0 } in
+    (c, rows_clash t c on.1 off.1 h parts.0 output on_there off_there ones zeros pair.0)
+
+by_cases : (t : Table) → IsCover t → (b : Bool) → has_clash t ≡ b → (o : Option Clash) → first_clash t ≡ o → has_clash t ≡ is_some o
+by_cases t h b e (Some c) f = clash_is_seen t c (found_is t c h f)
+by_cases t h true e None f = let seen = seen_is_clash t h e in absurd (none_is t seen.0 f seen.1)
+by_cases t h false e None f = e
+
+-- the test tells whether there is a first clash
+pub test_is : (t : Table) → IsCover t → has_clash t ≡ is_some (first_clash t)
+test_is t h = by_cases t h (has_clash t) refl (first_clash t) refl

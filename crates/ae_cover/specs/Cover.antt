@@ -11,7 +11,7 @@ use Rattle.ae_cover.specs.declared.cover.TheConstants.{PLA_ROWS}
 use Rattle.ae_cover.specs.declared.parts.Kind.{Kind}
 use Rattle.ae_cover.specs.declared.parts.Kind.TheVariants.{F, Fd, Fr, Fdr}
 use Rattle.ae_cover.specs.declared.parts.Mark.{Mark}
-use Rattle.ae_cover.specs.declared.parts.Mark.TheVariants.{One, Zero, Dash, Void}
+use Rattle.ae_cover.specs.declared.parts.Mark.TheVariants.{One, Zero, Dash}
 use Rattle.ae_cover.specs.declared.parts.Row.{Row}
 
 -- a cover's names of inputs and outputs, its kind and its rows
@@ -46,21 +46,15 @@ pub record IsCover (t : Table) : Type 0 where
 
 abbrev pub is_one : Mark → Bool
 is_one One = true
-is_one Zero = false
-is_one Dash = false
-is_one Void = false
+is_one _ = false
 
 abbrev pub is_zero : Mark → Bool
-is_zero One = false
 is_zero Zero = true
-is_zero Dash = false
-is_zero Void = false
+is_zero _ = false
 
 abbrev pub is_dash : Mark → Bool
-is_dash One = false
-is_dash Zero = false
 is_dash Dash = true
-is_dash Void = false
+is_dash _ = false
 
 -- the row has such a mark for output o
 abbrev pub has_mark : (Mark → Bool) → ℕ → Row → Bool

@@ -1,7 +1,8 @@
 //! The first clash.
 ghost use Rattle.std.specs.Prelude.{◌≡◌, ◌<◌, ◌≤◌, ◌^◌, length, All};
 ghost use Rattle.ae_base.specs.Cube.{Product};
-ghost use Rattle.ae_cover.specs.Clash as spec;
+ghost use Rattle.ae_cover.specs.Clash.{meet};
+ghost use Rattle.ae_cover.specs.FirstClash as spec;
 ghost use Rattle.ae_cover.specs.Cover.{is_one, is_zero};
 
 use crate::cover::{Cover, PLA_ROWS};
@@ -10,7 +11,7 @@ use ae_base::Cube;
 
 #[tactic(auto, unfolding(crate::specs::Clash::meet))]
 fn meet(c: Cube, d: Cube) -> bool
-    ensures { result ≡ spec.meet c d }
+    ensures { result ≡ meet c d }
 {
     c.pos.both(d.neg).len() == 0 && c.neg.both(d.pos).len() == 0
 }
@@ -100,7 +101,7 @@ fn least_clash(outputs: u32, rows: &[Row]) -> Option<Clash>
 
 impl Cover {
     /// The least clash, by output, then by the row with `One`, then by the row with `Zero`.
-    #[tactic(auto, unfolding(crate::specs::Clash::first_clash))]
+    #[tactic(auto, unfolding(crate::specs::FirstClash::first_clash))]
     pub fn first_clash(&self) -> Option<Clash>
         ensures { result ≡ spec.first_clash self.now }
     {

@@ -9,4 +9,3 @@ mod parts;
 pub use cover::{Cover, PLA_ROWS};
 pub use laws::clash_laws;
 pub use parts::{Clash, Kind, Mark, Row};
-

@@ -1,11 +1,13 @@
 -- The lines of a text in words.
-use Rattle.std.specs.Prelude.{◌≡◌, ℕ, suc, ◌<◌, ◌-◌, ◌==◌, Bool, true, not, ◌&&◌, if◌then◌else◌, List, [], ◌∷◌, ◌++◌, length, map, filter, slice_index, slice_range, All}
-use Rattle.std.specs.List.{list_all, onto_first, slice_split}
+use Rattle.std.specs.Prelude.{◌≡◌, ℕ, suc, ◌<◌, ◌-◌, ◌==◌, Bool, true, false, not, ◌&&◌, ◌||◌, if◌then◌else◌, List, [], ◌∷◌, ◌++◌, length, map, filter, take, slice_index, slice_range, All}
+use Rattle.std.specs.List.{list_all, before_first, suffix_len, onto_first, slice_split}
 use Rattle.ae_base.specs.Name.{is_allowed}
 use Rattle.ae_lex.specs.declared.text.Style.{Style}
+use Rattle.ae_lex.specs.declared.text.Style.TheVariants.{Pla, Blif}
 use Rattle.ae_lex.specs.declared.text.Span.{Span}
 use Rattle.ae_lex.specs.declared.text.Line.{Line}
-use Rattle.ae_lex.specs.Lines.{is_blank, joins_next, said}
+
+-- ---- physical lines and words
 
 -- each byte 10 ends a physical line, and bytes after the last byte 10 are one too
 abbrev pub physical_lines : List ℕ → List (List ℕ)
@@ -16,9 +18,37 @@ physical_lines (b ∷ bytes) = if b == 10 then [] ∷ physical_lines bytes else 
 unfoldable pub last_line : List ℕ → ℕ
 last_line bytes = length (physical_lines bytes)
 
+-- a space, a tab or a carriage return
+abbrev pub is_blank : ℕ → Bool
+is_blank b = b == 32 || b == 9 || b == 13
+
 -- the longest runs of bytes that are no blanks
 abbrev pub words : List ℕ → List (List ℕ)
 words text = filter (λ part. not (length part == 0)) (slice_split is_blank text)
+
+-- ---- comments and joined lines
+
+-- a line without its comment
+abbrev pub uncommented : List ℕ → List ℕ
+uncommented line = before_first (λ b. b == 35) line
+
+-- a text without the blanks at its end
+abbrev pub trimmed : List ℕ → List ℕ
+trimmed text = take (length text - suffix_len is_blank text) text
+
+-- the last byte is a backslash
+abbrev pub ends_open : List ℕ → Bool
+ends_open text = not (length text == 0) && slice_index text (length text - 1) == 92
+
+-- the next physical line joins this one
+abbrev pub joins_next : Style → List ℕ → Bool
+joins_next Pla line = false
+joins_next Blif line = ends_open (trimmed (uncommented line))
+
+-- the part of a line that says something
+abbrev pub said : Style → List ℕ → List ℕ
+said Pla line = uncommented line
+said Blif line = let text = trimmed (uncommented line) in if ends_open text then take (length text - 1) text else text
 
 -- the words of a line, with the number of its first physical line
 pub record WordLine : Type 0 where

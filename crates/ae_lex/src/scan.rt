@@ -1,7 +1,9 @@
 //! Cuts a text into lines and words.
 ghost use Rattle.std.specs.Prelude.{[], ◌≡◌, ◌+◌, ◌-◌, ◌<◌, ◌≤◌, ◌==◌, ◌^◌, ◌∷◌, ◌++◌, not, length, take, drop, All, IfOk, OnOk};
 ghost use Rattle.std.specs.List.{position_or_len};
-ghost use Rattle.ae_lex.specs.Lines as spec;
+ghost use Rattle.ae_lex.specs.Lines as spans;
+ghost use Rattle.ae_lex.specs.Scan.{front_word, lines_from, last_from};
+ghost use Rattle.ae_lex.specs.Words as spec;
 
 use crate::text::{Line, LineList, Span, Style};
 use ae_base::{Memory, Seq, TEXT_BYTES};
@@ -50,7 +52,7 @@ fn trimmed(text: &[u8]) -> &[u8]
 /// Adds the word of so many bytes, where there are any.
 fn push_word(words: &mut Vec<Span>, start: u32, len: u32) -> Result<(), Memory>
     requires { start + len < 2 ^ 32 }
-    ensures { OnOk result (words.new.items ≡ words.old.items ++ spec.front_word start len) }
+    ensures { OnOk result (words.new.items ≡ words.old.items ++ front_word start len) }
 {
     if len > 0 {
         words.push(Span {
@@ -64,7 +66,7 @@ fn push_word(words: &mut Vec<Span>, start: u32, len: u32) -> Result<(), Memory>
 /// Adds the words of a text that stands from `start` on.
 fn push_words(words: &mut Vec<Span>, start: u32, text: &[u8]) -> Result<(), Memory>
     requires { start + length text.now < 2 ^ 32 }
-    ensures { OnOk result (words.new.items ≡ words.old.items ++ spec.words_at start text.now) }
+    ensures { OnOk result (words.new.items ≡ words.old.items ++ spans.words_at start text.now) }
 {
     let mut at = 0;
     while at < text.len() {
@@ -122,9 +124,9 @@ fn read_line(
     requires within { place.at < length bytes.now }
     requires counted { place.number ≤ place.at + 1 }
     requires none { words.old.items ≡ [] }
-    ensures line { IfOk result (λ after. spec.lines_from style place bytes.now
-        ≡ record { number = place.number; words = words.new.items } ∷ spec.lines_from style after bytes.now) }
-    ensures last { IfOk result (λ after. spec.last_from after bytes.now ≡ spec.last_from place bytes.now) }
+    ensures line { IfOk result (λ after. lines_from style place bytes.now
+        ≡ record { number = place.number; words = words.new.items } ∷ lines_from style after bytes.now) }
+    ensures last { IfOk result (λ after. last_from after bytes.now ≡ last_from place bytes.now) }
     ensures further { IfOk result (λ after. (place.at < after.at) × (place.number < after.number) × (after.number ≤ after.at + 1)) }
 {
     let mut after = place;
@@ -150,8 +152,8 @@ fn read_line(
 /// A text has at most `TEXT_BYTES` bytes. `Memory` comes only for want of memory. What the lines are in words is said by `words_law`.
 pub fn lines(alloc: Global, bytes: &[u8], style: Style) -> Result<LineList, Memory>
     requires { length bytes.now ≤ TEXT_BYTES }
-    ensures lines { IfOk result (λ found. found ≡ spec.lines_of style bytes.now) }
-    ensures inside { IfOk result (λ found. All (λ line. All (spec.IsInside bytes.now) line.words) found.list) }
+    ensures lines { IfOk result (λ found. found ≡ spans.lines_of style bytes.now) }
+    ensures inside { IfOk result (λ found. All (λ line. All (spans.IsInside bytes.now) line.words) found.list) }
 {
     let mut list = Seq::new(alloc);
     let mut place = Place { at: 0, number: 1 };

@@ -9,12 +9,12 @@ use Rattle.blif_read.specs.declared.fault.NetLimits.{NetLimits}
 use Rattle.blif_read.specs.Words.{is_name_under}
 use Rattle.blif_read.specs.Statement.{Said, said, gate_name, pin_names, is_row}
 use Rattle.blif_read.specs.Statement.Said.{Model, Inputs, Outputs, Names, End, Unsupported, Unknown, Row}
-use Rattle.blif_read.specs.Earlier.{is_end, inputs_of, driven_of, Cover, with_row, cover_after, open_cover}
+use Rattle.blif_read.specs.Earlier.{is_end, inputs_of, driven_of, Cover, cover_after}
 use Rattle.blif_read.specs.Faults.{names_fault, line_fault, first_fault}
 use Rattle.blif_read.specs.Placing.{Unplaced, outs}
-use Rattle.blif_read.specs.Says.{onto_rows, rows_at, cover_of, covers}
+use Rattle.blif_read.specs.Says.{rows_at, cover_of, covers}
 use Rattle.blif_read.specs.Step.{says_of}
-use Rattle.blif_read.proofs.Steps.{open-append}
+use Rattle.blif_read.proofs.Steps.{open_cover, open-append}
 use Rattle.blif_read.proofs.Sound.{first_none, line_none, gate_words}
 
 -- a cover that makes a valid gate
@@ -34,11 +34,11 @@ row_fits limits done c r e h = elim (cases_Bool (list_any is_end done)) [
 
 -- the rows at the front, where the first line says this and the rows after it fit
 rows_at_fit : (limits : NetLimits) (done : List Said) (lines : List WordLine) (c : Cover) (ws : List (List ℕ)) (s : Said) → open_cover None done ≡ Some c → c.words ≡ ws → line_fault limits done s ≡ None → first_fault limits (done ++ s ∷ []) lines ≡ None
-    → ((next : List Said) (d : Cover) → open_cover None next ≡ Some d → d.words ≡ ws → first_fault limits next lines ≡ None → AllByRecursion (λ r. is_row (length ws - 1) r ≡ true) (rows_at lines))
-    → AllByRecursion (λ r. is_row (length ws - 1) r ≡ true) (onto_rows s (rows_at lines))
+    → ((next : List Said) (d : Cover) → open_cover None next ≡ Some d → d.words ≡ ws → first_fault limits next lines ≡ None → AllByRecursion (λ r. is_row (length ws - 1) r ≡ true) (rows_at (says_of lines)))
+    → AllByRecursion (λ r. is_row (length ws - 1) r ≡ true) (rows_at (s ∷ says_of lines))
 rows_at_fit limits done lines c ws (Row r) e w f g rest = (
   ap (λ (vs : List (List ℕ)). is_row (length vs - 1) r) (sym w) ∙ row_fits limits done c r e f,
-  rest (done ++ Row r ∷ []) (with_row r c) (open-append None done (Row r) ∙ ap (λ (o : Option Cover). cover_after o (Row r)) e) w g,
+  rest (done ++ Row r ∷ []) (record { words = c.words; rows = c.rows ++ r ∷ [] }) (open-append None done (Row r) ∙ ap (λ (o : Option Cover). cover_after o (Row r)) e) w g,
 )
 rows_at_fit limits done lines c ws (Model vs) e w f g rest = tt
 rows_at_fit limits done lines c ws (Inputs vs) e w f g rest = tt
@@ -49,7 +49,7 @@ rows_at_fit limits done lines c ws Unsupported e w f g rest = tt
 rows_at_fit limits done lines c ws Unknown e w f g rest = tt
 
 rows_fit : (limits : NetLimits) (lines : List WordLine) (ws : List (List ℕ)) (done : List Said) (c : Cover) → open_cover None done ≡ Some c → c.words ≡ ws → first_fault limits done lines ≡ None
-    → AllByRecursion (λ r. is_row (length ws - 1) r ≡ true) (rows_at lines)
+    → AllByRecursion (λ r. is_row (length ws - 1) r ≡ true) (rows_at (says_of lines))
 rows_fit limits [] ws done c e w h = tt
 rows_fit limits (line ∷ lines) ws done c e w h =
     let p = line_none limits done line lines h in
@@ -65,14 +65,14 @@ names_none limits done ws h = elim (cases_Bool (list_any is_end done)) [
 ]
 
 covers_at_fit : (limits : NetLimits) (done : List Said) (lines : List WordLine) (n : ℕ) (s : Said) → line_fault limits done s ≡ None → first_fault limits (done ++ s ∷ []) lines ≡ None → AllByRecursion (IsFit limits) (covers lines)
-    → AllByRecursion (IsFit limits) (cover_of n s (rows_at lines) ++ covers lines)
+    → AllByRecursion (IsFit limits) (cover_of n s (rows_at (says_of lines)) ++ covers lines)
 covers_at_fit limits done lines n (Names ws) f g rest =
     let fine = gate_words limits (inputs_of done) (driven_of done) ws (names_none limits done ws f) in
     let size : length (pin_names ws) ≡ length ws - 1 = length-take-le (length ws - 1) ws (omega arith) in (
       record {
         few = omega (arith, fine.few, size);
         out = fine.out;
-        rows = subst (λ (n : ℕ). AllByRecursion (λ r. is_row n r ≡ true) (rows_at lines)) (sym size)
+        rows = subst (λ (n : ℕ). AllByRecursion (λ r. is_row n r ≡ true) (rows_at (says_of lines))) (sym size)
             (rows_fit limits lines ws (done ++ Names ws ∷ []) (record { words = ws; rows = [] }) (open-append None done (Names ws)) refl g);
       },
       rest,
@@ -106,4 +106,4 @@ outs_at n (Row r) rows cs ss h = h
 pub outs_covers : (lines : List WordLine) → outs (covers lines) ≡ driven_of (says_of lines)
 unfolding covers
 outs_covers [] = refl
-outs_covers (line ∷ lines) = outs_at line.number (said line.words) (rows_at lines) (covers lines) (says_of lines) (outs_covers lines)
+outs_covers (line ∷ lines) = outs_at line.number (said line.words) (rows_at (says_of lines)) (covers lines) (says_of lines) (outs_covers lines)

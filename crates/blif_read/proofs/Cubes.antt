@@ -8,8 +8,9 @@ use Rattle.ae_base.proofs.Sets.{has-where_below}
 use Rattle.ae_lex.specs.Words.{WordLine}
 use Rattle.blif_read.specs.Statement.{Said, said}
 use Rattle.blif_read.specs.Statement.Said.{Model, Inputs, Outputs, Names, End, Unsupported, Unknown, Row}
-use Rattle.blif_read.specs.Says.{onto_rows, rows_at, row_cube}
-use Rattle.blif_read.specs.Build.{row_chars}
+use Rattle.blif_read.specs.Says.{rows_at, row_cube}
+use Rattle.blif_read.specs.Step.{says_of}
+use Rattle.blif_read.specs.Build.{row_chars, rows_of}
 use Rattle.blif_read.proofs.Reading.{rest_more}
 
 -- no pin has two characters
@@ -21,8 +22,8 @@ row_is_product k chars j h =
 
 -- ---- rows at the front
 
-onto_row : (s : Said) (r : List ℕ) (rows : List (List ℕ)) → row_chars s ≡ Some r → onto_rows s rows ≡ r ∷ rows
-onto_row (Row q) r rows h = (let e : q ≡ r = cc in ap (λ (x : List ℕ). x ∷ rows) e)
+onto_row : (s : Said) (r : List ℕ) (rest : List Said) → row_chars s ≡ Some r → rows_at (s ∷ rest) ≡ r ∷ rows_at rest
+onto_row (Row q) r rest h = (let e : q ≡ r = cc in ap (λ (x : List ℕ). x ∷ rows_at rest) e)
 onto_row (Model ws) r rows h = absurd cc
 onto_row (Inputs ws) r rows h = absurd cc
 onto_row (Outputs ws) r rows h = absurd cc
@@ -31,7 +32,7 @@ onto_row End r rows h = absurd cc
 onto_row Unsupported r rows h = absurd cc
 onto_row Unknown r rows h = absurd cc
 
-onto_none : (s : Said) (rows : List (List ℕ)) → row_chars s ≡ None → onto_rows s rows ≡ []
+onto_none : (s : Said) (rest : List Said) → row_chars s ≡ None → rows_at (s ∷ rest) ≡ []
 onto_none (Row q) rows h = absurd cc
 onto_none (Model ws) rows h = refl
 onto_none (Inputs ws) rows h = refl
@@ -42,12 +43,12 @@ onto_none Unsupported rows h = refl
 onto_none Unknown rows h = refl
 
 pub rows_more : (pins : ℕ) (all : List WordLine) (k : ℕ) (line : WordLine) (rows cubes : List Product) (r : List ℕ) → k < length all → get_or all k line ≡ line → row_chars (said line.words) ≡ Some r
-    → rows ++ map (row_cube pins) (rows_at (drop k all)) ≡ cubes → (rows ++ row_cube pins r ∷ []) ++ map (row_cube pins) (rows_at (drop (k + 1) all)) ≡ cubes
+    → rows ++ map (row_cube pins) (rows_of (drop k all)) ≡ cubes → (rows ++ row_cube pins r ∷ []) ++ map (row_cube pins) (rows_of (drop (k + 1) all)) ≡ cubes
 rows_more pins all k line rows cubes r lt e h t =
-    append_assoc rows (row_cube pins r ∷ []) (map (row_cube pins) (rows_at (drop (k + 1) all)))
-    ∙ ap (λ (rs : List (List ℕ)). rows ++ map (row_cube pins) rs) (sym (onto_row (said line.words) r (rows_at (drop (k + 1) all)) h) ∙ ap rows_at (sym (rest_more all k line lt e))) ∙ t
+    append_assoc rows (row_cube pins r ∷ []) (map (row_cube pins) (rows_of (drop (k + 1) all)))
+    ∙ ap (λ (rs : List (List ℕ)). rows ++ map (row_cube pins) rs) (sym (onto_row (said line.words) r (says_of (drop (k + 1) all)) h) ∙ ap rows_of (sym (rest_more all k line lt e))) ∙ t
 
 pub rows_stop : (pins : ℕ) (all : List WordLine) (k : ℕ) (line : WordLine) (rows cubes : List Product) → k < length all → get_or all k line ≡ line → row_chars (said line.words) ≡ None
-    → rows ++ map (row_cube pins) (rows_at (drop k all)) ≡ cubes → rows ≡ cubes
+    → rows ++ map (row_cube pins) (rows_of (drop k all)) ≡ cubes → rows ≡ cubes
 rows_stop pins all k line rows cubes lt e h t =
-    sym (append-nil rows) ∙ ap (λ (rs : List (List ℕ)). rows ++ map (row_cube pins) rs) (sym (onto_none (said line.words) (rows_at (drop (k + 1) all)) h) ∙ ap rows_at (sym (rest_more all k line lt e))) ∙ t
+    sym (append-nil rows) ∙ ap (λ (rs : List (List ℕ)). rows ++ map (row_cube pins) rs) (sym (onto_none (said line.words) (says_of (drop (k + 1) all)) h) ∙ ap rows_of (sym (rest_more all k line lt e))) ∙ t

@@ -10,9 +10,10 @@ use Rattle.blif_read.specs.declared.draft.Draft.{Draft}
 use Rattle.blif_read.specs.Statement.{Said, said, gate_name, pin_names}
 use Rattle.blif_read.specs.Statement.Said.{Model, Inputs, Outputs, Names, End, Unsupported, Unknown, Row}
 use Rattle.blif_read.specs.Placing.{Unplaced}
-use Rattle.blif_read.specs.Says.{rows_at, cover_of, covers, reads_unknown, first_line, place_of}
+use Rattle.ae_net.specs.Named.{place_of}
+use Rattle.blif_read.specs.Says.{cover_of, covers}
 use Rattle.blif_read.specs.Step.{IsFaultAt}
-use Rattle.blif_read.specs.Build.{line_at, drafted, drafts_of, undefined, undefined_if, cover_front, cover_at, draft_at, built, built_at}
+use Rattle.blif_read.specs.Build.{rows_of, line_at, drafted, drafts_of, undefined, undefined_if, cover_front, cover_at, draft_at, built, built_at, reads_unknown, first_line}
 
 -- ---- the first line that passes a test
 
@@ -100,9 +101,9 @@ pub record AreOf (known : List (List ℕ)) (all : List WordLine) (drafts : List 
   pub within : AllByRecursion (λ d. d.line < length all) drafts
 
 of_more : (known : List (List ℕ)) (all : List WordLine) (k : ℕ) (line : WordLine) (lines : List WordLine) (s : Said) → said line.words ≡ s → drop k all ≡ line ∷ lines → (ds : List Draft) (cs : List Unplaced) → AreOf known all ds cs
-    → AreOf known all (drafted known k s ++ ds) (cover_of line.number s (rows_at lines) ++ cs)
+    → AreOf known all (drafted known k s ++ ds) (cover_of line.number s (rows_of lines) ++ cs)
 of_more known all k line lines (Names ws) is e ds cs h =
-    let here : cover_at all k ≡ record { number = line.number; pins = pin_names ws; out = gate_name ws; rows = rows_at lines } = ap cover_front e ∙ rw is refl in
+    let here : cover_at all k ≡ record { number = line.number; pins = pin_names ws; out = gate_name ws; rows = rows_of lines } = ap cover_front e ∙ rw is refl in
     record {
       covers_are = ap₂ (λ (c : Unplaced) (rest : List Unplaced). c ∷ rest) here h.covers_are;
       pins_are = ap (λ (rest : List (List ℕ)). map (λ w. place_of w known) (pin_names ws) ∷ rest) h.pins_are;
@@ -141,13 +142,13 @@ line_number bytes lines drafts place draft line lt is in' =
 
 pub built_is : (bytes : List ℕ) (lines after : List Line) (names : List (List ℕ)) (drafts : List Draft) (n : ℕ) (ranks : List (Option ℕ)) (place : ℕ) (draft : Draft) (name signals : List ℕ) (inputs : ℕ)
     → place < length drafts → draft ≡ get_or drafts place draft → after ≡ drop (draft.line + 1) lines → name ≡ get_or names place [] → signals ≡ draft.pins → inputs ≡ n
-    → built (rows_at (map (cut_line bytes) after)) name signals inputs ranks ≡ built_at (map (cut_line bytes) lines) names drafts n ranks place
+    → built (rows_of (map (cut_line bytes) after)) name signals inputs ranks ≡ built_at (map (cut_line bytes) lines) names drafts n ranks place
 built_is bytes lines after names drafts n ranks place draft name signals inputs lt is a e f g =
     let cut = cut_line bytes in
     let at : draft ≡ draft_at drafts place = get_or_read drafts place draft lt is (record { line = 0; pins = [] }) in
-    ap (λ (ls : List Line). built (rows_at (map cut ls)) name signals inputs ranks) a
-    ∙ ap (λ (w : List ℕ). built (rows_at (map cut (drop (draft.line + 1) lines))) w signals inputs ranks) e
-    ∙ ap (λ (ss : List ℕ). built (rows_at (map cut (drop (draft.line + 1) lines))) (get_or names place []) ss inputs ranks) f
-    ∙ ap (λ m. built (rows_at (map cut (drop (draft.line + 1) lines))) (get_or names place []) draft.pins m ranks) g
-    ∙ ap (λ (ls : List WordLine). built (rows_at ls) (get_or names place []) draft.pins n ranks) (sym (drop-map cut (draft.line + 1) lines))
-    ∙ ap (λ (d : Draft). built (rows_at (drop (d.line + 1) (map cut lines))) (get_or names place []) d.pins n ranks) at
+    ap (λ (ls : List Line). built (rows_of (map cut ls)) name signals inputs ranks) a
+    ∙ ap (λ (w : List ℕ). built (rows_of (map cut (drop (draft.line + 1) lines))) w signals inputs ranks) e
+    ∙ ap (λ (ss : List ℕ). built (rows_of (map cut (drop (draft.line + 1) lines))) (get_or names place []) ss inputs ranks) f
+    ∙ ap (λ m. built (rows_of (map cut (drop (draft.line + 1) lines))) (get_or names place []) draft.pins m ranks) g
+    ∙ ap (λ (ls : List WordLine). built (rows_of ls) (get_or names place []) draft.pins n ranks) (sym (drop-map cut (draft.line + 1) lines))
+    ∙ ap (λ (d : Draft). built (rows_of (drop (d.line + 1) (map cut lines))) (get_or names place []) d.pins n ranks) at

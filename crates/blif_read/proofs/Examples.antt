@@ -9,7 +9,8 @@ use Rattle.blif_read.specs.declared.fault.BlifFault.TheVariants as fault
 use Rattle.blif_read.specs.Statement.{head_of}
 use Rattle.blif_read.specs.Faults.{line_fault, first_fault}
 use Rattle.blif_read.specs.Placing.{place, placed}
-use Rattle.blif_read.specs.Says.{blif_says, covers, net_of, lines_say}
+use Rattle.ae_net.specs.Named.{net_of}
+use Rattle.blif_read.specs.Says.{blif_says, covers, lines_say}
 
 waits_for_itself : blif_says Source (codes ".model m\n.inputs a\n.outputs f\n.names a g f\n11 1\n.names f g\n1 1\n.end\n") ≡ Err (4, fault.Cycle)
 unfolding blif_says word_lines last_line line_fault first_fault head_of place placed covers net_of lines_say has with empty

@@ -9,8 +9,9 @@ use Rattle.blif_read.specs.Statement.{Said, said, pin_names}
 use Rattle.blif_read.specs.Statement.Said.{Model, Inputs, Outputs, Names, End, Unsupported, Unknown, Row}
 use Rattle.blif_read.specs.Earlier.{outputs_of, output_words}
 use Rattle.blif_read.specs.Placing.{Unplaced}
-use Rattle.blif_read.specs.Says.{rows_at, cover_of, covers, some_unknown, reads_unknown, shows_unknown, first_line}
+use Rattle.blif_read.specs.Says.{cover_of, covers, some_unknown}
 use Rattle.blif_read.specs.Step.{says_of}
+use Rattle.blif_read.specs.Build.{rows_of, shows_unknown, reads_unknown, first_line}
 use Rattle.blif_read.proofs.Link.{AreKnown}
 use Rattle.blif_read.proofs.Sound.{first_none}
 
@@ -36,7 +37,7 @@ unfolding covers
 reads_known known [] h = tt
 reads_known known (line ∷ lines) h =
     let p = first_none (reads_unknown known (said line.words)) line.number (first_line (reads_unknown known) lines) h in
-    reads_at known line.number (said line.words) (rows_at lines) (covers lines) p.0 (reads_known known lines p.1)
+    reads_at known line.number (said line.words) (rows_of lines) (covers lines) p.0 (reads_known known lines p.1)
 
 shows_at : (known : List (List ℕ)) (s : Said) (vs : List (List ℕ)) → shows_unknown known s ≡ false → AllByRecursion (λ w. is_among w known ≡ true) vs → AllByRecursion (λ w. is_among w known ≡ true) (output_words s ++ vs)
 shows_at known (Outputs ws) vs h rest = each-append (λ w. is_among w known ≡ true) ws vs (all_known known ws h) rest

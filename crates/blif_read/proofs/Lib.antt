@@ -1,4 +1,5 @@
 pub mod Examples
+pub mod Undefined
 pub mod WrittenLines
 pub mod WrittenNames
 pub mod WrittenPlacing
@@ -17,5 +18,8 @@ pub mod Link
 pub mod Known
 pub mod Placed
 pub mod Ordered
+pub mod Nets
 pub mod Network
+pub mod Models
 pub mod Whole
+pub mod Said

@@ -11,7 +11,7 @@ use Rattle.ae_net.specs.Valid.{IsDistinct}
 use Rattle.blif_read.specs.Words.{is_among}
 use Rattle.blif_read.specs.Placing as names
 use Rattle.blif_read.specs.Placing.{Unplaced, outs}
-use Rattle.blif_read.specs.Says.{place_of}
+use Rattle.ae_net.specs.Named.{place_of}
 use Rattle.blif_read.specs.Build.{gates_among}
 use Rattle.blif_read.proofs.Drafts.{pins_by}
 use Rattle.blif_read.proofs.Tables.{place_of-append}
@@ -112,8 +112,8 @@ go_same inputs cs placed i apart below known lt =
     let now = outs (map (gate_at cs) placed) in
     let c = gate_at cs i in
     let waits : get_or (needs_of inputs cs) i [] ≡ gates_of inputs (outs cs) c.pins = get_or-map (λ (u : Unplaced). gates_of inputs (outs cs) u.pins) cs i blank [] lt in
-    ap (λ (w : List ℕ). not (is_among w now) && names.is_ready (inputs ++ now) c) (out_at cs i lt)
-    ∙ ap (λ (b : Bool). not b && names.is_ready (inputs ++ now) c) (among_placed cs placed i apart below lt)
+    ap (λ (w : List ℕ). not (is_among w now) && list_all (λ pin. is_among pin (inputs ++ now)) c.pins) (out_at cs i lt)
+    ∙ ap (λ (b : Bool). not b && list_all (λ pin. is_among pin (inputs ++ now)) c.pins) (among_placed cs placed i apart below lt)
     ∙ ap (λ (b : Bool). not (order.is_placed placed i) && b) (ready_same inputs cs placed c.pins apart below (known_at (inputs ++ outs cs) cs i known lt) ∙ ap (list_all (order.is_placed placed)) (sym waits))
 
 next_same : (inputs : List (List ℕ)) (cs : List Unplaced) (placed : List ℕ) → IsDistinct (outs cs) → AllBelow (length cs) placed → AreKnown (inputs ++ outs cs) cs

@@ -15,7 +15,9 @@ use Rattle.blif_read.specs.declared.fault.NetLimits.{NetLimits}
 use Rattle.blif_read.specs.declared.fault.NetLimits.TheVariants.{Source, Written}
 use Rattle.blif_read.specs.Words.{most_lines, is_name_under, is_among}
 use Rattle.blif_read.specs.Placing.{Unplaced, outs}
-use Rattle.blif_read.specs.Says.{place_of, row_cube, is_on, gate_of, net_of}
+use Rattle.ae_net.specs.Named.{place_of}
+use Rattle.blif_read.specs.Says.{row_cube, is_on}
+use Rattle.blif_read.proofs.Nets.{gate_in, net_in}
 use Rattle.blif_read.specs.Build.{rank_in}
 use Rattle.blif_read.proofs.Cubes.{row_is_product}
 use Rattle.blif_read.proofs.Sound.{IsSound, apart_at}
@@ -66,9 +68,9 @@ few_lines : (limits : NetLimits) → most_lines limits ≤ NET_LINES
 few_lines Source = omega arith
 few_lines Written = omega arith
 
-pub named : (limits : NetLimits) (w : List ℕ) → is_name_under limits w ≡ true → is_name w ≡ true
-named Source w h = (and_parts _ _ h).0
-named Written w h = h
+pub name_under : (limits : NetLimits) (w : List ℕ) → is_name_under limits w ≡ true → is_name w ≡ true
+name_under Source w h = (and_parts _ _ h).0
+name_under Written w h = h
 
 fit_at : (limits : NetLimits) (cs : List Unplaced) (g : ℕ) → AllByRecursion (IsFit limits) cs → g < length cs → IsFit limits (gate_at cs g)
 fit_at limits cs g h lt = All-from_recursion (IsFit limits) cs h g blank lt
@@ -81,7 +83,7 @@ outs_ordered : (cs : List Unplaced) (order : List ℕ) → outs (in_order cs ord
 outs_ordered cs [] = refl
 outs_ordered cs (g ∷ order) = ap (λ (ws : List (List ℕ)). (gate_at cs g).out ∷ ws) (outs_ordered cs order)
 
-out_of_gates : (names : List (List ℕ)) (cs : List Unplaced) → map (λ gate. gate.out) (map (gate_of names) cs) ≡ outs cs
+pub out_of_gates : (names : List (List ℕ)) (cs : List Unplaced) → map (λ gate. gate.out) (map (gate_in names) cs) ≡ outs cs
 out_of_gates names [] = refl
 out_of_gates names (c ∷ cs) = ap (λ (ws : List (List ℕ)). c.out ∷ ws) (out_of_gates names cs)
 
@@ -121,13 +123,14 @@ both_distinct xs ys hx hy new = λ a b d lt in'.
       ]
     ]
 
-ordered_new : (i : List (List ℕ)) (cs : List Unplaced) (order : List ℕ) → AllBelow (length cs) order → All (λ w. is_among w i ≡ false) (outs cs) → All (λ w. is_among w i ≡ false) (outs (in_order cs order))
-ordered_new i cs order below new = λ k d lt.
+-- what holds of each name holds of each in order
+pub ordered_each : (Q : List ℕ → Type 0) (cs : List Unplaced) (order : List ℕ) → AllBelow (length cs) order → All Q (outs cs) → All Q (outs (in_order cs order))
+ordered_each Q cs order below each = λ k d lt.
     let size = size_ordered cs order in
     let total : length (outs cs) ≡ length cs = length-map cs (λ (c : Unplaced). c.out) in
     let in-k : k < length order = omega arith in
     let g = below_at (length cs) order k below in-k in
-    ap (λ (w : List ℕ). is_among w i) (ordered_at cs order k d in-k ∙ out_at cs (get_or order k 0) g) ∙ new (get_or order k 0) [] (omega (arith, g))
+    subst Q (sym (ordered_at cs order k d in-k ∙ out_at cs (get_or order k 0) g)) (each (get_or order k 0) [] (omega (arith, g)))
 
 -- ---- the place of a name in the network
 
@@ -159,7 +162,7 @@ pins_earlier i cs order k (pin ∷ pins) apart below known h = elim (cases_Bool 
 -- ---- gates
 
 gate_valid : (limits : NetLimits) (i o : List (List ℕ)) (cs : List Unplaced) (order : List ℕ) (ranks : List (Option ℕ)) → IsPlaced limits i o cs order ranks → (k : ℕ) → k < length order
-    → IsGate (length i + k) (gate_of (i ++ outs (in_order cs order)) (gate_at cs (get_or order k 0)))
+    → IsGate (length i + k) (gate_in (i ++ outs (in_order cs order)) (gate_at cs (get_or order k 0)))
 gate_valid limits i o cs order ranks h k lt =
     let g = get_or order k 0 in
     let c = gate_at cs g in
@@ -170,7 +173,7 @@ gate_valid limits i o cs order ranks h k lt =
     let size : length (map (λ pin. place_of pin (i ++ outs (in_order cs order))) c.pins) ≡ length c.pins = length-map c.pins (λ pin. place_of pin (i ++ outs (in_order cs order))) in
     record {
       earlier = All-from_recursion (λ s. s < length i + k) _ pins;
-      named = named limits c.out fit.out;
+      named = name_under limits c.out fit.out;
       few_pins = omega (arith, fit.few, size);
       rows = All-from_recursion (IsRowOf (length (map (λ pin. place_of pin (i ++ outs (in_order cs order))) c.pins))) (map (row_cube (length c.pins)) c.rows) (subst (λ n. AllByRecursion (IsRowOf n) (map (row_cube (length c.pins)) c.rows)) (sym size) (rows_of_pins (length c.pins) c.rows));
       off_row = λ off. omega (arith, some_row c.rows off, length-map c.rows (row_cube (length c.pins)));
@@ -181,9 +184,9 @@ get_map f [] k d y h = absurd cc
 get_map f (x ∷ xs) zero d y h = (let e : f x ≡ y = cc in (omega arith, sym e))
 get_map f (x ∷ xs) (suc k) d y h = (let r = get_map f xs k d y h in (omega (arith, r.0), r.1))
 
-pub gates_ordered : (names : List (List ℕ)) (cs : List Unplaced) (order : List ℕ) → map (gate_of names) (in_order cs order) ≡ map (λ g. gate_of names (gate_at cs g)) order
+pub gates_ordered : (names : List (List ℕ)) (cs : List Unplaced) (order : List ℕ) → map (gate_in names) (in_order cs order) ≡ map (λ g. gate_in names (gate_at cs g)) order
 gates_ordered names cs [] = refl
-gates_ordered names cs (g ∷ order) = ap (λ (gs : List Gate). gate_of names (gate_at cs g) ∷ gs) (gates_ordered names cs order)
+gates_ordered names cs (g ∷ order) = ap (λ (gs : List Gate). gate_in names (gate_at cs g) ∷ gs) (gates_ordered names cs order)
 
 -- ---- ports
 
@@ -205,27 +208,26 @@ shown_at known (w ∷ o) (suc k) d h lt = shown_at known o k d h.1 (omega arith)
 -- ---- the network
 
 pub is_valid : (limits : NetLimits) (model : List ℕ) (i o : List (List ℕ)) (cs : List Unplaced) (order : List ℕ) (ranks : List (Option ℕ)) → is_name model ≡ true → IsPlaced limits i o cs order ranks
-    → IsValid (net_of model i o (in_order cs order))
-unfolding net_of
+    → IsValid (net_in model i o (in_order cs order))
 is_valid limits model i o cs order ranks m h =
     let names = i ++ outs (in_order cs order) in
     let port : List ℕ → ℕ = λ w. place_of w names in
     let few = few_lines limits in
     let total : length (outs cs) ≡ length cs = length-map cs (λ (c : Unplaced). c.out) in
     let gates = gates_ordered names cs order in
-    let size : length (map (gate_of names) (in_order cs order)) ≡ length order = ap length gates ∙ length-map order (λ g. gate_of names (gate_at cs g)) in
+    let size : length (map (gate_in names) (in_order cs order)) ≡ length order = ap length gates ∙ length-map order (λ g. gate_in names (gate_at cs g)) in
     let ports : length (map port o) ≡ length o = length-map o port in
     let port_of = λ (k : ℕ) (lt : k < length o). port_at limits i o cs order ranks h (get_or o k []) (shown_at (i ++ outs cs) o k [] h.shown lt) (h.sound.outputs_new k [] lt) in
     record {
       model_named = m;
-      inputs_named = All-weaker (λ w. is_name_under limits w ≡ true) (λ w. is_name w ≡ true) (named limits) i h.sound.inputs_named;
+      inputs_named = All-weaker (λ w. is_name_under limits w ≡ true) (λ w. is_name w ≡ true) (name_under limits) i h.sound.inputs_named;
       some_input = h.some_input;
       few_inputs = omega (arith, h.sound.few_inputs, few);
       names = subst (λ (ws : List (List ℕ)). IsDistinct (i ++ ws)) (sym (out_of_gates names (in_order cs order)))
-          (both_distinct i (outs (in_order cs order)) h.sound.inputs_apart (outs_distinct cs order h.sound.driven_apart h.ranked.below h.ordered.distinct) (ordered_new i cs order h.ranked.below h.sound.driven_new));
+          (both_distinct i (outs (in_order cs order)) h.sound.inputs_apart (outs_distinct cs order h.sound.driven_apart h.ranked.below h.ordered.distinct) (ordered_each (λ w. is_among w i ≡ false) cs order h.ranked.below h.sound.driven_new));
       few_gates = omega (arith, size, h.ranked.short, h.sound.few_gates, total);
       gates = λ k gate at.
-          let got = get_map (λ g. gate_of names (gate_at cs g)) order k 0 gate (sym (ap (λ (gs : List Gate). slice_get gs k) gates) ∙ at) in
+          let got = get_map (λ g. gate_in names (gate_at cs g)) order k 0 gate (sym (ap (λ (gs : List Gate). slice_get gs k) gates) ∙ at) in
           subst (IsGate (length i + k)) (sym got.1) (gate_valid limits i o cs order ranks h k got.0);
       some_output = omega (arith, ports, h.some_output);
       few_outputs = omega (arith, ports, h.sound.few_outputs, few);

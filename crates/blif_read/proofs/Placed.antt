@@ -9,7 +9,7 @@ use Rattle.std.proofs.lemmas.List.Folds.{find_at, list_any-append, list_any_at}
 use Rattle.ae_net.specs.Valid.{IsDistinct}
 use Rattle.blif_read.specs.Words.{is_among}
 use Rattle.blif_read.specs.Placing.{Unplaced, outs}
-use Rattle.blif_read.specs.Says.{place_of}
+use Rattle.ae_net.specs.Named.{place_of}
 use Rattle.blif_read.specs.Build.{rank_in, renumbered, IsRankBelow}
 use Rattle.blif_read.proofs.Ranks.{any_within}
 use Rattle.blif_read.proofs.Tables.{place_of-append}

@@ -7,7 +7,7 @@ use Rattle.std.proofs.lemmas.Slice.Eq.{bytes_eq-Decides}
 use Rattle.ae_net.specs.Valid.{IsDistinct}
 use Rattle.ae_net.proofs.Distinct.{each-append}
 use Rattle.blif_read.specs.Words.{is_among}
-use Rattle.blif_read.specs.Says.{place_of}
+use Rattle.ae_net.specs.Named.{place_of}
 use Rattle.blif_read.proofs.WrittenNames.{bytes_apart, bytes_same, names_apart}
 
 -- a name that is one of the list is the one at its place

@@ -1,24 +1,39 @@
 -- What lines say with one more line.
-use Rattle.std.proofs.Common.{◌≡◌, ℕ, ◌-◌, Bool, true, false, not, ◌||◌, List, [], ◌∷◌, ◌++◌, length, Option, Some, None, refl, sym, ap, ◌∙◌, append-nil}
+use Rattle.std.proofs.Common.{◌≡◌, ℕ, ◌-◌, Bool, true, false, not, ◌||◌, ◌&&◌, eqb, ltb, List, [], ◌∷◌, ◌++◌, length, get_or, Option, arith, Some, None, refl, sym, ap, ◌∙◌, append-nil}
 use Rattle.std.specs.Prelude.{slice_get, option_map}
-use Rattle.std.specs.List.{list_any, flat_map}
+use Rattle.std.specs.List.{list_any, list_all, flat_map, fold}
+use Rattle.std.proofs.lemmas.Bool.{eq-eqb, lt-ltb}
 use Rattle.std.proofs.lemmas.List.Concat.{flat_map-append}
 use Rattle.std.proofs.lemmas.List.Folds.{list_any-append}
 use Rattle.ae_base.proofs.Truth.{or-false}
 use Rattle.ae_lex.specs.First.{first_of}
 use Rattle.blif_read.specs.declared.fault.NetLimits.{NetLimits}
 use Rattle.blif_read.specs.declared.fault.BlifFault.TheVariants as fault
+use Rattle.blif_read.specs.Words.{is_name_under}
 use Rattle.blif_read.specs.Statement.{Said, row_end, is_row}
 use Rattle.blif_read.specs.Statement.Said.{Model, Inputs, Outputs, Names, End, Unsupported, Unknown, Row}
-use Rattle.blif_read.specs.Earlier.{inputs_of, outputs_of, driven_of, input_words, output_words, driven_words, model_words, is_model, is_end, Cover, cover_after, open_cover}
-use Rattle.blif_read.specs.Faults.{row_fault, mixes, line_fault, fault_before_end}
+use Rattle.blif_read.specs.Earlier.{inputs_of, outputs_of, driven_of, input_words, output_words, driven_words, model_words, is_model, is_end, Cover, cover_after}
+use Rattle.blif_read.specs.Faults.{row_fault, line_fault, fault_before_end}
 use Rattle.blif_read.specs.declared.seen.Seen.{Seen}
-use Rattle.blif_read.specs.Step.{summary, seen_by, ends_otherwise, row_fault_in, fault_in, line_fault_in, with_line}
+use Rattle.blif_read.specs.Step.{summary, seen_by, ends_otherwise, is_model_name, row_fault_in, fault_in, line_fault_in, with_line}
+
+-- the cover that a row after these lines belongs to, where this one was open before them
+abbrev pub open_cover : Option Cover → List Said → Option Cover
+open_cover c lines = fold cover_after c lines
 
 -- ---- the fault of a line
 
-mixes_same : (rows : List (List ℕ)) (r : List ℕ) → mixes rows r ≡ ends_otherwise (option_map row_end (slice_get rows 0)) r
-mixes_same [] r = refl
+pub model_same : (limits : NetLimits) (ws : List (List ℕ)) → (ltb 1 (length ws) || not (list_all (is_name_under limits) ws)) ≡ not (is_model_name limits ws)
+model_same limits [] = refl
+model_same limits (w ∷ []) = pick (is_name_under limits w)
+  where
+    pick : (b : Bool) → (ltb 1 1 || not (b && true)) ≡ not b
+    pick true = refl
+    pick false = refl
+model_same limits (w ∷ v ∷ ws) = rw (lt-ltb 1 (length (w ∷ v ∷ ws)) (omega arith)) refl
+
+mixes_same : (rows : List (List ℕ)) (r : List ℕ) → not (eqb (row_end (get_or rows 0 r)) (row_end r)) ≡ ends_otherwise (option_map row_end (slice_get rows 0)) r
+mixes_same [] r = ap not (eq-eqb (row_end r) (row_end r) refl)
 mixes_same (q ∷ rows) r = refl
 
 row_fault_same : (c : Option Cover) (r : List ℕ) → row_fault c r ≡ row_fault_in (option_map summary c) r
@@ -27,7 +42,7 @@ row_fault_same (Some c) r = ap (λ (b : Bool). first_of ((not (is_row (length c.
 
 fault_same_before_end : (limits : NetLimits) (lines : List Said) (s : Said) → fault_before_end limits lines s ≡ fault_in limits (seen_by lines) s
 unfolding seen_by
-fault_same_before_end limits lines (Model ws) = refl
+fault_same_before_end limits lines (Model ws) = ap (λ (b : Bool). first_of ((list_any is_model lines, fault.TwoModels) ∷ (b, fault.BadName) ∷ [])) (model_same limits ws)
 fault_same_before_end limits lines (Inputs ws) = refl
 fault_same_before_end limits lines (Outputs ws) = refl
 fault_same_before_end limits lines (Names ws) = refl

@@ -8,7 +8,7 @@ use Rattle.blif_read.proofs.Ranks.{any_within}
 use Rattle.blif_read.proofs.WrittenNames.{bytes_apart}
 use Rattle.blif_read.specs.Words.{is_among}
 use Rattle.blif_read.specs.Build.{signal_in}
-use Rattle.blif_read.specs.Says.{place_of}
+use Rattle.ae_net.specs.Named.{place_of}
 use Rattle.blif_read.specs.Statement.{unsupported}
 
 pub place_within : (w : List ℕ) (ws : List (List ℕ)) → ltb (place_of w ws) (length ws) ≡ is_among w ws

@@ -1,8 +1,8 @@
 -- The network of a whole text.
-use Rattle.std.proofs.Common.{◌≡◌, ℕ, ◌+◌, ◌<◌, ◌≤◌, ◌^◌, Bool, true, not, cond, eqb, ◌||◌, Option, Some, None, Result, Ok, Err, List, [], ◌∷◌, ◌++◌, length, map, get_or, drop, All, refl, sym, ap, ap₂, subst, ◌∙◌, arith, inl, inr, length-append}
+use Rattle.std.proofs.Common.{◌≡◌, ℕ, ◌+◌, ◌<◌, ◌≤◌, ◌^◌, Bool, true, cond, eqb, ◌||◌, Option, Some, None, Result, Ok, Err, List, [], ◌∷◌, ◌++◌, length, map, get_or, drop, All, refl, sym, ap, ap₂, subst, ◌∙◌, arith, inl, inr, length-append}
 use Rattle.std.specs.Prelude.{bytes_eq, position, is_none, unwrap_or, slice_get, slice_index_or, codes}
-use Rattle.std.specs.List.{find, flat_map, AllByRecursion}
-use Rattle.std.specs.Option.{option_or}
+use Rattle.std.specs.List.{flat_map, AllByRecursion}
+use Rattle.std.specs.Option.{option_or, option_map}
 use Rattle.std.proofs.lemmas.Bool.{cases_Bool, cond-true, cond-false, eq-eqb, ne_eqb}
 use Rattle.std.proofs.lemmas.List.{length-map, get_or-map, drop_more}
 use Rattle.std.proofs.lemmas.List.Folds.{list_any-append}
@@ -24,24 +24,26 @@ use Rattle.blif_read.specs.declared.seen.Seen.{Seen}
 use Rattle.blif_read.specs.Words.{most_lines, is_name_under, is_among}
 use Rattle.blif_read.specs.Statement.{Said}
 use Rattle.blif_read.specs.Earlier.{inputs_of, outputs_of, driven_of, model_words}
-use Rattle.blif_read.specs.Placing as names
-use Rattle.blif_read.specs.Placing.{Unplaced, outs, placed, unless_left}
-use Rattle.blif_read.specs.Says.{rows_at, covers, place_of, row_cube, is_on, gate_of, net_of, model_of, net_or_cycle, net_or_undefined, lines_say, blif_says, unless_faulty, reads_unknown, shows_unknown, first_line}
+use Rattle.blif_read.specs.Placing.{Unplaced, outs, placed}
+use Rattle.ae_net.specs.Named.{net_of, place_of}
+use Rattle.blif_read.specs.Says.{covers, row_cube, is_on, named, model_of, lines_say, blif_says, unless_faulty}
+use Rattle.blif_read.proofs.Nets.{gate_in, net_in, net_named}
 use Rattle.blif_read.specs.Faults.{first_fault}
 use Rattle.blif_read.specs.Gives.{Gives}
 use Rattle.blif_read.specs.declared.fault.BlifErr.{BlifErr}
 use Rattle.blif_read.specs.declared.fault.BlifErr.TheVariants as errors
 use Rattle.blif_read.specs.Step.{seen_by, says_of, IsFaultAt}
-use Rattle.blif_read.specs.Build.{AreSignals, AreFaultless, AreDrafted, AreBuildable, IsPlan, gates_among, renumbered, built, built_at, draft_at, cover_at, cover_front, port_of, drawn, placed_net, undefined}
+use Rattle.blif_read.specs.Build.{rows_of, AreSignals, AreFaultless, AreDrafted, AreBuildable, IsPlan, gates_among, renumbered, built, built_at, draft_at, cover_at, cover_front, port_of, drawn, net_or_cycle, placed_net, undefined, shows_unknown, reads_unknown, first_line}
 use Rattle.blif_read.proofs.Sound.{IsSound, SeenIsSound, sound_all}
 use Rattle.blif_read.proofs.Covers.{IsFit, covers_fit, outs_covers}
 use Rattle.blif_read.proofs.Drafts.{AreOf, drafts_are, pins_by, cover_by}
+use Rattle.blif_read.proofs.Undefined.{unknown_same}
 use Rattle.blif_read.proofs.Known.{reads_known, shows_known}
 use Rattle.blif_read.proofs.Places.{place_bound, AllBelow}
 use Rattle.blif_read.proofs.Link.{gate_at, blank, out_at, AreKnown, known_at, gates_of, needs_of, needs_same, one_order}
-use Rattle.blif_read.proofs.Placed.{order_below, order_short, AreRanks, ranks_below, left, one_left, none_left, renumber_same}
+use Rattle.blif_read.proofs.Placed.{order_below, order_short, AreRanks, ranks_below, one_left, none_left, renumber_same}
 use Rattle.blif_read.proofs.Ordered.{IsOrder, order_of_is}
-use Rattle.blif_read.proofs.Network.{IsPlaced, in_order, named, is_valid, gates_ordered}
+use Rattle.blif_read.proofs.Network.{IsPlaced, in_order, name_under, is_valid, gates_ordered}
 use Rattle.blif_place.specs.Order as by_place
 
 -- ---- lists
@@ -117,7 +119,7 @@ few_lines Written = omega arith
 pub signals_are : (lines : List WordLine) (seen : Seen) → AreFaultless lines seen → AreSignals (seen.inputs ++ seen.driven)
 signals_are lines seen f =
     let s = sound_is lines seen f in
-    let is : (w : List ℕ) → is_name_under f.limits w ≡ true → is_name w ≡ true = named f.limits in
+    let is : (w : List ℕ) → is_name_under f.limits w ≡ true → is_name w ≡ true = name_under f.limits in
     record {
       named = All-append (λ w. is_name w ≡ true) seen.inputs seen.driven (All-weaker (λ w. is_name_under f.limits w ≡ true) (λ w. is_name w ≡ true) is seen.inputs s.inputs_named) (All-weaker (λ w. is_name_under f.limits w ≡ true) (λ w. is_name w ≡ true) is seen.driven s.driven_named);
       few = omega (arith, length-append seen.inputs seen.driven, s.few_inputs, s.few_gates, few_lines f.limits);
@@ -244,13 +246,12 @@ buildable_are lines seen drafts order ranks h p =
 -- ---- where one is left
 
 lines_placed : (lines : List WordLine) (seen : Seen) (drafts : List Draft) (order : List ℕ) (ranks : List (Option ℕ)) → AreDrafted lines seen drafts → IsPlan (length seen.inputs) drafts order ranks
-    → placed seen.inputs (covers lines) ≡ unless_left (find (left (covers lines) order) (covers lines)) (in_order (covers lines) order)
+    → placed seen.inputs (covers lines) ≡ in_order (covers lines) order
 unfolding placed
 lines_placed lines seen drafts order ranks h p =
     let cs = covers lines in
     let apart = subst (λ (ws : List (List ℕ)). IsDistinct ws) (sym (outs_are lines seen h.faultless)) (sound_is lines seen h.faultless).driven_apart in
-    let same : names.place seen.inputs cs (length cs) [] ≡ in_order cs order = one_order seen.inputs cs apart (known_are lines seen drafts h) ∙ ap (in_order cs) (sym (order_needs lines seen drafts order ranks h p)) in
-    ap (λ (os : List Unplaced). unless_left (find (λ c. not (is_among c.out (outs os))) cs) os) same
+    one_order seen.inputs cs apart (known_are lines seen drafts h) ∙ ap (in_order cs) (sym (order_needs lines seen drafts order ranks h p))
 
 pub cycle_said : (lines : List WordLine) (seen : Seen) (drafts : List Draft) (order : List ℕ) (ranks : List (Option ℕ)) (g : ℕ) → AreDrafted lines seen drafts → IsPlan (length seen.inputs) drafts order ranks → position (λ o. is_none o) ranks ≡ Some g
     → (g < length drafts) × (placed_net lines seen ≡ Err ((cover_at lines (draft_at drafts g).line).number, fault.Cycle))
@@ -262,8 +263,12 @@ cycle_said lines seen drafts order ranks g h p e =
     let lt : g < length drafts = omega (arith, one.0, sizes.0) in
     let there : gate_at cs g ≡ cover_at lines (draft_at drafts g).line =
     ap (λ (us : List Unplaced). get_or us g blank) (sym (of_is lines seen drafts h).covers_are) ∙ get_or-map (cover_by lines) drafts g (record { line = 0; pins = [] }) blank lt in
-    let all : placed seen.inputs cs ≡ Err (gate_at cs g).number = lines_placed lines seen drafts order ranks h p ∙ ap (λ (o : Option Unplaced). unless_left o (in_order cs order)) one.1 in
-    (lt, ap (net_or_cycle (model_of (says_of lines)) seen.inputs seen.outputs) (all ∙ ap (λ (c : Unplaced). Err c.number) there))
+    let model = model_of (says_of lines) in (
+      lt,
+      ap (net_or_cycle model seen.inputs seen.outputs cs) (lines_placed lines seen drafts order ranks h p)
+          ∙ ap (λ (o : Option Unplaced). unless_faulty (option_map (λ (c : Unplaced). (c.number, fault.Cycle)) o) (Ok (net_of model seen.inputs seen.outputs (map named (in_order cs order))))) one.1
+          ∙ ap (λ (c : Unplaced). Err (c.number, fault.Cycle)) there,
+    )
 
 -- ---- where all are placed
 
@@ -288,11 +293,11 @@ placed_are lines seen drafts order ranks h p e =
       some_output = h.some_output;
     }
 
-cover_rows : (lines : List WordLine) (k : ℕ) (d : WordLine) → k < length lines → (cover_at lines k).rows ≡ rows_at (drop (k + 1) lines)
+cover_rows : (lines : List WordLine) (k : ℕ) (d : WordLine) → k < length lines → (cover_at lines k).rows ≡ rows_of (drop (k + 1) lines)
 cover_rows lines k d lt = ap (λ (ls : List WordLine). (cover_front ls).rows) (drop_more lines k d lt)
 
 gate_built : (lines : List WordLine) (seen : Seen) (drafts : List Draft) (order : List ℕ) (ranks : List (Option ℕ)) (h : AreDrafted lines seen drafts) → IsPlaced h.faultless.limits seen.inputs seen.outputs (covers lines) order ranks → (g : ℕ) → g < length (covers lines)
-    → built_at lines seen.driven drafts (length seen.inputs) ranks g ≡ gate_of (seen.inputs ++ outs (in_order (covers lines) order)) (gate_at (covers lines) g)
+    → built_at lines seen.driven drafts (length seen.inputs) ranks g ≡ gate_in (seen.inputs ++ outs (in_order (covers lines) order)) (gate_at (covers lines) g)
 gate_built lines seen drafts order ranks h p g lt =
     let cs = covers lines in
     let i = seen.inputs in
@@ -306,7 +311,7 @@ gate_built lines seen drafts order ranks h p g lt =
     let c = gate_at cs g in
     let there : cover_at lines draft.line ≡ c = sym (ap (λ (us : List Unplaced). get_or us g blank) (sym of.covers_are) ∙ get_or-map (cover_by lines) drafts g (record { line = 0; pins = [] }) blank in') in
     let line : draft.line < length lines = All-from_recursion (λ d. d.line < length lines) drafts of.within g (record { line = 0; pins = [] }) in' in
-    let rows : rows_at (drop (draft.line + 1) lines) ≡ c.rows = sym (cover_rows lines draft.line (record { number = 0; words = [] }) line) ∙ ap (λ (u : Unplaced). u.rows) there in
+    let rows : rows_of (drop (draft.line + 1) lines) ≡ c.rows = sym (cover_rows lines draft.line (record { number = 0; words = [] }) line) ∙ ap (λ (u : Unplaced). u.rows) there in
     let out : get_or seen.driven g [] ≡ c.out = ap (λ (ws : List (List ℕ)). get_or ws g []) (sym (outs_are lines seen h.faultless)) ∙ sym (out_at cs g lt) in
     let pins : draft.pins ≡ pins_by known c =
     sym (get_or-map (λ (d : Draft). d.pins) drafts g (record { line = 0; pins = [] }) [] in') ∙ ap (λ (ps : List (List ℕ)). get_or ps g []) of.pins_are ∙ get_or-map (pins_by known) cs g blank [] lt in
@@ -323,8 +328,7 @@ gate_built lines seen drafts order ranks h p g lt =
     ∙ ap (λ m. gate c.out (map (λ pin. place_of pin new) c.pins) (map (row_cube m) c.rows) (is_on c.rows)) size
 
 pub drawn_is : (lines : List WordLine) (seen : Seen) (drafts : List Draft) (order : List ℕ) (ranks : List (Option ℕ)) (model : List ℕ) (h : AreDrafted lines seen drafts) → IsPlaced h.faultless.limits seen.inputs seen.outputs (covers lines) order ranks
-    → drawn lines seen drafts order ranks model ≡ net_of model seen.inputs seen.outputs (in_order (covers lines) order)
-unfolding net_of
+    → drawn lines seen drafts order ranks model ≡ net_in model seen.inputs seen.outputs (in_order (covers lines) order)
 drawn_is lines seen drafts order ranks model h p =
     let cs = covers lines in
     let i = seen.inputs in
@@ -332,8 +336,8 @@ drawn_is lines seen drafts order ranks model h p =
     let ports : map (port_of seen ranks) seen.outputs ≡ map (λ o. place_of o new) seen.outputs =
     same_along (λ w. is_among w (i ++ outs cs) ≡ true) (port_of seen ranks) (λ o. place_of o new) seen.outputs
     (λ w k. ap (λ (ws : List (List ℕ)). renumbered (length i) ranks (place_of w (i ++ ws))) (sym (outs_are lines seen h.faultless)) ∙ renumber_same i cs order ranks w p.sound.driven_apart p.ranked p.all k) p.shown in
-    let gates : map (built_at lines seen.driven drafts (length i) ranks) order ≡ map (gate_of new) (in_order cs order) =
-    same_along (λ g. g < length cs) (built_at lines seen.driven drafts (length i) ranks) (λ g. gate_of new (gate_at cs g)) order (λ g lt. gate_built lines seen drafts order ranks h p g lt) p.ranked.below
+    let gates : map (built_at lines seen.driven drafts (length i) ranks) order ≡ map (gate_in new) (in_order cs order) =
+    same_along (λ g. g < length cs) (built_at lines seen.driven drafts (length i) ranks) (λ g. gate_in new (gate_at cs g)) order (λ g lt. gate_built lines seen drafts order ranks h p g lt) p.ranked.below
     ∙ sym (gates_ordered new cs order) in
     ap₂ (λ (ps : List ℕ) (gs : List Gate). network model i ps gs) ports gates
 
@@ -350,9 +354,11 @@ net_said lines seen drafts order ranks h p e =
     let cs = covers lines in
     let placed = placed_are lines seen drafts order ranks h p e in
     let none = (none_left cs order ranks placed.sound.driven_apart placed.ranked e).0 in
-    ap (net_or_cycle (model_of (says_of lines)) seen.inputs seen.outputs) (lines_placed lines seen drafts order ranks h p ∙ ap (λ (o : Option Unplaced). unless_left o (in_order cs order)) none)
-    ∙ ap (λ (m : List ℕ). Ok (net_of m seen.inputs seen.outputs (in_order cs order))) (sym (model_is lines seen h.faultless))
-    ∙ ap (λ (net : Network). Ok net) (sym (drawn_is lines seen drafts order ranks (unwrap_or seen.model (codes "unnamed")) h placed))
+    let model = model_of (says_of lines) in
+    ap (net_or_cycle model seen.inputs seen.outputs cs) (lines_placed lines seen drafts order ranks h p)
+    ∙ ap (λ (o : Option Unplaced). unless_faulty (option_map (λ (c : Unplaced). (c.number, fault.Cycle)) o) (Ok (net_of model seen.inputs seen.outputs (map named (in_order cs order))))) none
+    ∙ ap (λ (m : List ℕ). Ok (net_of m seen.inputs seen.outputs (map named (in_order cs order)))) (sym (model_is lines seen h.faultless))
+    ∙ ap (λ (net : Network). Ok net) (net_named (unwrap_or seen.model (codes "unnamed")) seen.inputs seen.outputs (in_order cs order) ∙ sym (drawn_is lines seen drafts order ranks (unwrap_or seen.model (codes "unnamed")) h placed))
 
 -- ---- the answers
 
@@ -361,16 +367,20 @@ abbrev said_in : ℕ → List WordLine → Seen → List (List ℕ) → List (Li
 said_in last lines seen i o d m =
     cond (eqb (length i) 0) (Err (last, fault.NoInputs))
     (cond (eqb (length o) 0) (Err (last, fault.NoOutputs))
-    (net_or_undefined (option_or (first_line (reads_unknown (i ++ d)) lines) (first_line (shows_unknown (i ++ d)) lines)) (net_or_cycle m i o (placed i (covers lines)))))
+    (unless_faulty (undefined (option_or (first_line (reads_unknown (i ++ d)) lines) (first_line (shows_unknown (i ++ d)) lines))) (net_or_cycle m i o (covers lines) (placed i (covers lines)))))
 
 abbrev said_by_seen : ℕ → List WordLine → Seen → Result Network (ℕ × BlifFault)
 said_by_seen last lines seen = said_in last lines seen seen.inputs seen.outputs seen.driven (model_of (says_of lines))
 
-lines_say_is : (last : ℕ) (lines : List WordLine) (seen : Seen) → AreFaultless lines seen → lines_say last lines ≡ said_by_seen last lines seen
+pub lines_say_is : (last : ℕ) (lines : List WordLine) (seen : Seen) → AreFaultless lines seen → lines_say last lines ≡ said_by_seen last lines seen
 unfolding lines_say
 lines_say_is last lines seen f =
     let all = says_of lines in
-    ap (λ (i : List (List ℕ)). said_in last lines seen i (outputs_of all) (driven_of all) (model_of all)) (sym (inputs_are lines seen f))
+    let i = inputs_of all in
+    let o = outputs_of all in
+    ap (λ (net : Result Network (ℕ × BlifFault)). cond (eqb (length i) 0) (Err (last, fault.NoInputs)) (cond (eqb (length o) 0) (Err (last, fault.NoOutputs)) net))
+    (unknown_same (i ++ driven_of all) lines (net_or_cycle (model_of all) i o (covers lines) (placed i (covers lines))))
+    ∙ ap (λ (i : List (List ℕ)). said_in last lines seen i (outputs_of all) (driven_of all) (model_of all)) (sym (inputs_are lines seen f))
     ∙ ap (λ (o : List (List ℕ)). said_in last lines seen seen.inputs o (driven_of all) (model_of all)) (sym (outputs_are lines seen f))
     ∙ ap (λ (d : List (List ℕ)). said_in last lines seen seen.inputs seen.outputs d (model_of all)) (sym (driven_are lines seen f))
 
@@ -381,17 +391,13 @@ pub no_outputs : (last : ℕ) (lines : List WordLine) (seen : Seen) → AreFault
 no_outputs last lines seen f i h = lines_say_is last lines seen f ∙ cond-false _ _ _ (ne_eqb (length seen.inputs) 0 (omega arith)) ∙ cond-true _ _ _ (eq-eqb (length seen.outputs) 0 h)
 
 both_some : (last : ℕ) (lines : List WordLine) (seen : Seen) → AreFaultless lines seen → 0 < length seen.inputs → 0 < length seen.outputs
-    → lines_say last lines ≡ net_or_undefined (option_or (first_line (reads_unknown (seen.inputs ++ seen.driven)) lines) (first_line (shows_unknown (seen.inputs ++ seen.driven)) lines)) (placed_net lines seen)
+    → lines_say last lines ≡ unless_faulty (undefined (option_or (first_line (reads_unknown (seen.inputs ++ seen.driven)) lines) (first_line (shows_unknown (seen.inputs ++ seen.driven)) lines))) (placed_net lines seen)
 both_some last lines seen f i o =
     lines_say_is last lines seen f ∙ cond-false _ _ _ (ne_eqb (length seen.inputs) 0 (omega arith)) ∙ cond-false _ _ _ (ne_eqb (length seen.outputs) 0 (omega arith))
 
-undefined_first : (a b : Option ℕ) (net : Result Network (ℕ × BlifFault)) (n : ℕ) (f : BlifFault) → undefined a ≡ Some (n, f) → net_or_undefined (option_or a b) net ≡ Err (n, f)
+undefined_first : (a b : Option ℕ) (net : Result Network (ℕ × BlifFault)) (n : ℕ) (f : BlifFault) → undefined a ≡ Some (n, f) → unless_faulty (undefined (option_or a b)) net ≡ Err (n, f)
 undefined_first None b net n f h = absurd cc
-undefined_first (Some m) b net n f h = (let e : (let p : ℕ × BlifFault = (m, fault.Undefined) in p) ≡ (n, f) = cc in ap (λ (p : ℕ × BlifFault). Err p) e)
-
-undefined_alone : (a : Option ℕ) (net : Result Network (ℕ × BlifFault)) (n : ℕ) (f : BlifFault) → undefined a ≡ Some (n, f) → net_or_undefined a net ≡ Err (n, f)
-undefined_alone None net n f h = absurd cc
-undefined_alone (Some m) net n f h = undefined_first (Some m) None net n f h
+undefined_first (Some m) b net n f h = ap (λ (o : Option (ℕ × BlifFault)). unless_faulty o net) h
 
 pub reads_said : (last : ℕ) (lines : List WordLine) (seen : Seen) (e : BlifErr) → AreFaultless lines seen → 0 < length seen.inputs → 0 < length seen.outputs
     → IsFaultAt (undefined (first_line (reads_unknown (seen.inputs ++ seen.driven)) lines)) e → Gives (lines_say last lines) (Err e)
@@ -402,14 +408,14 @@ pub shows_said : (last : ℕ) (lines : List WordLine) (seen : Seen) (e : BlifErr
     → IsFaultAt (undefined (first_line (shows_unknown (seen.inputs ++ seen.driven)) lines)) e → Gives (lines_say last lines) (Err e)
 shows_said last lines seen (errors.At n f) h i o none found =
     let known = seen.inputs ++ seen.driven in
-    both_some last lines seen h i o ∙ ap (λ (a : Option ℕ). net_or_undefined (option_or a (first_line (shows_unknown known) lines)) (placed_net lines seen)) none
-    ∙ undefined_alone (first_line (shows_unknown known) lines) (placed_net lines seen) n f found
+    both_some last lines seen h i o ∙ ap (λ (a : Option ℕ). unless_faulty (undefined (option_or a (first_line (shows_unknown known) lines))) (placed_net lines seen)) none
+    ∙ ap (λ (o : Option (ℕ × BlifFault)). unless_faulty o (placed_net lines seen)) found
 shows_said last lines seen errors.Memory h i o none found = tt
 
 pub placed_said : (last : ℕ) (lines : List WordLine) (seen : Seen) (drafts : List Draft) → AreDrafted lines seen drafts → lines_say last lines ≡ placed_net lines seen
 placed_said last lines seen drafts h =
     both_some last lines seen h.faultless h.some_input h.some_output
-    ∙ ap₂ (λ (a b : Option ℕ). net_or_undefined (option_or a b) (placed_net lines seen)) h.reads h.shows
+    ∙ ap₂ (λ (a b : Option ℕ). unless_faulty (undefined (option_or a b)) (placed_net lines seen)) h.reads h.shows
 
 -- ---- the text
 

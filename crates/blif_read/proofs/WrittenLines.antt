@@ -1,7 +1,7 @@
 -- Lines of which none is faulty, and what they say together.
 use Rattle.std.proofs.Common.{◌≡◌, ℕ, suc, ◌+◌, ◌-◌, ◌<◌, ◌≤◌, Bool, true, false, not, eqb, leb, ltb, Option, Some, None, Ok, List, [], ◌∷◌, ◌++◌, length, map, get_or, take, refl, sym, ap, subst, ◌∙◌, arith}
 use Rattle.std.specs.Prelude.{bytes_eq}
-use Rattle.std.specs.List.{flat_map, list_any, list_all, AllByRecursion}
+use Rattle.std.specs.List.{find, flat_map, list_any, list_all, AllByRecursion}
 use Rattle.std.specs.Option.{option_map, option_or}
 use Rattle.std.proofs.lemmas.Bool.{cond-false, or_from, or_parts, and_from, le-ltb, lt-leb, ne_eqb, eq-eqb}
 use Rattle.std.proofs.lemmas.List.{append_assoc, append-nil, length-append, get_or_at, take_at}
@@ -15,9 +15,12 @@ use Rattle.blif_read.specs.Words.{most_lines, is_name_under, is_among}
 use Rattle.blif_read.specs.Statement.{Said, said, gate_name, pin_names, row_end, is_row}
 use Rattle.blif_read.specs.Statement.Said.{Names, Row}
 use Rattle.blif_read.specs.Earlier.{input_words, output_words, driven_words, inputs_of, outputs_of, driven_of, is_end}
-use Rattle.blif_read.specs.Faults.{input_fault, output_fault, word_fault, names_fault, mixes, row_fault, fault_before_end, fault_after_end, line_fault, first_fault}
-use Rattle.blif_read.specs.Placing.{Unplaced, placed}
-use Rattle.blif_read.specs.Says.{covers, reads_unknown, shows_unknown, first_line, net_of, model_of, lines_say}
+use Rattle.blif_read.specs.Faults.{input_fault, output_fault, word_fault, names_fault, row_fault, fault_before_end, fault_after_end, line_fault, first_fault}
+use Rattle.blif_read.specs.Placing.{Unplaced, outs, placed}
+use Rattle.ae_net.specs.Named.{net_of}
+use Rattle.blif_read.specs.Says.{covers, named, model_of, lines_say}
+use Rattle.blif_read.specs.Build.{shows_unknown, reads_unknown, first_line, net_or_cycle}
+use Rattle.blif_read.proofs.Undefined.{unknown_same}
 use Rattle.blif_read.proofs.WrittenNames.{AreFresh}
 
 -- none of these lines is faulty, each after those before it
@@ -124,8 +127,8 @@ pub end_more : (b : ℕ) (rows : List (List ℕ)) (r : List ℕ) → EndWith b r
 end_more b [] r h e = e
 end_more b (q ∷ rows) r h e = h
 
-unmixed : (b : ℕ) (rows : List (List ℕ)) (r : List ℕ) → EndWith b rows → row_end r ≡ b → mixes rows r ≡ false
-unmixed b [] r h e = refl
+unmixed : (b : ℕ) (rows : List (List ℕ)) (r : List ℕ) → EndWith b rows → row_end r ≡ b → not (eqb (row_end (get_or rows 0 r)) (row_end r)) ≡ false
+unmixed b [] r h e = ap not (eq-eqb (row_end r) (row_end r) refl)
 unmixed b (q ∷ rows) r h e = ap not (eq-eqb (row_end q) (row_end r) (h ∙ sym e))
 
 pub row_fine : (k b : ℕ) (r : List ℕ) (ws rows : List (List ℕ)) → length ws ≡ suc k → is_row k r ≡ true → row_end r ≡ b → EndWith b rows → row_fault (Some (record { words = ws; rows = rows })) r ≡ None
@@ -150,9 +153,9 @@ first_none test k (ws ∷ lines) h =
 pub whole : (last : ℕ) (lines : List WordLine) (all : List Said) (model : List ℕ) (inputs outputs driven : List (List ℕ)) (cs : List Unplaced)
     → map (λ line. said line.words) lines ≡ all → inputs_of all ≡ inputs → outputs_of all ≡ outputs → driven_of all ≡ driven → model_of all ≡ model
     → 0 < length inputs → 0 < length outputs → first_line (reads_unknown (inputs ++ driven)) lines ≡ None → first_line (shows_unknown (inputs ++ driven)) lines ≡ None
-    → covers lines ≡ cs → placed inputs cs ≡ Ok cs → lines_say last lines ≡ Ok (net_of model inputs outputs cs)
+    → covers lines ≡ cs → placed inputs cs ≡ cs → find (λ c. not (is_among c.out (outs cs))) cs ≡ None → lines_say last lines ≡ Ok (net_of model inputs outputs (map named cs))
 unfolding lines_say
-whole last lines all model inputs outputs driven cs a i o d m some_in some_out reads shows c p =
+whole last lines all model inputs outputs driven cs a i o d m some_in some_out reads shows c p q =
     let one : eqb (length inputs) 0 ≡ false = ne_eqb _ 0 (λ e. omega (arith, e, some_in)) in
     let two : eqb (length outputs) 0 ≡ false = ne_eqb _ 0 (λ e. omega (arith, e, some_out)) in
-    rw (a, i, o, d, m, one, two, reads, shows, c, p) refl
+    rw (a, i, o, d, m, one, two) (unknown_same (inputs ++ driven) lines (net_or_cycle model inputs outputs (covers lines) (placed inputs (covers lines))) ∙ rw (reads, shows, c, p, q) refl)

@@ -8,7 +8,7 @@ use Rattle.std.proofs.lemmas.Slice.Eq.{bytes_eq-Decides}
 use Rattle.ae_net.specs.Blif.{name_of}
 use Rattle.ae_net.specs.Valid.{IsDistinct}
 use Rattle.blif_read.specs.Words.{is_among}
-use Rattle.blif_read.specs.Says.{place_of}
+use Rattle.ae_net.specs.Named.{place_of}
 
 -- none is among those before it
 abbrev pub AreFresh : List (List ℕ) → List (List ℕ) → Type 0

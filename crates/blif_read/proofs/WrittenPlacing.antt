@@ -1,13 +1,17 @@
 -- Gates that stand in an order are placed in that order.
-use Rattle.std.proofs.Common.{◌≡◌, ℕ, suc, Bool, true, false, not, Option, Some, None, Ok, List, [], ◌∷◌, ◌++◌, length, refl, sym, ap, subst, ◌∙◌}
+use Rattle.std.proofs.Common.{◌≡◌, ℕ, suc, Bool, true, false, not, Some, None, List, [], ◌∷◌, ◌++◌, length, refl, sym, ap, subst, ◌∙◌}
 use Rattle.std.specs.Prelude.{bytes_eq}
-use Rattle.std.specs.List.{find, AllByRecursion}
+use Rattle.std.specs.List.{find, list_all, AllByRecursion}
 use Rattle.std.proofs.lemmas.Bool.{cond-true, cond-false, and_left, and_from, or_left, or_right, or_parts}
 use Rattle.std.proofs.lemmas.List.{append_assoc, append-nil, map-append}
 use Rattle.std.proofs.lemmas.List.Folds.{list_any-append}
 use Rattle.blif_read.specs.Words.{is_among}
-use Rattle.blif_read.specs.Placing.{Unplaced, outs, is_ready, can_go, place, unless_left, placed}
+use Rattle.blif_read.specs.Placing.{Unplaced, outs, can_go, place, placed}
 use Rattle.blif_read.proofs.WrittenNames.{AreFresh, bytes_same}
+
+-- each pin is one of the known names
+abbrev is_ready : List (List ℕ) → Unplaced → Bool
+is_ready known c = list_all (λ pin. is_among pin known) c.pins
 
 -- each reads known names and gates before it
 abbrev pub IsInOrder : List (List ℕ) → List Unplaced → Type 0
@@ -56,9 +60,11 @@ fresh_drop xs had [] h = tt
 fresh_drop xs had (w ∷ ws) h =
     ((or_parts (is_among w xs) (is_among w had) (sym (list_any-append (bytes_eq w) xs had) ∙ h.0)).1, fresh_drop xs (had ++ w ∷ []) ws (subst (λ (k : List (List ℕ)). AreFresh k ws) (append_assoc xs had (w ∷ [])) h.1))
 
-pub placed_in_order : (inputs : List (List ℕ)) (cs : List Unplaced) → IsInOrder inputs cs → AreFresh inputs (outs cs) → placed inputs cs ≡ Ok cs
+pub placed_in_order : (inputs : List (List ℕ)) (cs : List Unplaced) → IsInOrder inputs cs → AreFresh inputs (outs cs) → placed inputs cs ≡ cs
 unfolding placed
 placed_in_order inputs cs h f =
-    let all : place inputs cs (length cs) [] ≡ cs = place_rest inputs cs [] cs refl (subst (λ (k : List (List ℕ)). IsInOrder k cs) (sym (append-nil inputs)) h) (fresh_drop inputs [] (outs cs) (subst (λ (k : List (List ℕ)). AreFresh k (outs cs)) (sym (append-nil inputs)) f)) in
-    ap (λ (order : List Unplaced). unless_left (find (λ c. not (is_among c.out (outs order))) cs) order) all
-    ∙ ap (λ (o : Option Unplaced). unless_left o cs) (find_no (λ c. not (is_among c.out (outs cs))) cs (none_left cs cs (still_among cs [] (outs cs) refl)))
+    place_rest inputs cs [] cs refl (subst (λ (k : List (List ℕ)). IsInOrder k cs) (sym (append-nil inputs)) h) (fresh_drop inputs [] (outs cs) (subst (λ (k : List (List ℕ)). AreFresh k (outs cs)) (sym (append-nil inputs)) f))
+
+-- where all are placed, none is left
+pub all_placed : (cs : List Unplaced) → find (λ c. not (is_among c.out (outs cs))) cs ≡ None
+all_placed cs = find_no (λ c. not (is_among c.out (outs cs))) cs (none_left cs cs (still_among cs [] (outs cs) refl))

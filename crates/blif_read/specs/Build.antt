@@ -1,6 +1,7 @@
--- How the network is built from lines without a fault. These definitions serve the reader's own functions.
+-- For private contracts alone: how the network is built from lines without a fault.
 -- Signals are numbered in file order first: the inputs, and then the gates by the places of their `.names`.
-use Rattle.std.specs.Prelude.{◌≡◌, ℕ, suc, ◌+◌, ◌-◌, ◌<◌, ◌≤◌, ◌^◌, ◌==◌, nat_lt, Bool, true, false, if◌then◌else◌, Option, Some, None, Result, Ok, Err, List, [], ◌∷◌, ◌++◌, length, drop, map, All, position, IfSome, option_map, unwrap_or, slice_index_or}
+use Rattle.std.specs.Prelude.{◌≡◌, ℕ, suc, ◌+◌, ◌-◌, ◌<◌, ◌≤◌, ◌^◌, ◌==◌, nat_lt, Bool, true, false, not, if◌then◌else◌, Option, Some, None, Result, Ok, Err, List, [], ◌∷◌, ◌++◌, length, drop, map, All, position, IfSome, option_map, unwrap_or, slice_index_or}
+use Rattle.std.specs.List.{find}
 use Rattle.ae_base.specs.Name.{is_name}
 use Rattle.ae_lex.specs.Words.{WordLine}
 use Rattle.ae_base.specs.declared.limits.TheConstants.{PINS}
@@ -15,10 +16,12 @@ use Rattle.blif_read.specs.declared.draft.Draft.{Draft}
 use Rattle.blif_read.specs.Words.{is_among}
 use Rattle.blif_read.specs.Statement.{Said, said, gate_name, pin_names}
 use Rattle.blif_read.specs.Statement.Said.{Outputs, Names, Row}
+use Rattle.blif_read.specs.Earlier.{output_words}
 use Rattle.blif_read.specs.Faults.{first_fault}
 use Rattle.blif_place.specs.Order.{order_of}
-use Rattle.blif_read.specs.Placing.{Unplaced, placed}
-use Rattle.blif_read.specs.Says.{rows_at, some_unknown, reads_unknown, shows_unknown, first_line, place_of, row_cube, is_on, covers, model_of, net_or_cycle}
+use Rattle.blif_read.specs.Placing.{Unplaced, outs, placed}
+use Rattle.ae_net.specs.Named.{place_of, net_of}
+use Rattle.blif_read.specs.Says.{rows_at, some_unknown, row_cube, is_on, covers, named, model_of, unless_faulty}
 use Rattle.blif_read.specs.Step.{seen_by, says_of, IsFaultAt}
 
 -- the names of the signals in file order, few enough to be counted
@@ -45,6 +48,16 @@ is_outputs _ = false
 -- the line at a place
 abbrev pub line_at : List WordLine → ℕ → WordLine
 line_at lines k = slice_index_or lines k (record { number = 0; words = [] })
+
+-- a `.names` with a pin that is none of the known names
+abbrev pub reads_unknown : List (List ℕ) → Said → Bool
+reads_unknown known (Names ws) = some_unknown known (pin_names ws)
+reads_unknown known _ = false
+
+-- the number of the first line that passes the test
+abbrev pub first_line : (Said → Bool) → List WordLine → Option ℕ
+first_line test [] = None
+first_line test (line ∷ lines) = if test (said line.words) then Some line.number else first_line test lines
 
 -- ---- drafts: for each `.names` the place of its line, and its pins
 
@@ -74,6 +87,10 @@ abbrev pub DraftsAll : {X : Type 0} → List (List ℕ) → List WordLine → Re
 DraftsAll known lines (Ok x) drafts = (first_line (reads_unknown known) lines ≡ None) × (drafts ≡ drafts_of known 0 lines)
 DraftsAll known lines (Err e) drafts = IsFaultAt (undefined (first_line (reads_unknown known) lines)) e
 
+-- an `.outputs` with a name that is none of the known names
+abbrev pub shows_unknown : List (List ℕ) → Said → Bool
+shows_unknown known s = some_unknown known (output_words s)
+
 -- one line shows no such name, or it is answered
 abbrev pub Shows : {X : Type 0} → List (List ℕ) → WordLine → Result X BlifErr → Type 0
 Shows known line (Ok x) = shows_unknown known (said line.words) ≡ false
@@ -82,6 +99,10 @@ Shows known line (Err e) = IsFaultAt (undefined_if (shows_unknown known (said li
 abbrev pub ShowsAll : {X : Type 0} → List (List ℕ) → List WordLine → Result X BlifErr → Type 0
 ShowsAll known lines (Ok x) = first_line (shows_unknown known) lines ≡ None
 ShowsAll known lines (Err e) = IsFaultAt (undefined (first_line (shows_unknown known) lines)) e
+
+-- the rows at the front of lines
+abbrev pub rows_of : List WordLine → List (List ℕ)
+rows_of lines = rows_at (says_of lines)
 
 -- the cover of the `.names` that stands first, with the rows after it
 abbrev pub names_words : Said → List (List ℕ)
@@ -92,7 +113,7 @@ abbrev pub cover_front : List WordLine → Unplaced
 cover_front [] = record { number = 0; pins = []; out = []; rows = [] }
 cover_front (line ∷ lines) =
     let ws = names_words (said line.words) in
-    record { number = line.number; pins = pin_names ws; out = gate_name ws; rows = rows_at lines }
+    record { number = line.number; pins = pin_names ws; out = gate_name ws; rows = rows_of lines }
 
 -- the cover of the `.names` at place k
 abbrev pub cover_at : List WordLine → ℕ → Unplaced
@@ -134,7 +155,7 @@ draft_at drafts g = slice_index_or drafts g (record { line = 0; pins = [] })
 abbrev pub built_at : List WordLine → List (List ℕ) → List Draft → ℕ → List (Option ℕ) → ℕ → Gate
 built_at lines names drafts n ranks g =
     let draft = draft_at drafts g in
-    built (rows_at (drop (draft.line + 1) lines)) (slice_index_or names g []) draft.pins n ranks
+    built (rows_of (drop (draft.line + 1) lines)) (slice_index_or names g []) draft.pins n ranks
 
 -- the port of an output
 abbrev pub port_of : Seen → List (Option ℕ) → List ℕ → ℕ
@@ -187,6 +208,10 @@ pub record IsPlan (n : ℕ) (drafts : List Draft) (order : List ℕ) (ranks : Li
   pub size : length ranks ≡ length drafts
   pub rank : (g : ℕ) → slice_index_or ranks g None ≡ rank_in order g
 
--- what the gates of a text say: the network, or the line of the first that can't be placed
+-- the network of placed gates, or the line of the first that isn't placed
+abbrev pub net_or_cycle : List ℕ → List (List ℕ) → List (List ℕ) → List Unplaced → List Unplaced → Result Network (ℕ × BlifFault)
+net_or_cycle model inputs outputs cs order =
+    unless_faulty (option_map (λ c. (c.number, fault.Cycle)) (find (λ c. not (is_among c.out (outs order))) cs)) (Ok (net_of model inputs outputs (map named order)))
+
 abbrev pub placed_net : List WordLine → Seen → Result Network (ℕ × BlifFault)
-placed_net lines seen = net_or_cycle (model_of (says_of lines)) seen.inputs seen.outputs (placed seen.inputs (covers lines))
+placed_net lines seen = net_or_cycle (model_of (says_of lines)) seen.inputs seen.outputs (covers lines) (placed seen.inputs (covers lines))

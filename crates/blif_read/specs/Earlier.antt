@@ -4,6 +4,7 @@ use Rattle.std.specs.List.{flat_map}
 use Rattle.blif_read.specs.Statement.{Said, gate_name}
 use Rattle.blif_read.specs.Statement.Said.{Model, Inputs, Outputs, Names, End, Row}
 
+-- of one line: the names of `.inputs`, those of `.outputs`, the gate of `.names`, and the name after `.model`
 abbrev pub input_words : Said → List (List ℕ)
 input_words (Inputs ws) = ws
 input_words _ = []
@@ -43,16 +44,8 @@ pub record Cover : Type 0 where
   pub words : List (List ℕ)
   pub rows : List (List ℕ)
 
-abbrev pub with_row : List ℕ → Cover → Cover
-with_row r c = record { words = c.words; rows = c.rows ++ r ∷ [] }
-
 -- A `.names` opens a cover, a row goes into the cover that is open, and any other line closes it.
 abbrev pub cover_after : Option Cover → Said → Option Cover
 cover_after c (Names ws) = Some (record { words = ws; rows = [] })
-cover_after c (Row r) = option_map (with_row r) c
+cover_after c (Row r) = option_map (λ cover. record { words = cover.words; rows = cover.rows ++ r ∷ [] }) c
 cover_after c _ = None
-
--- the cover that a row after these lines belongs to, where this one was open before them
-abbrev pub open_cover : Option Cover → List Said → Option Cover
-open_cover c [] = c
-open_cover c (s ∷ before) = open_cover (cover_after c s) before

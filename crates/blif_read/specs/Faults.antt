@@ -1,6 +1,6 @@
 -- The fault of a line, by its words and the lines before it: the table of the format.
-use Rattle.std.specs.Prelude.{ℕ, ◌-◌, ◌==◌, nat_le, nat_lt, Bool, true, false, not, ◌||◌, if◌then◌else◌, Option, Some, None, option_map, List, [], ◌∷◌, ◌++◌, length}
-use Rattle.std.specs.List.{list_any, list_all}
+use Rattle.std.specs.Prelude.{ℕ, ◌-◌, ◌==◌, nat_le, nat_lt, not, ◌||◌, if◌then◌else◌, Option, Some, None, option_map, List, [], ◌∷◌, ◌++◌, length, slice_index_or}
+use Rattle.std.specs.List.{list_any, list_all, fold}
 use Rattle.std.specs.Option.{option_or}
 use Rattle.ae_base.specs.declared.limits.TheConstants.{PINS, GATES}
 use Rattle.ae_lex.specs.First.{first_of}
@@ -11,7 +11,7 @@ use Rattle.blif_read.specs.declared.fault.BlifFault.TheVariants as fault
 use Rattle.blif_read.specs.Words.{most_lines, is_name_under, is_among}
 use Rattle.blif_read.specs.Statement.{Said, said, gate_name, row_end, is_row}
 use Rattle.blif_read.specs.Statement.Said.{Model, Inputs, Outputs, Names, End, Unsupported, Unknown, Row}
-use Rattle.blif_read.specs.Earlier.{inputs_of, outputs_of, driven_of, is_model, is_end, Cover, open_cover}
+use Rattle.blif_read.specs.Earlier.{inputs_of, outputs_of, driven_of, is_model, is_end, Cover, cover_after}
 
 -- a name of `.inputs`, where these outputs, gates and inputs have names before it
 abbrev pub input_fault : NetLimits → List (List ℕ) → List (List ℕ) → List (List ℕ) → List ℕ → Option BlifFault
@@ -46,32 +46,23 @@ names_fault limits inputs driven ws = first_of (
     ∷ (is_among (gate_name ws) inputs || is_among (gate_name ws) driven, fault.DefinedTwice)
     ∷ [])
 
--- the row ends otherwise than the first row of its cover
-abbrev pub mixes : List (List ℕ) → List ℕ → Bool
-mixes [] r = false
-mixes (q ∷ qs) r = not (row_end q == row_end r)
-
--- a row that belongs to this cover, or to none
+-- a row that belongs to this cover, or to none: it ends as the first row of its cover
 abbrev pub row_fault : Option Cover → List ℕ → Option BlifFault
 row_fault None r = Some fault.StrayRow
-row_fault (Some c) r = first_of ((not (is_row (length c.words - 1) r), fault.BadRow) ∷ (mixes c.rows r, fault.MixedRows) ∷ [])
+row_fault (Some c) r = first_of ((not (is_row (length c.words - 1) r), fault.BadRow) ∷ (not (row_end (slice_index_or c.rows 0 r) == row_end r), fault.MixedRows) ∷ [])
 
--- no word, or one name
-abbrev pub is_model_name : NetLimits → List (List ℕ) → Bool
-is_model_name limits [] = true
-is_model_name limits (w ∷ []) = is_name_under limits w
-is_model_name limits (w ∷ v ∷ ws) = false
-
+-- the fault of a line where no `.end` stands before it: `.model` has one name or none
 abbrev pub fault_before_end : NetLimits → List Said → Said → Option BlifFault
-fault_before_end limits before (Model ws) = first_of ((list_any is_model before, fault.TwoModels) ∷ (not (is_model_name limits ws), fault.BadName) ∷ [])
+fault_before_end limits before (Model ws) = first_of ((list_any is_model before, fault.TwoModels) ∷ (nat_lt 1 (length ws) || not (list_all (is_name_under limits) ws), fault.BadName) ∷ [])
 fault_before_end limits before (Inputs ws) = word_fault (input_fault limits (outputs_of before) (driven_of before)) (inputs_of before) ws
 fault_before_end limits before (Outputs ws) = word_fault (output_fault limits (inputs_of before)) (outputs_of before) ws
 fault_before_end limits before (Names ws) = names_fault limits (inputs_of before) (driven_of before) ws
 fault_before_end limits before End = None
 fault_before_end limits before Unsupported = Some fault.Unsupported
 fault_before_end limits before Unknown = Some fault.Unknown
-fault_before_end limits before (Row r) = row_fault (open_cover None before) r
+fault_before_end limits before (Row r) = row_fault (fold cover_after None before) r
 
+-- after `.end` only a further one may stand
 abbrev pub fault_after_end : Said → Option BlifFault
 fault_after_end (Model ws) = Some fault.TwoModels
 fault_after_end End = None

@@ -1,4 +1,4 @@
--- What the reader's functions give.
+-- For private contracts alone: what the reader's functions give.
 use Rattle.std.specs.Prelude.{ℕ, List, map}
 use Rattle.std.specs.Borrow.{Bor}
 

@@ -1,7 +1,6 @@
--- What the reader keeps between two lines, and what reading one more line does. These definitions serve the reader's own functions.
--- What a text says is defined in `Says`, without them.
+-- For private contracts alone: what the reader keeps between two lines, and what reading one more line does.
 use Rattle.std.specs.Prelude.{◌≡◌, ℕ, ◌-◌, ◌==◌, Bool, true, false, not, if◌then◌else◌, Option, Some, None, Result, Ok, Err, List, [], ◌∷◌, ◌++◌, length, map, slice_get, option_map, unwrap_or}
-use Rattle.std.specs.List.{list_any, flat_map}
+use Rattle.std.specs.List.{list_any, flat_map, fold}
 use Rattle.ae_lex.specs.First.{first_of}
 use Rattle.blif_read.specs.declared.fault.NetLimits.{NetLimits}
 use Rattle.blif_read.specs.declared.fault.BlifFault.{BlifFault}
@@ -13,10 +12,11 @@ use Rattle.blif_read.specs.declared.seen.OpenCover.{OpenCover}
 use Rattle.blif_read.specs.declared.seen.Seen.{Seen}
 use Rattle.blif_read.specs.declared.line_err.LineErr.{LineErr}
 use Rattle.blif_read.specs.declared.line_err.LineErr.TheVariants as line
+use Rattle.blif_read.specs.Words.{is_name_under}
 use Rattle.blif_read.specs.Statement.{Said, said, gate_name, row_end, is_row}
 use Rattle.blif_read.specs.Statement.Said.{Model, Inputs, Outputs, Names, End, Unsupported, Unknown, Row}
-use Rattle.blif_read.specs.Earlier.{inputs_of, outputs_of, driven_of, is_model, is_end, model_words, Cover, open_cover}
-use Rattle.blif_read.specs.Faults.{input_fault, output_fault, word_fault, names_fault, is_model_name, fault_after_end, first_fault}
+use Rattle.blif_read.specs.Earlier.{inputs_of, outputs_of, driven_of, is_model, is_end, model_words, Cover, cover_after}
+use Rattle.blif_read.specs.Faults.{input_fault, output_fault, word_fault, names_fault, fault_after_end, first_fault}
 
 -- of a cover: the number of its pins, and the last character of its first row
 abbrev pub summary : Cover → OpenCover
@@ -32,7 +32,7 @@ seen_by lines =
       inputs = inputs_of lines;
       outputs = outputs_of lines;
       driven = driven_of lines;
-      cover = option_map summary (open_cover None lines);
+      cover = option_map summary (fold cover_after None lines);
     }
 
 -- what each line says
@@ -48,6 +48,12 @@ ends_otherwise (Some b) r = not (b == row_end r)
 abbrev pub row_fault_in : Option OpenCover → List ℕ → Option BlifFault
 row_fault_in None r = Some fault.StrayRow
 row_fault_in (Some c) r = first_of ((not (is_row c.pins r), fault.BadRow) ∷ (ends_otherwise c.end_char r, fault.MixedRows) ∷ [])
+
+-- no word, or one name
+abbrev pub is_model_name : NetLimits → List (List ℕ) → Bool
+is_model_name limits [] = true
+is_model_name limits (w ∷ []) = is_name_under limits w
+is_model_name limits (w ∷ v ∷ ws) = false
 
 abbrev pub model_fault : NetLimits → Bool → List (List ℕ) → Option BlifFault
 model_fault limits had ws = first_of ((had, fault.TwoModels) ∷ (not (is_model_name limits ws), fault.BadName) ∷ [])

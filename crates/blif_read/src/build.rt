@@ -81,7 +81,7 @@ fn row_of_line(alloc: Global, bytes: &[u8], line: &Line) -> Result<Option<Seq<u8
 fn rows_at(alloc: Global, bytes: &[u8], lines: &[Line], pins: u32) -> Result<Seq<Cube>, Memory>
     requires few { pins ≤ PINS }
     requires inside { All (λ line. All (IsInside bytes.now) line.words) lines.now }
-    ensures { IfOk result (λ rows. rows ≡ map (says.row_cube pins) (says.rows_at (map (cut_line bytes.now) lines.now))) }
+    ensures { IfOk result (λ rows. rows ≡ map (says.row_cube pins) (spec.rows_of (map (cut_line bytes.now) lines.now))) }
 {
     let mut rows = Seq::new(alloc);
     for line in lines {
@@ -96,7 +96,7 @@ fn rows_at(alloc: Global, bytes: &[u8], lines: &[Line], pins: u32) -> Result<Seq
 /// Whether the rows at the front of lines end with 1, or there is none.
 fn is_on(alloc: Global, bytes: &[u8], lines: &[Line]) -> Result<bool, Memory>
     requires { All (λ line. All (IsInside bytes.now) line.words) lines.now }
-    ensures { IfOk result (λ on. on ≡ says.is_on (says.rows_at (map (cut_line bytes.now) lines.now))) }
+    ensures { IfOk result (λ on. on ≡ says.is_on (spec.rows_of (map (cut_line bytes.now) lines.now))) }
 {
     if lines.is_empty() {
         return Ok(true);
@@ -156,7 +156,7 @@ pub fn gate_of(
     requires known { All (λ s. s < inputs + length ranks.now) signals.now }
     requires short { inputs + length ranks.now < 2 ^ 32 }
     requires ranked { All (spec.IsRankBelow (length ranks.now)) ranks.now }
-    ensures { IfOk result (λ gate. gate ≡ spec.built (says.rows_at (map (cut_line bytes.now) after.now)) name.now signals.now inputs ranks.now) }
+    ensures { IfOk result (λ gate. gate ≡ spec.built (spec.rows_of (map (cut_line bytes.now) after.now)) name.now signals.now inputs ranks.now) }
 {
     Ok(Gate {
         out: name.copy(alloc)?,

@@ -6,6 +6,7 @@ mod declare;
 mod draft;
 mod fault;
 mod head;
+mod laws;
 mod line_err;
 mod net;
 mod order;
@@ -15,4 +16,5 @@ mod statement;
 mod table;
 
 pub use fault::{BlifErr, BlifFault, NetLimits};
+pub use laws::said_law;
 pub use read::read_blif;

@@ -21,10 +21,13 @@ use Rattle.blif_read.specs.Statement.Said.{Model, Inputs, Outputs, Names, End}
 use Rattle.blif_read.specs.Earlier.{input_words, output_words, driven_words}
 use Rattle.blif_read.specs.Faults.{word_fault, output_fault, line_fault, first_fault}
 use Rattle.blif_read.specs.Placing.{outs, placed}
-use Rattle.blif_read.specs.Says.{some_unknown, reads_unknown, shows_unknown, place_of, gate_of, net_of, lines_say, blif_says}
+use Rattle.ae_net.specs.Named.{net_of, place_of}
+use Rattle.blif_read.specs.Says.{some_unknown, named, lines_say, blif_says}
+use Rattle.blif_read.specs.Build.{shows_unknown, reads_unknown}
+use Rattle.blif_read.proofs.Nets.{gate_in, net_named}
 use Rattle.blif_read.proofs.Places.{AllBelow}
 use Rattle.blif_read.proofs.WrittenNames.{AreFresh, not_among, fresh, fresh_split, names_apart, places_back, signals_apart}
-use Rattle.blif_read.proofs.WrittenPlacing.{placed_in_order}
+use Rattle.blif_read.proofs.WrittenPlacing.{placed_in_order, all_placed}
 use Rattle.blif_read.proofs.WrittenLines.{AreFine, fine_lines, Stands, one_more, not_ended, inputs_fine, outputs_fine, pin_names-snoc, said_numbered, first_none, whole}
 use Rattle.blif_write.proofs.Statements.{gate_words, gate_said, head_said, net_said, said_net, any_gates, unplaced_gates, covers_net}
 use Rattle.blif_write.proofs.Plain.{IsFit, net_plain}
@@ -100,7 +103,7 @@ known_of n v =
 head_stands : (n : Network) → Stands (head_said n) n.inputs (map (name_of (signal_names n)) n.outputs) []
 head_stands n = record { on = refl; inputs_are = append-nil n.inputs; outputs_are = append-nil (map (name_of (signal_names n)) n.outputs); driven_are = refl }
 
-net_fine : (n : Network) → IsValid n → KeepsLimits n → IsKnown n → AreFine Written [] (net_said n)
+net_fine : (n : Network) → IsValid n → KeepsLimits Written n → IsKnown n → AreFine Written [] (net_said n)
 net_fine n v l k =
     let names = signal_names n in
     let outs = map (name_of names) n.outputs in
@@ -127,7 +130,7 @@ none_shown : (names : List (List ℕ)) (gates : List Gate) → AllByRecursion (�
 none_shown names [] = tt
 none_shown names (gate ∷ gates) = (refl, none_shown names gates)
 
-net_lines_say : (n : Network) (last : ℕ) → IsValid n → IsKnown n → lines_say last (numbered 1 (net_lines n)) ≡ Ok (net_of n.model n.inputs (map (name_of (signal_names n)) n.outputs) (unplaced_gates (signal_names n) 4 n.gates))
+net_lines_say : (n : Network) (last : ℕ) → IsValid n → IsKnown n → lines_say last (numbered 1 (net_lines n)) ≡ Ok (net_of n.model n.inputs (map (name_of (signal_names n)) n.outputs) (map named (unplaced_gates (signal_names n) 4 n.gates)))
 net_lines_say n last v k =
     let names = signal_names n in
     let outs = map (λ gate. gate.out) n.gates in
@@ -139,7 +142,7 @@ net_lines_say n last v k =
     let reads : list_any (reads_unknown names) (net_said n) ≡ false = any_gates (reads_unknown names) names n.gates refl (λ r. refl) (pins_known names n.gates known) in
     let shows : list_any (shows_unknown names) (net_said n) ≡ false = rw (none_unknown names n.outputs k.outputs) (any_gates (shows_unknown names) names n.gates refl (λ r. refl) (none_shown names n.gates)) in
     let some : 0 < length shown = omega (arith, length-map n.outputs (name_of names), v.some_output) in
-    let order : placed n.inputs cs ≡ Ok cs =
+    let order : placed n.inputs cs ≡ cs =
     placed_in_order n.inputs cs (in_order names n.inputs (length n.inputs) 4 n.gates k.gates refl refl) (subst (λ (ws : List (List ℕ)). AreFresh n.inputs ws) (sym (outs_unplaced names 4 n.gates)) k.gate_apart) in
     whole last (numbered 1 (net_lines n)) (net_said n) n.model n.inputs shown outs cs
     (said_numbered 1 (net_lines n) ∙ said_net n)
@@ -153,20 +156,21 @@ net_lines_say n last v k =
     (first_none (shows_unknown names) 1 (net_lines n) (ap (list_any (shows_unknown names)) (said_net n) ∙ shows))
     (covers_net n)
     order
+    (all_placed cs)
 
 -- ---- the network again
 
-net_back : (n : Network) → IsKnown n → net_of n.model n.inputs (map (name_of (signal_names n)) n.outputs) (unplaced_gates (signal_names n) 4 n.gates) ≡ n
-unfolding net_of
+net_back : (n : Network) → IsKnown n → net_of n.model n.inputs (map (name_of (signal_names n)) n.outputs) (map named (unplaced_gates (signal_names n) 4 n.gates)) ≡ n
 net_back n k =
     let names = signal_names n in
     let cs = unplaced_gates names 4 n.gates in
     let same : n.inputs ++ outs cs ≡ names = ap (λ (ws : List (List ℕ)). n.inputs ++ ws) (outs_unplaced names 4 n.gates) in
     let made : List ℕ → List Gate → Network = λ o g. record { model = n.model; inputs = n.inputs; outputs = o; gates = g } in
-    ap (λ (ns : List (List ℕ)). made (map (λ o. place_of o ns) (map (name_of names) n.outputs)) (map (gate_of ns) cs)) same
+    net_named n.model n.inputs (map (name_of names) n.outputs) cs
+    ∙ ap (λ (ns : List (List ℕ)). made (map (λ o. place_of o ns) (map (name_of names) n.outputs)) (map (gate_in ns) cs)) same
     ∙ ap₂ made (places_back names n.outputs k.apart k.outputs) (gates_back names (length n.inputs) 4 n.gates k.apart k.gates (omega (arith, k.size)))
 
-pub says_again : (n : Network) → IsValid n → KeepsLimits n → blif_says Written (blif_text n) ≡ Ok n
+pub says_again : (n : Network) → IsValid n → KeepsLimits Written n → blif_says Written (blif_text n) ≡ Ok n
 unfolding blif_says blif_text
 says_again n v l =
     let k = known_of n v in

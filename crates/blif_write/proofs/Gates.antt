@@ -13,7 +13,8 @@ use Rattle.ae_net.specs.Blif.{name_of}
 use Rattle.ae_net.specs.Valid.{IsGate, IsDistinct}
 use Rattle.blif_read.specs.Words.{is_among}
 use Rattle.blif_read.specs.Placing.{outs}
-use Rattle.blif_read.specs.Says.{some_unknown, row_cube, is_on, gate_of}
+use Rattle.blif_read.specs.Says.{some_unknown, row_cube, is_on}
+use Rattle.blif_read.proofs.Nets.{gate_in}
 use Rattle.blif_read.proofs.Places.{AllBelow}
 use Rattle.blif_read.proofs.WrittenNames.{among_at, places_back}
 use Rattle.blif_read.proofs.WrittenPlacing.{IsInOrder}
@@ -87,7 +88,7 @@ outs_unplaced names k (gate ∷ gates) = ap (λ (ws : List (List ℕ)). gate.out
 
 -- ---- each is the gate again
 
-gate_back : (names : List (List ℕ)) (s k : ℕ) (gate : Gate) → IsDistinct names → IsGate s gate → s ≤ length names → gate_of names (unplaced_gate names k gate) ≡ gate
+gate_back : (names : List (List ℕ)) (s k : ℕ) (gate : Gate) → IsDistinct names → IsGate s gate → s ≤ length names → gate_in names (unplaced_gate names k gate) ≡ gate
 gate_back names s k gate apart valid le =
     let made : List ℕ → List Product → Bool → Gate = λ p r o. record { out = gate.out; pins = p; rows = r; on = o } in
     let wide : length (map (name_of names) gate.pins) ≡ length gate.pins = length-map gate.pins (name_of names) in
@@ -98,7 +99,7 @@ gate_back names s k gate apart valid le =
     ap (λ (p : List ℕ). made p (map (row_cube (length (map (name_of names) gate.pins))) chars) (is_on chars)) pins
     ∙ ap₂ (made gate.pins) rows on
 
-pub gates_back : (names : List (List ℕ)) (s k : ℕ) (gates : List Gate) → IsDistinct names → AreValid s gates → s + length gates ≤ length names → map (gate_of names) (unplaced_gates names k gates) ≡ gates
+pub gates_back : (names : List (List ℕ)) (s k : ℕ) (gates : List Gate) → IsDistinct names → AreValid s gates → s + length gates ≤ length names → map (gate_in names) (unplaced_gates names k gates) ≡ gates
 gates_back names s k [] apart valid few = refl
 gates_back names s k (gate ∷ gates) apart valid few =
     ap₂ (λ (g : Gate) (gs : List Gate). g ∷ gs) (gate_back names s k gate apart valid.0 (omega (arith, few))) (gates_back names (suc s) (after (suc k) gate.rows) gates apart valid.1 (omega (arith, few)))

@@ -17,7 +17,9 @@ use Rattle.blif_read.specs.declared.head.Head.TheVariants as head
 use Rattle.blif_read.specs.Statement.{Said, said, said_by, head_of}
 use Rattle.blif_read.specs.Statement.Said.{Model, Inputs, Outputs, Names, End, Row}
 use Rattle.blif_read.specs.Placing.{Unplaced}
-use Rattle.blif_read.specs.Says.{onto_rows, rows_at, cover_of, covers}
+use Rattle.blif_read.specs.Says.{rows_at, cover_of, covers}
+use Rattle.blif_read.specs.Step.{says_of}
+use Rattle.blif_read.specs.Build.{rows_of}
 use Rattle.blif_read.proofs.WrittenLines.{gate_name-snoc, pin_names-snoc}
 use Rattle.blif_write.proofs.Rows.{row_chars}
 
@@ -110,22 +112,22 @@ abbrev end_lines : List (List (List ℕ))
 end_lines = (codes ".end" ∷ []) ∷ []
 
 -- no row stands before the next gate or the end
-no_rows : (names : List (List ℕ)) (k : ℕ) (gates : List Gate) → rows_at (numbered k (flat_map (gate_lines names) gates ++ end_lines)) ≡ []
+no_rows : (names : List (List ℕ)) (k : ℕ) (gates : List Gate) → rows_of (numbered k (flat_map (gate_lines names) gates ++ end_lines)) ≡ []
 unfolding head_of
 no_rows names k [] = refl
 no_rows names k (gate ∷ gates) = refl
 
-rows_read : (m k : ℕ) (on : Bool) (rows : List Product) (rest : List (List (List ℕ))) → ((j : ℕ) → rows_at (numbered j rest) ≡ []) → rows_at (numbered m (map (row_words k on) rows ++ rest)) ≡ map (row_chars k on) rows
+rows_read : (m k : ℕ) (on : Bool) (rows : List Product) (rest : List (List (List ℕ))) → ((j : ℕ) → rows_of (numbered j rest) ≡ []) → rows_of (numbered m (map (row_words k on) rows ++ rest)) ≡ map (row_chars k on) rows
 rows_read m k on [] rest h = h m
 rows_read m k on (row ∷ rows) rest h =
-    ap (λ (s : Said). onto_rows s (rows_at (numbered (suc m) (map (row_words k on) rows ++ rest)))) (said_row k on row)
+    ap (λ (s : Said). rows_at (s ∷ says_of (numbered (suc m) (map (row_words k on) rows ++ rest)))) (said_row k on row)
     ∙ ap (λ (rs : List (List ℕ)). row_chars k on row ∷ rs) (rows_read (suc m) k on rows rest h)
 
 covers_rows : (m k : ℕ) (on : Bool) (rows : List Product) (rest : List (List (List ℕ))) → covers (numbered m (map (row_words k on) rows ++ rest)) ≡ covers (numbered (after m rows) rest)
 unfolding covers
 covers_rows m k on [] rest = refl
 covers_rows m k on (row ∷ rows) rest =
-    ap (λ (s : Said). cover_of m s (rows_at (numbered (suc m) (map (row_words k on) rows ++ rest))) ++ covers (numbered (suc m) (map (row_words k on) rows ++ rest))) (said_row k on row)
+    ap (λ (s : Said). cover_of m s (rows_of (numbered (suc m) (map (row_words k on) rows ++ rest))) ++ covers (numbered (suc m) (map (row_words k on) rows ++ rest))) (said_row k on row)
     ∙ covers_rows (suc m) k on rows rest
 
 cover_is : (names : List (List ℕ)) (k : ℕ) (gate : Gate) (rows : List (List ℕ)) → rows ≡ map (row_chars (length gate.pins) gate.on) gate.rows → cover_of k (said (codes ".names" ∷ gate_words names gate)) rows ≡ unplaced_gate names k gate ∷ []
@@ -139,7 +141,7 @@ covers_gates names k [] = refl
 covers_gates names k (gate ∷ gates) =
     let rest = flat_map (gate_lines names) gates ++ end_lines in
     let rows = map (row_words (length gate.pins) gate.on) gate.rows in
-    let read = rows_at (numbered (suc k) (rows ++ rest)) in
+    let read = rows_of (numbered (suc k) (rows ++ rest)) in
     ap (λ (ls : List (List (List ℕ))). covers (numbered k ls)) (append_assoc (gate_lines names gate) (flat_map (gate_lines names) gates) end_lines)
     ∙ ap (λ (cs : List Unplaced). cs ++ covers (numbered (suc k) (rows ++ rest))) (cover_is names k gate read (rows_read (suc k) (length gate.pins) gate.on gate.rows rest (λ j. no_rows names j gates)))
     ∙ ap (λ (cs : List Unplaced). unplaced_gate names k gate ∷ cs) (covers_rows (suc k) (length gate.pins) gate.on gate.rows rest ∙ covers_gates names (after (suc k) gate.rows) gates)

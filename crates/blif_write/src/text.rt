@@ -1,11 +1,16 @@
 //! A network as text (Berkeley Logic Interchange Format).
-ghost use Rattle.std.specs.Prelude.{◌≡◌, ◌<◌, ◌≤◌, ◌+◌, ◌++◌, [], ◌∷◌, length, map, All, OnOk, IfOk};
+ghost use Rattle.std.specs.Prelude.{◌≡◌, ◌<◌, ◌≤◌, ◌+◌, ◌++◌, [], ◌∷◌, length, map, All, Ok, OnOk, IfOk};
 ghost use Rattle.std.specs.List.{flat_map};
 ghost use Rattle.ae_net.specs.Network.{signals};
 ghost use Rattle.ae_base.specs.Text.{cube_text, text_of};
 ghost use Rattle.ae_base.specs.declared.limits.TheConstants.{PINS};
 ghost use Rattle.ae_net.specs.Blif as text;
+ghost use Rattle.ae_net.specs.Valid.{IsValid};
+ghost use Rattle.blif_read.specs.Limits.{KeepsLimits};
+ghost use Rattle.blif_read.specs.Says.{blif_says};
+ghost use Rattle.blif_read.specs.declared.fault.NetLimits.TheVariants.{Written};
 
+use crate::laws::said_again;
 use ae_base::{Cube, Memory, push_names, push_word};
 use ae_net::{Gate, Net, Sig};
 use std::alloc::Global;
@@ -94,10 +99,12 @@ fn push_gates(out: &mut Vec<u8>, net: &Net) -> Result<(), Memory>
 
 // Writes the lines before the gates.
 fn push_head(out: &mut Vec<u8>, net: &Net) -> Result<(), Memory>
-    ensures { OnOk result (out.new.items ≡ out.old.items ++ text_of (text.head_lines net.now)) }
+    ensures valid { IsValid net.now }
+    ensures text { OnOk result (out.new.items ≡ out.old.items ++ text_of (text.head_lines net.now)) }
 {
+    let model = net.model();
     out.extend_from_slice(b".model")?;
-    push_word(out, net.model().bytes())?;
+    push_word(out, model.bytes())?;
     out.extend_from_slice(b"\n.inputs")?;
     push_names(out, net.inputs())?;
     out.extend_from_slice(b"\n.outputs")?;
@@ -106,14 +113,17 @@ fn push_head(out: &mut Vec<u8>, net: &Net) -> Result<(), Memory>
     Ok(())
 }
 
-/// The text of a network: its model, inputs and outputs, each gate with its rows in list order, and the end. `Memory` is the one error.
+/// The text of a network: its model, inputs and outputs, each gate with its rows in list order, and the end. It says that network again.
+/// `Memory` is the one error.
 #[tactic(auto, unfolding(ae_net::specs::Blif::blif_text))]
 pub fn blif_text(alloc: Global, net: &Net) -> Result<Vec<u8>, Memory>
-    ensures { IfOk result (λ bytes. bytes.items ≡ text.blif_text net.now) }
+    ensures text { IfOk result (λ bytes. bytes.items ≡ text.blif_text net.now) }
+    ensures said { KeepsLimits Written net.now → IfOk result (λ bytes. blif_says Written bytes.items ≡ Ok net.now) }
 {
     let mut out = Vec::new(alloc);
     push_head(&mut out, net)?;
     push_gates(&mut out, net)?;
     out.extend_from_slice(b".end\n")?;
+    said_again();
     Ok(out)
 }

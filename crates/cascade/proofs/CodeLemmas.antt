@@ -14,12 +14,12 @@ use Rattle.std.proofs.lemmas.Bool.{cases_eq}
 use Rattle.expansion.specs.Terms.{Terms}
 use Rattle.ae_net.specs.Gates.{exor}
 use Rattle.cascade.specs.Reddy.{lines, term_signal}
-use Rattle.std.proofs.Common.{not, ap₂}
+use Rattle.std.proofs.Common.{not}
 use Rattle.std.proofs.lemmas.List.Elements.{All-from_recursion, recursion_from_All}
 use Rattle.std.proofs.lemmas.List.Concat.{length-flat_map}
 use Rattle.ae_base.specs.Mask.{empty}
 use Rattle.expansion.specs.Terms.{cost}
-use Rattle.cascade.specs.Reddy.{start, rest, chain, chains, ends, inner_gates}
+use Rattle.cascade.specs.Reddy.{rest, inner_gates}
 use Rattle.cascade.proofs.Lists.{length_filter_le}
 use Rattle.cascade.proofs.NamesApart.{all_inner}
 use Rattle.cascade.proofs.Valid.{each_filter, few_of_all}
@@ -109,29 +109,6 @@ rest_inside n ts h = All-from_recursion _ (rest ts) (each_filter (λ t. inside t
 
 pub length_rest_le : (ts : List Set) → length (rest ts) ≤ length ts
 length_rest_le ts = length_filter_le (λ t. not (eqb t empty)) ts
-
--- one more output
-pub chains_more : (k : ℕ) (e : Terms) (x i o inner' : ℕ) (tss : List (List Set)) (outs : List (List ℕ)) (ts : List Set) (out : List ℕ) (now new all : List Gate) → o < length tss → length tss ≡ length outs
-    → ts ≡ get_or tss o ts → out ≡ get_or outs o out → inner' ≡ inner_gates ts → new ≡ now ++ chain k e out x i (start e ts) (rest ts)
-    → now ++ chains k e x i (drop o tss) (drop o outs) ≡ all → new ++ chains k e (x + inner') (i + (inner' + 1)) (drop (o + 1) tss) (drop (o + 1) outs) ≡ all
-chains_more k e x i o inner' tss outs ts out now new all l same ts_is out_is inner_is new_is h =
-    let z : i + (inner' + 1) ≡ suc (i + inner_gates ts) = omega (arith, inner_is) in
-    let one : chains k e x i (drop o tss) (drop o outs) ≡ chain k e out x i (start e ts) (rest ts) ++ chains k e (x + inner_gates ts) (suc (i + inner_gates ts)) (drop (suc o) tss) (drop (suc o) outs) =
-    ap₂ (chains k e x i) (drop-cons tss o ts l ∙ ap (λ t. t ∷ drop (suc o) tss) (sym ts_is)) (drop-cons outs o out (omega (arith, same)) ∙ ap (λ t. t ∷ drop (suc o) outs) (sym out_is)) in
-    rw (new_is, z, inner_is, add-one o) (append_assoc now (chain k e out x i (start e ts) (rest ts)) _ ∙ sym (ap (λ rest'. now ++ rest') one) ∙ h)
-
-pub ends_more : (e : Terms) (i o inner' : ℕ) (tss : List (List Set)) (ts : List Set) (now new all : List ℕ) → o < length tss → ts ≡ get_or tss o ts → inner' ≡ inner_gates ts → new ≡ now ++ (e.polarity.n + 1 + (i + inner')) ∷ []
-    → now ++ ends e i (drop o tss) ≡ all → new ++ ends e (i + (inner' + 1)) (drop (o + 1) tss) ≡ all
-ends_more e i o inner' tss ts now new all l ts_is inner_is new_is h =
-    let z : i + (inner' + 1) ≡ suc (i + inner_gates ts) = omega (arith, inner_is) in
-    let y : e.polarity.n + 1 + (i + inner') ≡ lines e + (i + inner_gates ts) = omega (arith, inner_is) in
-    let one : ends e i (drop o tss) ≡ (lines e + (i + inner_gates ts)) ∷ ends e (suc (i + inner_gates ts)) (drop (suc o) tss) =
-    ap (ends e i) (drop-cons tss o ts l ∙ ap (λ t. t ∷ drop (suc o) tss) (sym ts_is)) in
-    rw (new_is, y, z, add-one o) (append_assoc now ((lines e + (i + inner_gates ts)) ∷ []) _ ∙ sym (ap (λ rest'. now ++ rest') one) ∙ h)
-
-pub inner_more : (o inner' : ℕ) (tss : List (List Set)) (ts : List Set) → o < length tss → ts ≡ get_or tss o ts → inner' ≡ inner_gates ts → all_inner (drop o tss) ≡ inner' + all_inner (drop (o + 1) tss)
-inner_more o inner' tss ts l ts_is inner_is =
-    rw (inner_is, add-one o) (ap all_inner (drop-cons tss o ts l ∙ ap (λ t. t ∷ drop (suc o) tss) (sym ts_is)))
 
 length_at_le : (tss : List (List Set)) (o : ℕ) (d : List Set) → o < length tss → length (get_or tss o d) ≤ length (flat_map (λ ts. ts) tss)
 length_at_le [] o d l = absurd (omega (arith, l))

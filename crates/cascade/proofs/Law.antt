@@ -151,10 +151,6 @@ product-empty e x = none_all (λ j. literal e.polarity j x) (members empty) (sym
 rest_all : (ts : List Set) → AllByRecursion (λ t. t ≢ empty) ts → rest ts ≡ ts
 rest_all ts h = filter_all (λ t. not (eqb t empty)) ts (each_weaker (λ t. t ≢ empty) (λ t. not (eqb t empty) ≡ true) (λ t some. ap not (ne_eqb t empty some)) ts h)
 
-no_one : (ts : List Set) → AllByRecursion (λ t. t ≢ empty) ts → has_one ts ≡ false
-no_one [] h = refl
-no_one (t ∷ ts) (h, hs) = rw (ne_eqb t empty h) (no_one ts hs)
-
 later_terms : (t : Set) (ts : List Set) → IsInOrder (t ∷ ts) → t ≡ empty → AllByRecursion (λ u. u ≢ empty) ts
 later_terms t ts order e0 =
     recursion_from_All _ ts (λ i d l same. less_not_equal (ap (cmp_terms t) (e0 ∙ sym same) ∙ order 0 (suc i) d (omega arith) (omega (arith, l))))

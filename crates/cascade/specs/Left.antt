@@ -1,4 +1,4 @@
--- What the loops of the builder have left to do.
+-- What the loops of the builder have left to do. For private contracts alone.
 use Rattle.std.specs.Prelude.{ℕ, List, [], ◌∷◌}
 use Rattle.ae_base.specs.Mask.{Set}
 use Rattle.ae_net.specs.declared.net.Gate.{Gate}

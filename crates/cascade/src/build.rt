@@ -5,8 +5,9 @@ ghost use Rattle.ae_net.specs.Lead as lead_spec;
 ghost use Rattle.cascade.specs.Plan.{IsPlan, AreOver};
 ghost use Rattle.cascade.specs.Reddy as spec;
 ghost use Rattle.cascade.specs.Reddy.{reddy_net};
-ghost use Rattle.cascade.specs.Shows.{Fits};
+ghost use Rattle.cascade.specs.Shows.{Fits, CanBuild, ShowsFunctions, ShowsComplements};
 
+use crate::laws::reddy_law;
 use crate::limits::REDDY_TERMS;
 use crate::parts::{push_ands, push_chain, push_control, push_inverters};
 use crate::signals::{Plan, start};
@@ -144,7 +145,8 @@ fn reddy_with(alloc: Global, lead: u32, names: &NetNames, e: &Expansion) -> Resu
     requires short { lead ≤ SOURCE_NAME_BYTES + 1 }
     requires fits { Fits names.now e.now }
     requires cheap { cost e.now ≤ REDDY_TERMS }
-    ensures { IfOk result (λ net. net ≡ reddy_net names.now e.now) }
+    ensures net { IfOk result (λ net. net ≡ reddy_net names.now e.now) }
+    ensures built { OnOk result (CanBuild names.now e.now) }
 {
     let plan = plan(alloc, lead, e)?;
     let control = letter_name(alloc, lead, b'c')?;
@@ -162,11 +164,16 @@ fn reddy_with(alloc: Global, lead: u32, names: &NetNames, e: &Expansion) -> Resu
 
 /// The Reddy network of expansions, with the names of a source: the cascade of Reddy (1972), for several outputs, with an inverter for
 /// each used input that is complemented. Its last input is the control. With the control at 0 each output is its function, and with it at
-/// 1 the complement (`reddy_law`). The expansions fit the names, and have at most `REDDY_TERMS` terms in all.
+/// 1 the complement; `reddy_law` says the same of the definition. The expansions fit the names, and have at most `REDDY_TERMS` terms in
+/// all.
 pub fn reddy(alloc: Global, names: &NetNames, e: &Expansion) -> Result<Net, Memory>
     requires fits { Fits names.now e.now }
     requires cheap { cost e.now ≤ REDDY_TERMS }
-    ensures { IfOk result (λ net. net ≡ reddy_net names.now e.now) }
+    ensures net { IfOk result (λ net. net ≡ reddy_net names.now e.now) }
+    ensures functions { IfOk result (λ net. ShowsFunctions net e.now) }
+    ensures complements { IfOk result (λ net. ShowsComplements net e.now) }
 {
-    reddy_with(alloc, lead(names), names, e)
+    let net = reddy_with(alloc, lead(names), names, e)?;
+    reddy_law();
+    Ok(net)
 }

@@ -1,4 +1,4 @@
--- Words of private contracts alone.
+-- What the store keeps at each step. For private contracts alone.
 use Rattle.std.specs.Prelude.{◌≡◌, ◌≢◌, ℕ, zero, suc, Bool, true, not, if◌then◌else◌, ◌&&◌, ◌||◌, ◌⊎◌, List, [], ◌∷◌, ◌++◌}
 use Rattle.std.specs.List.{list_all}
 use Rattle.ae_base.specs.Mask.{Set, has, first, inside}

@@ -1,5 +1,5 @@
 -- The vectors of even inputs as the code adds them.
-use Rattle.std.proofs.Common.{◌≡◌, ℕ, suc, ◌+◌, ◌%◌, ◌<◌, ◌≤◌, Bool, true, false, not, ◌&&◌, ◌||◌, List, [], ◌∷◌, ◌++◌, length, get_or, drop, refl, sym, ap, ap₂, ◌∙◌, arith, eqb, ne_eqb, ltb, append-nil, append_assoc}
+use Rattle.std.proofs.Common.{◌≡◌, ℕ, suc, ◌+◌, ◌%◌, ◌<◌, ◌≤◌, Bool, true, false, ◌||◌, List, [], ◌∷◌, ◌++◌, length, get_or, drop, refl, sym, ap, ap₂, ◌∙◌, arith, eqb, ne_eqb, append-nil, append_assoc}
 use Rattle.std.specs.Prelude.{All, count_by, filter, Option, Some, None}
 use Rattle.std.specs.List.{find, flat_map, list_any, range_with_len, AllByRecursion}
 use Rattle.std.specs.Option.{option_or}
@@ -9,17 +9,17 @@ use Rattle.std.proofs.lemmas.List.Elements.{All-from_recursion}
 use Rattle.std.proofs.lemmas.List.Folds.{find-append}
 use Rattle.std.proofs.lemmas.Bool.{le-ltb}
 use Rattle.std.proofs.Math.Bool.{or_assoc}
-use Rattle.ae_base.specs.Mask.{Set, differ, has, empty, with, first, inside, both, either, xor, members}
+use Rattle.ae_base.specs.Mask.{Set, differ, has, empty, with, first, inside, either, xor, members}
 use Rattle.ae_base.specs.Cube.{Signs}
 use Rattle.ae_base.specs.Terms.{IsPoint, exor_of}
 use Rattle.ae_base.proofs.Members.{members-filter, members-has}
-use Rattle.ae_base.proofs.Sets.{same_set, has-both, has-xor, has-either, inside-below, inside-from, inside-above}
+use Rattle.ae_base.proofs.Sets.{has-xor, has-either, inside-below, inside-from, inside-above}
 use Rattle.ae_base.proofs.Truth.{differ-assoc, differ-false}
 use Rattle.ae_net.specs.Valid.{IsDistinct}
 use Rattle.ae_net.proofs.Distinct.{AllPairs-from_Distinct, each-append}
-use Rattle.expansion.specs.Even.{is_odd, even_inputs}
-use Rattle.expansion.specs.Terms.{Terms, IsTerms, is_used, used_inputs}
-use Rattle.expansion.proofs.Even.{has-even, has-used}
+use Rattle.expansion.specs.Even.{even_inputs}
+use Rattle.expansion.specs.Terms.{Terms, IsTerms, used_inputs}
+use Rattle.expansion.proofs.Even.{has-even}
 use Rattle.expansion.proofs.Lists.{odd_count}
 use Rattle.cascade.specs.FirstVectors.{literals_at, without_repeats}
 use Rattle.cascade.proofs.CodeLemmas.{filter_range_more}
@@ -30,20 +30,6 @@ use Rattle.cascade.proofs.VectorLemmas.{add_last, added, each_once, has-literals
 use Rattle.input_tests.specs.Added.{all_added}
 use Rattle.input_tests.specs.Inputs.{first_term, term_high, term_but, pair_at, input_vectors_of}
 use Rattle.input_tests.proofs.FirstTerm.{find_member, has-high, has-but}
-
-pub even_of : (e : Terms) (odd : Set) → ((j : ℕ) → has odd j ≡ is_odd e j) → xor (used_inputs e) (both (used_inputs e) odd) ≡ even_inputs e
-even_of e odd is =
-    same_set _ _ (λ k.
-    has-xor (used_inputs e) (both (used_inputs e) odd) k
-    ∙ ap₂ differ (has-used e k) (has-both (used_inputs e) odd k ∙ ap₂ (λ a b. a && b) (has-used e k) (is k))
-    ∙ by (ltb k e.polarity.n) (is_used e k) (is_odd e k)
-    ∙ sym (has-even e k))
-  where
-    by : (below used odd : Bool) → differ (below && used) ((below && used) && odd) ≡ (below && (used && not odd))
-    by true true true = refl
-    by true true false = refl
-    by true false odd = refl
-    by false used odd = refl
 
 -- ---- adding
 

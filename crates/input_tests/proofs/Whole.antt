@@ -5,7 +5,7 @@ use Rattle.std.specs.List.{flat_map, list_any}
 use Rattle.std.proofs.lemmas.Bool.{cases_Bool, cases_lt, false≢true, lt-ltb, or_cases, or_left, or_right}
 use Rattle.std.proofs.lemmas.List.Elements.{Contains-append_left}
 use Rattle.std.proofs.lemmas.List.Folds.{list_any-append}
-use Rattle.ae_base.specs.Mask.{Set, has, members}
+use Rattle.ae_base.specs.Mask.{Set, has, len, members}
 use Rattle.ae_base.proofs.Members.{len-members, members-has}
 use Rattle.ae_net.specs.declared.net.Place.{Place}
 use Rattle.ae_net.specs.declared.net.Place.TheVariants.{Stem, Pin, Port}
@@ -13,7 +13,6 @@ use Rattle.ae_net.specs.Faults.{IsPlace, is_read}
 use Rattle.ae_net.specs.Names.{Names}
 use Rattle.expansion.specs.Even.{is_odd, even_inputs}
 use Rattle.expansion.specs.Terms.{Terms, is_used, used_inputs}
-use Rattle.cascade.specs.FirstVectors.{without_repeats}
 use Rattle.cascade.specs.Reddy.{lines, turned, reddy_net}
 use Rattle.cascade.specs.Shows.{CanBuild}
 use Rattle.cascade.proofs.Lists.{any_kept, length_filter_le}
@@ -28,7 +27,8 @@ use Rattle.universal_tests.proofs.Line.{Inverts}
 use Rattle.universal_tests.proofs.TwoRuns.{inputs_are}
 use Rattle.universal_tests.proofs.Whole.{inverts, detects}
 use Rattle.input_tests.specs.Inputs.{first_term, term_high, term_but, pair_at, input_vectors_of}
-use Rattle.input_tests.specs.Whole.{new_ones, cascade_tests, vector_bound, DetectsAll}
+use Rattle.input_tests.specs.Complete.{DetectsAll}
+use Rattle.input_tests.specs.Whole.{new_ones, cascade_tests, vector_bound}
 use Rattle.expansion.proofs.Even.{has-even}
 use Rattle.input_tests.proofs.FirstTerm.{FirstAt, pair, at, own, tells}
 use Rattle.input_tests.proofs.Reading.{read_used}
@@ -139,17 +139,21 @@ pairs_few e (j ∷ js) = omega (arith, length-append (pair_at e.polarity (used_i
     two None = omega arith
     two (Some t) = omega arith
 
+-- at most two vectors for each even input
+pub two_each : (e : Terms) → length (input_vectors_of e) ≤ 2 * len (even_inputs e)
+unfolding input_vectors_of
+two_each e =
+    let pairs = flat_map (λ j. pair_at e.polarity (used_inputs e) j (first_term e j)) (members (even_inputs e)) in
+    omega (arith, length_once_le pairs, pairs_few e (members (even_inputs e)), len-members (even_inputs e))
+
 pub few : (e : Terms) → length (cascade_tests e) ≤ vector_bound e.polarity.n (even_inputs e)
-unfolding cascade_tests input_vectors_of
+unfolding cascade_tests
 few e =
     let universal = universal_vectors e.polarity (used_inputs e) in
-    let pairs = flat_map (λ j. pair_at e.polarity (used_inputs e) j (first_term e j)) (members (even_inputs e)) in
     omega (
       arith,
-      length-append universal (new_ones universal (without_repeats pairs)),
-      length_filter_le (λ y. not (list_any (λ x. eqb x y) universal)) (without_repeats pairs),
-      length_once_le pairs,
-      pairs_few e (members (even_inputs e)),
-      len-members (even_inputs e),
+      length-append universal (new_ones universal (input_vectors_of e)),
+      length_filter_le (λ y. not (list_any (λ x. eqb x y) universal)) (input_vectors_of e),
+      two_each e,
       universal_few e,
     )

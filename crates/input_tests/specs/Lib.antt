@@ -1,3 +1,4 @@
 pub mod Added
+pub mod Complete
 pub mod Inputs
 pub mod Whole

@@ -1,12 +1,8 @@
--- The vectors of the Reddy form that detect every fault.
+-- The vectors of the cascade, and how many they are at most.
 use Rattle.std.specs.Prelude.{ℕ, ◌+◌, ◌*◌, ◌==◌, not, List, ◌++◌, filter}
 use Rattle.std.specs.List.{list_any}
 use Rattle.ae_base.specs.Mask.{Set, len}
-use Rattle.ae_net.specs.declared.net.Fault.{Fault}
-use Rattle.ae_net.specs.Faults.{IsPlace}
-use Rattle.ae_net.specs.Network.{Network}
 use Rattle.expansion.specs.Terms.{Terms, used_inputs}
-use Rattle.universal_tests.specs.Sites.{IsDetected}
 use Rattle.universal_tests.specs.Universal.{universal_vectors}
 use Rattle.input_tests.specs.Inputs.{input_vectors_of}
 
@@ -23,7 +19,3 @@ cascade_tests e =
 -- the number n of inputs, 4, and two for each even input
 abbrev pub vector_bound : ℕ → Set → ℕ
 vector_bound n evens = n + 4 + 2 * len evens
-
--- each fault at a site is detected
-abbrev pub DetectsAll : Network → List Set → Type 0
-DetectsAll n xs = (fault : Fault) → IsPlace n fault.place → IsDetected n xs fault

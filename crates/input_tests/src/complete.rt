@@ -6,11 +6,12 @@ ghost use Rattle.ae_net.specs.Valid.{IsDistinct};
 ghost use Rattle.cascade.specs.Reddy.{reddy_net};
 ghost use Rattle.cascade.specs.Shows.{CanBuild};
 ghost use Rattle.expansion.specs.Even.{even_inputs};
-ghost use Rattle.input_tests.specs.Whole.{cascade_tests, new_ones, vector_bound, DetectsAll};
+ghost use Rattle.input_tests.specs.Complete.{DetectsAll};
+ghost use Rattle.input_tests.specs.Whole.{cascade_tests, new_ones, vector_bound};
 
 use crate::laws::input_law;
 use crate::vectors::input_vectors;
-use ae_base::{Memory, Point};
+use ae_base::{Memory, Point, WIDTH};
 use cascade::push_new;
 use expansion::Expansion;
 use std::alloc::Global;
@@ -37,6 +38,8 @@ pub fn cascade_vectors(alloc: Global, e: &Expansion) -> Result<Vec<Point>, Memor
     ensures complete { IfOk result (λ list. (names : Names) → CanBuild names e.now → DetectsAll (reddy_net names e.now) list.items) }
     ensures few { IfOk result (λ list. length list.items ≤ vector_bound e.now.polarity.n (even_inputs e.now)) }
 {
+    let control = e.inputs();
+    prove!(control < WIDTH);
     let mut list = universal(alloc, e)?;
     let others = input_vectors(alloc, e)?;
     push_others(&mut list, &others)?;

@@ -5,7 +5,8 @@ ghost use Rattle.cascade.specs.Reddy.{reddy_net};
 ghost use Rattle.cascade.specs.Shows.{CanBuild};
 ghost use Rattle.expansion.specs.Even.{even_inputs};
 ghost use Rattle.expansion.specs.Terms.{Terms};
-ghost use Rattle.input_tests.specs.Whole.{cascade_tests, vector_bound, DetectsAll};
+ghost use Rattle.input_tests.specs.Complete.{DetectsAll};
+ghost use Rattle.input_tests.specs.Whole.{cascade_tests, vector_bound};
 
 /// On the Reddy network of expansions every stuck-at fault is detected by some of the universal vectors and the vectors of the even
 /// inputs. Together they are no more than the number of inputs, 4, and two for each even input.

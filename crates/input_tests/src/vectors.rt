@@ -1,8 +1,8 @@
 //! The vectors of even inputs.
-ghost use Rattle.std.specs.Prelude.{◌≡◌, ◌<◌, ◌+◌, ◌==◌, ◌%◌, ℕ, false, ◌++◌, IfOk, OnOk, All, count_by};
+ghost use Rattle.std.specs.Prelude.{◌≡◌, ◌<◌, ◌≤◌, ◌+◌, ◌*◌, ◌==◌, ◌%◌, ℕ, false, ◌++◌, IfOk, OnOk, All, count_by, length};
 ghost use Rattle.std.specs.List.{find};
 ghost use Rattle.ae_base.specs.declared.limits.TheConstants.{WIDTH};
-ghost use Rattle.ae_base.specs.Mask.{has};
+ghost use Rattle.ae_base.specs.Mask.{has, len};
 ghost use Rattle.ae_base.specs.Terms.{IsPoint};
 ghost use Rattle.ae_net.specs.Names.{Names};
 ghost use Rattle.ae_net.specs.Valid.{IsDistinct};
@@ -12,9 +12,10 @@ ghost use Rattle.cascade.specs.Shows.{CanBuild};
 ghost use Rattle.expansion.specs.Even.{is_odd, even_inputs};
 ghost use Rattle.expansion.specs.Terms.{used_inputs};
 ghost use Rattle.input_tests.specs.Added.{all_added};
+ghost use Rattle.input_tests.specs.Complete.{DetectsAll};
 ghost use Rattle.input_tests.specs.Inputs as spec;
 ghost use Rattle.input_tests.specs.Inputs.{pair_at};
-ghost use Rattle.input_tests.specs.Whole.{new_ones, DetectsAll};
+ghost use Rattle.input_tests.specs.Whole.{new_ones};
 ghost use Rattle.universal_tests.specs.Universal.{universal_vectors};
 
 use crate::laws::input_law;
@@ -65,7 +66,6 @@ fn odd_inputs(e: &Expansion) -> Mask
 }
 
 /// The used inputs that no output's expansion holds an odd number of times.
-#[tactic(auto, using(crate::proofs::CodeLemmas::even_of))]
 fn even_inputs(e: &Expansion) -> Mask
     ensures { result ≡ even_inputs e.now }
 {
@@ -87,13 +87,17 @@ fn push_pair(list: &mut Vec<Point>, e: &Expansion, low: Point, j: u32) -> Result
     Ok(())
 }
 
-/// The two vectors of each even input in order, each once, over n + 1 inputs, the last of which is the control; n is the number of inputs.
+/// The two vectors of each even input in order, each once, over n + 1 inputs, the last of which is the control; n is the number of inputs,
+/// and a `Mask` has to be able to hold it. They are at most two for each even input.
+///
 /// An input is even where some term holds it and no output's expansion holds it an odd number of times. T being the first term that holds
 /// it, of the first output whose expansion does, the one vector has the literals of T at 1 and those of the other used inputs at 0, and
 /// the other has the even input's own literal at 0 too. Unused inputs and the control are 0 in both. With the universal vectors these
 /// detect every stuck-at fault of the Reddy network.
 pub fn input_vectors(alloc: Global, e: &Expansion) -> Result<Vec<Point>, Memory>
+    requires control { e.now.polarity.n < WIDTH }
     ensures vectors { IfOk result (λ list. list.items ≡ spec.input_vectors_of e.now) }
+    ensures few { IfOk result (λ list. length list.items ≤ 2 * len (even_inputs e.now)) }
     ensures distinct { IfOk result (λ list. IsDistinct list.items) }
     ensures points { IfOk result (λ list. All (IsPoint (e.now.polarity.n + 1)) list.items) }
     ensures complete { IfOk result (λ list. (names : Names) → CanBuild names e.now

@@ -1,4 +1,5 @@
 pub mod Defaults
+mod Examples
 pub mod Labels
 pub mod Reading
 pub mod Rows

@@ -1,76 +1,132 @@
 -- What is seen with one more line.
-use Rattle.std.proofs.Common.{◌≡◌, ℕ, suc, Bool, true, false, eqb, cond, List, [], ◌∷◌, ◌++◌, length, map, Option, Some, None, refl, ap, ◌∙◌, arith}
-use Rattle.std.specs.Prelude.{unwrap_or, option_map}
+use Rattle.std.proofs.Common.{◌≡◌, suc, Bool, true, false, not, eqb, cond, List, [], ◌∷◌, ◌++◌, length, map, drop, codes, Option, Some, None, refl, ap, ◌∙◌, inl, inr, arith}
+use Rattle.std.specs.Prelude.{unwrap_or, option_map, filter, slice_index}
+use Rattle.std.specs.List.{find}
 use Rattle.std.specs.Option.{option_or}
+use Rattle.std.specs.Str.{bytes_eq}
+use Rattle.std.proofs.lemmas.Bool.{ne_eqb, cases_Bool}
 use Rattle.std.proofs.lemmas.List.{append-nil, map-append}
+use Rattle.std.proofs.lemmas.List.Elements.{filter-append}
+use Rattle.std.proofs.lemmas.List.Folds.{find-append}
+use Rattle.std.proofs.lemmas.Slice.Eq.{bytes_eq-Decides}
 use Rattle.ae_lex.specs.First.{first_of}
-use Rattle.pla_read.specs.Words.{Word, number, kind, row_of, same_header}
-use Rattle.pla_read.specs.Pla.{Seen, Statement, Heads, Holds, faults, seen, args_of, rows_of}
+use Rattle.pla_read.specs.Words.{Word, first, heads, is_row, joined, number, kind, row_of}
+use Rattle.pla_read.specs.Pla.{Seen, faults, seen}
 use Rattle.pla_read.specs.Step.{with_line}
 use Rattle.pla_read.specs.declared.fault.PlaFault.TheVariants.{Late}
-use Rattle.std.proofs.lemmas.Bool.{ne_eqb}
-use Rattle.pla_read.specs.declared.header.Header.{Header}
-use Rattle.pla_read.specs.declared.header.Header.TheVariants as header
 
--- what these words after the headers and these rows say
-abbrev seen_by : Option (List Word) → Option (List Word) → Option (List Word) → Option (List Word) → Option (List Word) → List (List ℕ) → Seen
-seen_by inputs outputs input_names output_names type rows =
+-- ---- a line has one header at most
+
+first_is : (h : Word) (line : List Word) → heads h line ≡ true → first line ≡ h
+first_is h line e = (bytes_eq-Decides (first line) h).0 e
+
+-- a line with a header has no other
+other : (h k : Word) (line : List Word) → heads h line ≡ true → bytes_eq h k ≡ false → heads k line ≡ false
+other h k line e apart = ap (λ (w : Word). bytes_eq w k) (first_is h line e) ∙ apart
+
+no_row : (h : Word) (line : List Word) → heads h line ≡ true → not (eqb (slice_index h 0) 46) ≡ false → is_row line ≡ false
+no_row h line e dot = ap (λ (w : Word). not (eqb (slice_index w 0) 46)) (first_is h line e) ∙ dot
+
+-- ---- one more line
+
+-- what is seen where these lines are the first with their headers, and these are the rows
+abbrev seen_by : Option (List Word) → Option (List Word) → Option (List Word) → Option (List Word) → Option (List Word) → List (List Word) → Seen
+seen_by i o x y t rows =
     record {
-      inputs = option_map number inputs;
-      outputs = option_map number outputs;
-      input_names = input_names;
-      output_names = output_names;
-      kind = option_map kind type;
-      rows = map (row_of (unwrap_or (option_map number inputs) 0)) rows;
+      inputs = option_map number (option_map (drop 1) i);
+      outputs = option_map number (option_map (drop 1) o);
+      input_names = option_map (drop 1) x;
+      output_names = option_map (drop 1) y;
+      kind = option_map kind (option_map (drop 1) t);
+      rows = map (λ line. row_of (unwrap_or (option_map number (option_map (drop 1) i)) 0) (joined line)) rows;
     }
 
 or_none : {X : Type 0} (o : Option X) → option_or o None ≡ o
 or_none None = refl
 or_none (Some x) = refl
 
-args_cond : (b : Bool) (words : List Word) (rest later : Option (List Word)) → cond b (Some words) (option_or rest later) ≡ option_or (cond b (Some words) rest) later
-args_cond true words rest later = refl
-args_cond false words rest later = refl
+abbrev one : Bool → List Word → Option (List Word)
+one b line = cond b (Some line) None
 
-args_push : (h : Header) (before : List Statement) (line : Statement) → args_of h (before ++ line ∷ []) ≡ option_or (args_of h before) (args_of h (line ∷ []))
-args_push h [] line = refl
-args_push h (Heads g words ∷ before) line = ap (λ (o : Option (List Word)). cond (same_header g h) (Some words) o) (args_push h before line) ∙ args_cond (same_header g h) words (args_of h before) (args_of h (line ∷ []))
-args_push h (Holds chars ∷ before) line = args_push h before line
+abbrev more : (i o x y t : Option (List Word)) (rows : List (List Word)) (line : List Word) → Seen
+more i o x y t rows line =
+    seen_by (option_or i (one (heads (codes ".i") line) line)) (option_or o (one (heads (codes ".o") line) line)) (option_or x (one (heads (codes ".ilb") line) line))
+    (option_or y (one (heads (codes ".ob") line) line)) (option_or t (one (heads (codes ".type") line) line)) (rows ++ cond (is_row line) (line ∷ []) [])
 
-rows_push : (before : List Statement) (line : Statement) → rows_of (before ++ line ∷ []) ≡ rows_of before ++ rows_of (line ∷ [])
-rows_push [] line = refl
-rows_push (Heads g words ∷ before) line = rows_push before line
-rows_push (Holds chars ∷ before) line = ap (λ (rows : List (List ℕ)). chars ∷ rows) (rows_push before line)
+-- what is claimed of one more line
+abbrev Steps : (i o x y t : Option (List Word)) (rows : List (List Word)) (line : List Word) → Type 0
+Steps i o x y t rows line = first_of (faults (seen_by i o x y t rows) line) ≡ None → more i o x y t rows line ≡ with_line (seen_by i o x y t rows) line
 
-abbrev with_more : Option (List Word) → Option (List Word) → Option (List Word) → Option (List Word) → Option (List Word) → List (List ℕ) → Statement → Seen
-with_more i o x y t rows line =
-    seen_by (option_or i (args_of header.Inputs (line ∷ []))) (option_or o (args_of header.Outputs (line ∷ []))) (option_or x (args_of header.InputNames (line ∷ [])))
-    (option_or y (args_of header.OutputNames (line ∷ []))) (option_or t (args_of header.Type (line ∷ []))) (rows ++ rows_of (line ∷ []))
+step_inputs : (i o x y t : Option (List Word)) (rows : List (List Word)) (line : List Word) → heads (codes ".i") line ≡ true → Steps i o x y t rows line
+unfolding faults with_line
+step_inputs None o x y t [] line e h =
+    rw (e, other (codes ".i") (codes ".o") line e refl, other (codes ".i") (codes ".ilb") line e refl, other (codes ".i") (codes ".ob") line e refl, other (codes ".i") (codes ".type") line e refl, no_row (codes ".i") line e refl, or_none o, or_none x, or_none y, or_none t)
+    refl
+step_inputs None o x y t (r ∷ rs) line e h =
+    let some : eqb (suc (length (map (λ line. row_of 0 (joined line)) rs))) 0 ≡ false = ne_eqb (suc (length (map (λ line. row_of 0 (joined line)) rs))) 0 (λ e. omega (arith, e)) in
+    let late = rw (e, some) at h in
+    absurd (let apart : Some Late ≡ None = late in cc)
+step_inputs (Some ws) o x y t rows line e h = let late = rw e at h in absurd (let apart : Some Late ≡ None = late in cc)
 
-step : (i o x y t : Option (List Word)) (rows : List (List ℕ)) (line : Statement) → first_of (faults (seen_by i o x y t rows) line) ≡ None → with_more i o x y t rows line ≡ with_line (seen_by i o x y t rows) line
-step None o x y t [] (Heads header.Inputs words) h = rw (or_none o, or_none x, or_none y, or_none t) refl
-step None o x y t (r ∷ rs) (Heads header.Inputs words) h =
-    let some : eqb (suc (length (map (row_of 0) rs))) 0 ≡ false = ne_eqb (suc (length (map (row_of 0) rs))) 0 (λ e. omega (arith, e)) in
-    let clash = rw some at h in
-    absurd (let apart : Some Late ≡ None = clash in cc)
-step (Some ws) o x y t rows (Heads header.Inputs words) h = absurd cc
-step i None x y t rows (Heads header.Outputs words) h = rw (or_none i, or_none x, or_none y, or_none t, append-nil rows) refl
-step i (Some ws) x y t rows (Heads header.Outputs words) h = absurd cc
-step i o None y t rows (Heads header.InputNames words) h = rw (or_none i, or_none o, or_none y, or_none t, append-nil rows) refl
-step i o (Some ws) y t rows (Heads header.InputNames words) h = absurd cc
-step i o x None t rows (Heads header.OutputNames words) h = rw (or_none i, or_none o, or_none x, or_none t, append-nil rows) refl
-step i o x (Some ws) t rows (Heads header.OutputNames words) h = absurd cc
-step i o x y None rows (Heads header.Type words) h = rw (or_none i, or_none o, or_none x, or_none y, append-nil rows) refl
-step i o x y (Some ws) rows (Heads header.Type words) h = absurd cc
-step i o x y t rows (Heads header.Products words) h = rw (or_none i, or_none o, or_none x, or_none y, or_none t, append-nil rows) refl
-step i o x y t rows (Heads header.End words) h = rw (or_none i, or_none o, or_none x, or_none y, or_none t, append-nil rows) refl
-step i o x y t rows (Heads header.Unsupported words) h = absurd cc
-step i o x y t rows (Heads header.Unknown words) h = absurd cc
-step i o x y t rows (Holds chars) h = rw (or_none i, or_none o, or_none x, or_none y, or_none t, map-append (row_of (unwrap_or (option_map number i) 0)) rows (chars ∷ [])) refl
+step_outputs : (i o x y t : Option (List Word)) (rows : List (List Word)) (line : List Word) → heads (codes ".o") line ≡ true → Steps i o x y t rows line
+unfolding faults with_line
+step_outputs i None x y t rows line e h =
+    rw (e, other (codes ".o") (codes ".i") line e refl, other (codes ".o") (codes ".ilb") line e refl, other (codes ".o") (codes ".ob") line e refl, other (codes ".o") (codes ".type") line e refl, no_row (codes ".o") line e refl, or_none i, or_none x, or_none y, or_none t, append-nil rows)
+    refl
+step_outputs i (Some ws) x y t rows line e h = let late = rw (other (codes ".o") (codes ".i") line e refl, e) at h in absurd (let apart : Some Late ≡ None = late in cc)
+
+step_input_names : (i o x y t : Option (List Word)) (rows : List (List Word)) (line : List Word) → heads (codes ".ilb") line ≡ true → Steps i o x y t rows line
+unfolding faults with_line
+step_input_names i o None y t rows line e h =
+    rw (e, other (codes ".ilb") (codes ".i") line e refl, other (codes ".ilb") (codes ".o") line e refl, other (codes ".ilb") (codes ".ob") line e refl, other (codes ".ilb") (codes ".type") line e refl, no_row (codes ".ilb") line e refl, or_none i, or_none o, or_none y, or_none t, append-nil rows)
+    refl
+step_input_names i o (Some ws) y t rows line e h = let late = rw (other (codes ".ilb") (codes ".i") line e refl, other (codes ".ilb") (codes ".o") line e refl, e) at h in absurd (let apart : Some Late ≡ None = late in cc)
+
+step_output_names : (i o x y t : Option (List Word)) (rows : List (List Word)) (line : List Word) → heads (codes ".ob") line ≡ true → Steps i o x y t rows line
+unfolding faults with_line
+step_output_names i o x None t rows line e h =
+    rw (e, other (codes ".ob") (codes ".i") line e refl, other (codes ".ob") (codes ".o") line e refl, other (codes ".ob") (codes ".ilb") line e refl, other (codes ".ob") (codes ".type") line e refl, no_row (codes ".ob") line e refl, or_none i, or_none o, or_none x, or_none t, append-nil rows)
+    refl
+step_output_names i o x (Some ws) t rows line e h =
+    let late = rw (other (codes ".ob") (codes ".i") line e refl, other (codes ".ob") (codes ".o") line e refl, other (codes ".ob") (codes ".ilb") line e refl, e) at h in
+    absurd (let apart : Some Late ≡ None = late in cc)
+
+step_type : (i o x y t : Option (List Word)) (rows : List (List Word)) (line : List Word) → heads (codes ".type") line ≡ true → Steps i o x y t rows line
+unfolding faults with_line
+step_type i o x y None rows line e h =
+    rw (e, other (codes ".type") (codes ".i") line e refl, other (codes ".type") (codes ".o") line e refl, other (codes ".type") (codes ".ilb") line e refl, other (codes ".type") (codes ".ob") line e refl, no_row (codes ".type") line e refl, or_none i, or_none o, or_none x, or_none y, append-nil rows)
+    refl
+step_type i o x y (Some ws) rows line e h =
+    let late = rw (other (codes ".type") (codes ".i") line e refl, other (codes ".type") (codes ".o") line e refl, other (codes ".type") (codes ".ilb") line e refl, other (codes ".type") (codes ".ob") line e refl, e) at h in
+    absurd (let apart : Some Late ≡ None = late in cc)
+
+-- a line with none of these headers
+step_other : (row : Bool) (i o x y t : Option (List Word)) (rows : List (List Word)) (line : List Word) → is_row line ≡ row → heads (codes ".i") line ≡ false → heads (codes ".o") line ≡ false → heads (codes ".ilb") line ≡ false
+    → heads (codes ".ob") line ≡ false → heads (codes ".type") line ≡ false → more i o x y t rows line ≡ with_line (seen_by i o x y t rows) line
+unfolding with_line
+step_other true i o x y t rows line r a b c d e =
+    rw (r, a, b, c, d, e, or_none i, or_none o, or_none x, or_none y, or_none t, map-append (λ line. row_of (unwrap_or (option_map number (option_map (drop 1) i)) 0) (joined line)) rows (line ∷ [])) refl
+step_other false i o x y t rows line r a b c d e = rw (r, a, b, c, d, e, or_none i, or_none o, or_none x, or_none y, or_none t, append-nil rows) refl
+
+step : (i o x y t : Option (List Word)) (rows : List (List Word)) (line : List Word) → Steps i o x y t rows line
+step i o x y t rows line h =
+    elim (cases_Bool (heads (codes ".i") line)) [
+      | inl a ↦ step_inputs i o x y t rows line a h
+      | inr a ↦ elim (cases_Bool (heads (codes ".o") line)) [
+        | inl b ↦ step_outputs i o x y t rows line b h
+        | inr b ↦ elim (cases_Bool (heads (codes ".ilb") line)) [
+          | inl c ↦ step_input_names i o x y t rows line c h
+          | inr c ↦ elim (cases_Bool (heads (codes ".ob") line)) [
+            | inl d ↦ step_output_names i o x y t rows line d h
+            | inr d ↦ elim (cases_Bool (heads (codes ".type") line)) [ inl e ↦ step_type i o x y t rows line e h | inr e ↦ step_other (is_row line) i o x y t rows line refl a b c d e ]
+          ]
+        ]
+      ]
+    ]
 
 -- what is seen with one more line that has no fault
-pub seen_push : (before : List Statement) (line : Statement) → first_of (faults (seen before) line) ≡ None → seen (before ++ line ∷ []) ≡ with_line (seen before) line
+pub seen_push : (before : List (List Word)) (line : List Word) → first_of (faults (seen before) line) ≡ None → seen (before ++ line ∷ []) ≡ with_line (seen before) line
 unfolding seen
 seen_push before line h =
-    rw (args_push header.Inputs before line, args_push header.Outputs before line, args_push header.InputNames before line, args_push header.OutputNames before line, args_push header.Type before line, rows_push before line)
-    (step (args_of header.Inputs before) (args_of header.Outputs before) (args_of header.InputNames before) (args_of header.OutputNames before) (args_of header.Type before) (rows_of before) line h)
+    rw (find-append (heads (codes ".i")) before (line ∷ []), find-append (heads (codes ".o")) before (line ∷ []), find-append (heads (codes ".ilb")) before (line ∷ []), find-append (heads (codes ".ob")) before (line ∷ []), find-append (heads (codes ".type")) before (line ∷ []), filter-append is_row before (line ∷ []))
+    (step (find (heads (codes ".i")) before) (find (heads (codes ".o")) before) (find (heads (codes ".ilb")) before) (find (heads (codes ".ob")) before) (find (heads (codes ".type")) before) (filter is_row before) line h)

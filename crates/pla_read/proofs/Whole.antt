@@ -1,32 +1,26 @@
 -- The whole text.
-use Rattle.std.proofs.Common.{◌≡◌, ℕ, true, false, List, [], length, map, Option, Some, None, All, sym, ap, ap₂, ◌∙◌, subst}
+use Rattle.std.proofs.Common.{◌≡◌, ℕ, true, false, List, [], length, Option, Some, None, All, sym, ap₂, subst}
 use Rattle.std.specs.Prelude.{IfSome, unwrap_or}
 use Rattle.std.proofs.lemmas.List.Elements.{All-append}
 use Rattle.ae_base.specs.Name.{is_source_name}
 use Rattle.ae_lex.specs.First.{first_of}
-use Rattle.ae_lex.specs.Lines.{lines_of}
+use Rattle.ae_lex.specs.Words.{WordLine, word_lines, last_line}
 use Rattle.ae_lex.specs.declared.text.Style.TheVariants.{Pla}
-use Rattle.ae_lex.specs.declared.text.LineList.{LineList}
 use Rattle.ae_cover.specs.declared.parts.Kind.{Kind}
 use Rattle.ae_cover.specs.Cover.{IsCover, IsCount, IsRow}
 use Rattle.pla_read.specs.Words.{Word, share}
-use Rattle.pla_read.specs.Pla.{Seen, Said, said, until_end, last_read, first_fault, at_line, whole_faults, table_of, judged, lines_say, pla_says, seen}
+use Rattle.pla_read.specs.Pla.{Seen, last_read, first_fault, at_line, whole_faults, table_of, judged, pla_says, seen}
+use Rattle.pla_read.specs.Step.{read_of, words_of}
 use Rattle.pla_read.specs.Sound.{AreLabels, IsSound}
 use Rattle.pla_read.proofs.Labels.{distinct_append}
-use Rattle.pla_read.proofs.Reading.{says}
 
 -- where no line has a fault the whole text decides
-whole : (count : ℕ) (all : List Said) (found : Seen) (number : ℕ) → first_fault [] (until_end all) ≡ None → found ≡ seen (says (until_end all)) → number ≡ last_read count all
-    → lines_say count all ≡ judged (at_line number (first_of (whole_faults found))) (table_of found)
-unfolding lines_say
-whole count all found number none e l =
-    rw none (sym (ap₂ (λ (s : Seen) (n : ℕ). judged (at_line n (first_of (whole_faults s))) (table_of s)) e l))
-
-pub text_says : (bytes : List ℕ) (found : LineList) (read : Seen) (number : ℕ) → found ≡ lines_of Pla bytes → first_fault [] (until_end (map (said bytes) found.list)) ≡ None
-    → read ≡ seen (says (until_end (map (said bytes) found.list))) → number ≡ last_read found.last (map (said bytes) found.list)
+pub text_says : (bytes : List ℕ) (last : ℕ) (lines : List WordLine) (read : Seen) (number : ℕ) → lines ≡ word_lines Pla bytes → last ≡ last_line bytes → first_fault [] (read_of lines) ≡ None
+    → read ≡ seen (words_of (read_of lines)) → number ≡ last_read last lines
     → pla_says bytes ≡ judged (at_line number (first_of (whole_faults read))) (table_of read)
 unfolding pla_says
-text_says bytes found read number e none s l = ap (λ (f : LineList). lines_say f.last (map (said bytes) f.list)) (sym e) ∙ whole found.last (map (said bytes) found.list) read number none s l
+text_says bytes last lines read number e l none s n =
+    rw (← e, ← l, none) (sym (ap₂ (λ (s : Seen) (n : ℕ). judged (at_line n (first_of (whole_faults s))) (table_of s)) s n))
 
 -- ---- the cover
 

@@ -1,79 +1,24 @@
--- What a PLA text says: a cover, or its first fault.
-use Rattle.std.specs.Prelude.{ℕ, zero, suc, ◌+◌, ◌==◌, Bool, true, false, not, ◌&&◌, ◌||◌, nat_lt, nat_le, if◌then◌else◌, List, [], ◌∷◌, ◌++◌, length, take, drop, map, Option, Some, None, option_map, Result, Ok, Err, is_some, is_none, unwrap_or, slice_range}
-use Rattle.std.specs.List.{list_all}
+-- What a PLA text says: a cover, or its first fault. A line is a list of words.
+use Rattle.std.specs.Prelude.{ℕ, zero, suc, ◌+◌, ◌==◌, Bool, true, not, ◌&&◌, ◌||◌, nat_lt, nat_le, if◌then◌else◌, List, [], ◌∷◌, ◌++◌, length, take, drop, map, filter, Option, Some, None, option_map, Result, Ok, Err, is_some, is_none, unwrap_or, codes}
+use Rattle.std.specs.List.{list_all, before_first, find}
 use Rattle.std.specs.Option.{option_or}
 use Rattle.std.specs.Fmt.{decimal}
 use Rattle.ae_base.specs.declared.limits.TheConstants.{SOURCE_LINES}
 use Rattle.ae_lex.specs.First.{first_of}
-use Rattle.ae_lex.specs.Lines.{lines_of}
+use Rattle.ae_lex.specs.Words.{WordLine, word_lines, last_line}
 use Rattle.ae_lex.specs.declared.text.Style.TheVariants.{Pla}
-use Rattle.ae_lex.specs.declared.text.Line.{Line}
-use Rattle.ae_lex.specs.declared.text.Span.{Span}
 use Rattle.ae_cover.specs.Cover.{Table}
-use Rattle.ae_cover.specs.Clash.{first_clash}
+use Rattle.ae_cover.specs.Clash.{has_clash}
 use Rattle.ae_cover.specs.declared.cover.TheConstants.{PLA_ROWS}
 use Rattle.ae_cover.specs.declared.parts.Kind.TheVariants.{Fd}
 use Rattle.ae_cover.specs.declared.parts.Row.{Row}
 use Rattle.ae_cover.specs.declared.parts.Kind.{Kind}
-use Rattle.pla_read.specs.Words.{Word, header_of, same_header, is_number, number, is_kind, kind, are_names, has_twins, share, joined, is_input, is_output, row_of}
+use Rattle.pla_read.specs.Words.{Word, first, heads, is_end, is_unsupported, is_row, is_number, number, is_kind, kind, are_names, has_twins, share, joined, is_input, is_output, row_of}
 use Rattle.pla_read.specs.declared.fault.PlaFault.{PlaFault}
 use Rattle.pla_read.specs.declared.fault.PlaFault.TheVariants.{NoI, NoO, BadNumber, TooManyInputs, TooManyOutputs, BadNames, NameTwice, BadType, Late, Unsupported, Unknown, BadChar, BadWidth, TooManyRows, Clash}
-use Rattle.pla_read.specs.declared.header.Header.{Header}
-use Rattle.pla_read.specs.declared.header.Header.TheVariants as header
-
--- ---- lines
-
--- what a line says: a header with the words after it, or the characters of a row
-pub data Statement : Type 0 where
-  Heads : Header → List Word → Statement
-  Holds : List ℕ → Statement
-
--- a line whose first word begins with '.' is a header, any other a row
-unfoldable pub statement : List Word → Statement
-statement [] = Holds []
-statement ([] ∷ words) = Holds (joined words)
-statement ((b ∷ bytes) ∷ words) = if b == 46 then Heads (header_of (b ∷ bytes)) words else Holds (joined ((b ∷ bytes) ∷ words))
-
--- what a line says, and its number
-pub record Said : Type 0 where
-  pub number : ℕ
-  pub says : Statement
-
-abbrev pub word : List ℕ → Span → Word
-word bytes span = slice_range bytes span.start span.end
-
-abbrev pub said : List ℕ → Line → Said
-said bytes line = record { number = line.number; says = statement (map (word bytes) line.words) }
-
-abbrev pub is_end : Statement → Bool
-is_end (Heads h words) = same_header h header.End
-is_end (Holds chars) = false
-
--- the lines that are read: nothing after the first `.e` or `.end`
-abbrev pub until_end : List Said → List Said
-until_end [] = []
-until_end (line ∷ lines) = if is_end line.says then line ∷ [] else line ∷ until_end lines
-
--- the number of the last line that is read: the first `.e` or `.end`, else the last line of the text
-abbrev pub last_read : ℕ → List Said → ℕ
-last_read last [] = last
-last_read last (line ∷ lines) = if is_end line.says then line.number else last_read last lines
 
 -- ---- what lines say together
 
--- the words after a header, in the first line that has it
-abbrev pub args_of : Header → List Statement → Option (List Word)
-args_of h [] = None
-args_of h (Heads g words ∷ lines) = if same_header g h then Some words else args_of h lines
-args_of h (Holds chars ∷ lines) = args_of h lines
-
--- the characters of each row
-abbrev pub rows_of : List Statement → List (List ℕ)
-rows_of [] = []
-rows_of (Heads h words ∷ lines) = rows_of lines
-rows_of (Holds chars ∷ lines) = chars ∷ rows_of lines
-
--- what lines say together
 pub record Seen : Type 0 where
   pub inputs : Option ℕ
   pub outputs : Option ℕ
@@ -82,49 +27,55 @@ pub record Seen : Type 0 where
   pub kind : Option Kind
   pub rows : List Row
 
-unfoldable pub seen : List Statement → Seen
+-- the words after a header, in the first line that has it
+abbrev pub after : Word → List (List Word) → Option (List Word)
+after header lines = option_map (drop 1) (find (heads header) lines)
+
+unfoldable pub seen : List (List Word) → Seen
 seen lines =
-    let inputs = option_map number (args_of header.Inputs lines) in
+    let inputs = option_map number (after (codes ".i") lines) in
     record {
       inputs = inputs;
-      outputs = option_map number (args_of header.Outputs lines);
-      input_names = args_of header.InputNames lines;
-      output_names = args_of header.OutputNames lines;
-      kind = option_map kind (args_of header.Type lines);
-      rows = map (row_of (unwrap_or inputs 0)) (rows_of lines);
+      outputs = option_map number (after (codes ".o") lines);
+      input_names = after (codes ".ilb") lines;
+      output_names = after (codes ".ob") lines;
+      kind = option_map kind (after (codes ".type") lines);
+      rows = map (λ line. row_of (unwrap_or inputs 0) (joined line)) (filter is_row lines);
     }
 
 -- ---- the faults of a line
 
-abbrev pub has_rows : Seen → Bool
-has_rows seen = not (length seen.rows == 0)
-
--- the conditions that make a line faulty after lines that say this, each with its fault, in order
-abbrev pub faults : Seen → Statement → List (Bool × PlaFault)
-faults seen (Heads header.Inputs words) = (is_some seen.inputs || has_rows seen, Late) ∷ (not (is_number words), BadNumber) ∷ (nat_lt SOURCE_LINES (number words), TooManyInputs) ∷ []
-faults seen (Heads header.Outputs words) = (is_some seen.outputs || has_rows seen, Late) ∷ (not (is_number words), BadNumber) ∷ (nat_lt SOURCE_LINES (number words), TooManyOutputs) ∷ []
-faults seen (Heads header.InputNames words) =
-    (is_some seen.input_names || has_rows seen, Late) ∷ (is_none seen.inputs, NoI) ∷ (not (are_names (unwrap_or seen.inputs 0) words), BadNames) ∷ (has_twins words, NameTwice) ∷ []
-faults seen (Heads header.OutputNames words) =
-    (is_some seen.output_names || has_rows seen, Late) ∷ (is_none seen.outputs, NoO) ∷ (not (are_names (unwrap_or seen.outputs 0) words), BadNames) ∷ (has_twins words, NameTwice) ∷ []
-faults seen (Heads header.Type words) = (is_some seen.kind || has_rows seen, Late) ∷ (not (is_kind words), BadType) ∷ []
-faults seen (Heads header.Products words) = []
-faults seen (Heads header.End words) = []
-faults seen (Heads header.Unsupported words) = (true, Unsupported) ∷ []
-faults seen (Heads header.Unknown words) = (true, Unknown) ∷ []
-faults seen (Holds chars) =
+-- the conditions that make a row of these characters faulty after lines that say this, each with its fault, in order
+abbrev pub row_faults : Seen → List ℕ → List (Bool × PlaFault)
+row_faults seen chars =
     let n = unwrap_or seen.inputs 0 in
     let m = unwrap_or seen.outputs 0 in
     (is_none seen.inputs, NoI) ∷ (is_none seen.outputs, NoO) ∷ (not (length chars == n + m), BadWidth)
     ∷ (not (list_all is_input (take n chars) && list_all is_output (drop n chars)), BadChar) ∷ (nat_le PLA_ROWS (length seen.rows), TooManyRows) ∷ []
 
+-- the same of any line
+unfoldable pub faults : Seen → List Word → List (Bool × PlaFault)
+faults seen line =
+    let words = drop 1 line in
+    let has_rows = not (length seen.rows == 0) in
+    if heads (codes ".i") line then (is_some seen.inputs || has_rows, Late) ∷ (not (is_number words), BadNumber) ∷ (nat_lt SOURCE_LINES (number words), TooManyInputs) ∷ []
+    else if heads (codes ".o") line then (is_some seen.outputs || has_rows, Late) ∷ (not (is_number words), BadNumber) ∷ (nat_lt SOURCE_LINES (number words), TooManyOutputs) ∷ []
+    else if heads (codes ".ilb") line then
+    (is_some seen.input_names || has_rows, Late) ∷ (is_none seen.inputs, NoI) ∷ (not (are_names (unwrap_or seen.inputs 0) words), BadNames) ∷ (has_twins words, NameTwice) ∷ []
+    else if heads (codes ".ob") line then
+    (is_some seen.output_names || has_rows, Late) ∷ (is_none seen.outputs, NoO) ∷ (not (are_names (unwrap_or seen.outputs 0) words), BadNames) ∷ (has_twins words, NameTwice) ∷ []
+    else if heads (codes ".type") line then (is_some seen.kind || has_rows, Late) ∷ (not (is_kind words), BadType) ∷ []
+    else if heads (codes ".p") line then []
+    else if is_unsupported (first line) then (true, Unsupported) ∷ []
+    else if is_row line then row_faults seen (joined line) else (true, Unknown) ∷ []
+
 abbrev pub at_line : ℕ → Option PlaFault → Option (ℕ × PlaFault)
 at_line number fault = option_map (λ f. (number, f)) fault
 
 -- the number and the fault of the first faulty line, after these lines
-abbrev pub first_fault : List Statement → List Said → Option (ℕ × PlaFault)
+abbrev pub first_fault : List (List Word) → List WordLine → Option (ℕ × PlaFault)
 first_fault before [] = None
-first_fault before (line ∷ lines) = option_or (at_line line.number (first_of (faults (seen before) line.says))) (first_fault (before ++ line.says ∷ []) lines)
+first_fault before (line ∷ lines) = option_or (at_line line.number (first_of (faults (seen before) line.words))) (first_fault (before ++ line.words ∷ []) lines)
 
 -- ---- the whole text
 
@@ -150,18 +101,23 @@ table_of seen =
 abbrev pub whole_faults : Seen → List (Bool × PlaFault)
 whole_faults seen =
     let table = table_of seen in
-    (is_none seen.inputs, NoI) ∷ (is_none seen.outputs, NoO) ∷ (share table.inputs table.outputs, NameTwice) ∷ (is_some (first_clash table), Clash) ∷ []
+    (is_none seen.inputs, NoI) ∷ (is_none seen.outputs, NoO) ∷ (share table.inputs table.outputs, NameTwice) ∷ (has_clash table, Clash) ∷ []
+
+abbrev pub ends : WordLine → Bool
+ends line = is_end line.words
+
+-- the number of the last line that is read: the first `.e` or `.end`, else the last line of the text
+abbrev pub last_read : ℕ → List WordLine → ℕ
+last_read last lines = unwrap_or (option_map (λ line. line.number) (find ends lines)) last
 
 abbrev pub judged : Option (ℕ × PlaFault) → Table → Result Table (ℕ × PlaFault)
 judged None table = Ok table
 judged (Some fault) table = Err fault
 
--- what lines of a text with so many lines say: the first faulty line decides, and only where there is none the whole text
-unfoldable pub lines_say : ℕ → List Said → Result Table (ℕ × PlaFault)
-lines_say last lines =
-    let read = until_end lines in
-    let all = seen (map (λ line. line.says) read) in
-    judged (option_or (first_fault [] read) (at_line (last_read last lines) (first_of (whole_faults all)))) (table_of all)
-
+-- Nothing is read after the first `.e` or `.end`. The first faulty line decides, and only where there is none the whole text.
 unfoldable pub pla_says : List ℕ → Result Table (ℕ × PlaFault)
-pla_says bytes = let found = lines_of Pla bytes in lines_say found.last (map (said bytes) found.list)
+pla_says bytes =
+    let lines = word_lines Pla bytes in
+    let read = before_first ends lines in
+    let all = seen (map (λ line. line.words) read) in
+    judged (option_or (first_fault [] read) (at_line (last_read (last_line bytes) lines) (first_of (whole_faults all)))) (table_of all)

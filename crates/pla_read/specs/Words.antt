@@ -1,5 +1,5 @@
--- What single words of a PLA text say.
-use Rattle.std.specs.Prelude.{ℕ, ◌+◌, ◌-◌, ◌*◌, ◌==◌, Bool, false, not, ◌&&◌, ◌||◌, nat_lt, nat_le, if◌then◌else◌, List, [], ◌∷◌, length, take, drop, map, filter, fold, slice_index, codes, Option, Some, None, is_some, unwrap_or}
+-- What the words of a line of a PLA text say.
+use Rattle.std.specs.Prelude.{ℕ, ◌+◌, ◌-◌, ◌*◌, ◌==◌, Bool, false, not, ◌&&◌, ◌||◌, nat_lt, nat_le, if◌then◌else◌, List, [], ◌∷◌, length, take, drop, map, filter, fold, slice_index, slice_index_or, codes, Option, Some, None, is_some, unwrap_or}
 use Rattle.std.specs.List.{list_any, list_all, flat_map}
 use Rattle.std.specs.Str.{bytes_eq}
 use Rattle.ae_base.specs.Mask.{Set, where_below}
@@ -9,49 +9,32 @@ use Rattle.ae_cover.specs.declared.parts.Kind.TheVariants.{F, Fd, Fr, Fdr}
 use Rattle.ae_cover.specs.declared.parts.Mark.{Mark}
 use Rattle.ae_cover.specs.declared.parts.Mark.TheVariants.{One, Zero, Dash, Void}
 use Rattle.ae_cover.specs.declared.parts.Row.{Row}
-use Rattle.pla_read.specs.declared.header.Header.{Header}
-use Rattle.pla_read.specs.declared.header.Header.TheVariants as header
 use Rattle.pla_read.specs.declared.words.TheConstants.{NUMBER_DIGITS}
 
 abbrev pub Word : Type 0
 Word = List ℕ
 
--- ---- headers
+-- the first word; no line is without words
+abbrev pub first : List Word → Word
+first words = slice_index_or words 0 []
+
+-- ---- headers and rows
+
+-- the line has this header
+abbrev pub heads : Word → List Word → Bool
+heads header line = bytes_eq (first line) header
+
+-- nothing is read from this line on
+abbrev pub is_end : List Word → Bool
+is_end line = heads (codes ".e") line || heads (codes ".end") line
 
 -- a header of other PLA dialects
 abbrev pub is_unsupported : Word → Bool
-is_unsupported word =
-    bytes_eq word (codes ".phase") || bytes_eq word (codes ".pair") || bytes_eq word (codes ".symbolic") || bytes_eq word (codes ".mv") || bytes_eq word (codes ".kiss")
-    || bytes_eq word (codes ".label")
+is_unsupported header = list_any (bytes_eq header) (codes ".phase" ∷ codes ".pair" ∷ codes ".symbolic" ∷ codes ".mv" ∷ codes ".kiss" ∷ codes ".label" ∷ [])
 
--- which header a word is
-unfoldable pub header_of : Word → Header
-header_of word =
-    if bytes_eq word (codes ".i") then header.Inputs
-    else if bytes_eq word (codes ".o") then header.Outputs
-    else if bytes_eq word (codes ".ilb") then header.InputNames
-    else if bytes_eq word (codes ".ob") then header.OutputNames
-    else if bytes_eq word (codes ".type") then header.Type
-    else if bytes_eq word (codes ".p") then header.Products
-    else if bytes_eq word (codes ".e") then header.End
-    else if bytes_eq word (codes ".end") then header.End
-    else if is_unsupported word then header.Unsupported
-    else header.Unknown
-
--- the headers in order, for comparison
-abbrev pub place : Header → ℕ
-place header.Inputs = 0
-place header.Outputs = 1
-place header.InputNames = 2
-place header.OutputNames = 3
-place header.Type = 4
-place header.Products = 5
-place header.End = 6
-place header.Unsupported = 7
-place header.Unknown = 8
-
-abbrev pub same_header : Header → Header → Bool
-same_header g h = place g == place h
+-- a line whose first word begins with '.' is a header with the words after it, and any other is a row
+abbrev pub is_row : List Word → Bool
+is_row line = not (slice_index (first line) 0 == 46)
 
 -- ---- numbers, kinds and names
 
@@ -62,15 +45,12 @@ is_digit b = nat_le 48 b && nat_lt b 58
 unfoldable pub value : Word → ℕ
 value digits = fold (λ n b. 10 * n + (b - 48)) 0 digits
 
+abbrev pub number : List Word → ℕ
+number words = value (first words)
+
 -- one number of 1 to 9 digits, at least 1
 unfoldable pub is_number : List Word → Bool
-is_number [] = false
-is_number (word ∷ []) = nat_le (length word) NUMBER_DIGITS && list_all is_digit word && nat_lt 0 (value word)
-is_number (word ∷ other ∷ words) = false
-
-abbrev pub number : List Word → ℕ
-number [] = 0
-number (word ∷ words) = value word
+is_number words = length words == 1 && nat_le (length (first words)) NUMBER_DIGITS && list_all is_digit (first words) && nat_lt 0 (number words)
 
 abbrev pub kind_at : Word → Option Kind
 kind_at word =
@@ -82,13 +62,10 @@ kind_at word =
 
 -- one of the four kinds
 abbrev pub is_kind : List Word → Bool
-is_kind [] = false
-is_kind (word ∷ []) = is_some (kind_at word)
-is_kind (word ∷ other ∷ words) = false
+is_kind words = length words == 1 && is_some (kind_at (first words))
 
 abbrev pub kind : List Word → Kind
-kind [] = Fd
-kind (word ∷ words) = unwrap_or (kind_at word) Fd
+kind words = unwrap_or (kind_at (first words)) Fd
 
 -- so many names
 unfoldable pub are_names : ℕ → List Word → Bool
@@ -105,12 +82,9 @@ share names others = list_any (λ name. list_any (bytes_eq name) others) names
 
 -- ---- rows
 
-abbrev pub without_bars : Word → List ℕ
-without_bars word = filter (λ b. not (b == 124)) word
-
 -- the characters of a row: those of its words in order without '|'
 abbrev pub joined : List Word → List ℕ
-joined words = flat_map without_bars words
+joined words = flat_map (filter (λ b. not (b == 124))) words
 
 -- '0', '1', '-' or '2'
 abbrev pub is_input : ℕ → Bool

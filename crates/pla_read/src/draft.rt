@@ -1,13 +1,12 @@
 //! The cover so far: what the lines that were read say.
-ghost use Rattle.std.specs.Prelude.{◌≡◌, ◌||◌, []};
-ghost use Rattle.pla_read.specs.declared.header.Header.TheVariants as header;
+ghost use Rattle.std.specs.Prelude.{◌≡◌, [], ◌∷◌, length, not, codes, ◌==◌, slice_index};
 ghost use Rattle.pla_read.specs.Pla as spec;
-ghost use Rattle.pla_read.specs.Step.{texts, Takes};
+ghost use Rattle.pla_read.specs.Step.{texts, with_line, with_row, Takes};
 
 use crate::fault::{LineErr, PlaFault};
-use crate::header::{Header, header_of};
 use crate::words::{
-    are_inputs, are_outputs, has_twins, join, read_kind, read_names, read_number, row_of,
+    are_inputs, are_outputs, has_twins, is_unsupported, join, read_kind, read_names, read_number,
+    row_of,
 };
 use ae_base::{Name, SOURCE_LINES, Seq};
 use ae_cover::{Kind, PLA_ROWS, Row};
@@ -53,14 +52,15 @@ impl Draft {
     }
 
     fn has_rows(&self) -> bool
-        ensures { result ≡ spec.has_rows self.now }
+        ensures { result ≡ not (length self.now.rows == 0) }
     {
         !self.rows.is_empty()
     }
 
     /// The number of inputs.
+    #[tactic(auto, unfolding(crate::specs::Pla::faults, crate::specs::Step::with_line))]
     fn read_inputs(&mut self, words: &[&[u8]]) -> Result<(), LineErr>
-        ensures { Takes self.old (spec.Heads header.Inputs (texts words.now)) result self.new }
+        ensures { Takes (spec.faults self.old (codes ".i" ∷ texts words.now)) (with_line self.old (codes ".i" ∷ texts words.now)) result self.new }
     {
         if self.inputs.is_some() || self.has_rows() {
             return Err(LineErr::Fault(PlaFault::Late));
@@ -76,8 +76,9 @@ impl Draft {
     }
 
     /// The number of outputs.
+    #[tactic(auto, unfolding(crate::specs::Pla::faults, crate::specs::Step::with_line))]
     fn read_outputs(&mut self, words: &[&[u8]]) -> Result<(), LineErr>
-        ensures { Takes self.old (spec.Heads header.Outputs (texts words.now)) result self.new }
+        ensures { Takes (spec.faults self.old (codes ".o" ∷ texts words.now)) (with_line self.old (codes ".o" ∷ texts words.now)) result self.new }
     {
         if self.outputs.is_some() || self.has_rows() {
             return Err(LineErr::Fault(PlaFault::Late));
@@ -93,8 +94,9 @@ impl Draft {
     }
 
     /// The kind.
+    #[tactic(auto, unfolding(crate::specs::Pla::faults, crate::specs::Step::with_line))]
     fn read_kind(&mut self, words: &[&[u8]]) -> Result<(), LineErr>
-        ensures { Takes self.old (spec.Heads header.Type (texts words.now)) result self.new }
+        ensures { Takes (spec.faults self.old (codes ".type" ∷ texts words.now)) (with_line self.old (codes ".type" ∷ texts words.now)) result self.new }
     {
         if self.kind.is_some() || self.has_rows() {
             return Err(LineErr::Fault(PlaFault::Late));
@@ -107,8 +109,9 @@ impl Draft {
     }
 
     /// The names of the inputs.
+    #[tactic(auto, unfolding(crate::specs::Pla::faults, crate::specs::Step::with_line))]
     fn read_input_names(&mut self, alloc: Global, words: &[&[u8]]) -> Result<(), LineErr>
-        ensures { Takes self.old (spec.Heads header.InputNames (texts words.now)) result self.new }
+        ensures { Takes (spec.faults self.old (codes ".ilb" ∷ texts words.now)) (with_line self.old (codes ".ilb" ∷ texts words.now)) result self.new }
     {
         if self.input_names.is_some() || self.has_rows() {
             return Err(LineErr::Fault(PlaFault::Late));
@@ -127,8 +130,9 @@ impl Draft {
     }
 
     /// The names of the outputs.
+    #[tactic(auto, unfolding(crate::specs::Pla::faults, crate::specs::Step::with_line))]
     fn read_output_names(&mut self, alloc: Global, words: &[&[u8]]) -> Result<(), LineErr>
-        ensures { Takes self.old (spec.Heads header.OutputNames (texts words.now)) result self.new }
+        ensures { Takes (spec.faults self.old (codes ".ob" ∷ texts words.now)) (with_line self.old (codes ".ob" ∷ texts words.now)) result self.new }
     {
         if self.output_names.is_some() || self.has_rows() {
             return Err(LineErr::Fault(PlaFault::Late));
@@ -148,7 +152,7 @@ impl Draft {
 
     /// The characters of a row.
     fn read_row(&mut self, alloc: Global, chars: &[u8]) -> Result<(), LineErr>
-        ensures { Takes self.old (spec.Holds chars.now) result self.new }
+        ensures { Takes (spec.row_faults self.old chars.now) (with_row self.old chars.now) result self.new }
     {
         let Some(n) = self.inputs else {
             return Err(LineErr::Fault(PlaFault::NoI));
@@ -171,12 +175,12 @@ impl Draft {
     }
 
     /// Reads the words of one more line. After an error the draft is of no further use.
-    #[tactic(auto, unfolding(crate::specs::Pla::statement))]
+    #[tactic(auto, unfolding(crate::specs::Pla::faults, crate::specs::Step::with_line))]
     pub fn read(&mut self, alloc: Global, words: &[&[u8]]) -> Result<(), LineErr>
-        ensures { Takes self.old (spec.statement (texts words.now)) result self.new }
+        ensures { Takes (spec.faults self.old (texts words.now)) (with_line self.old (texts words.now)) result self.new }
     {
         match words {
-            [[b'.', ..], args @ ..] => self.read_header(alloc, header_of(words[0]), args),
+            [[b'.', ..], args @ ..] => self.read_header(alloc, words[0], args),
             _ => {
                 let chars = join(alloc, words)?;
                 self.read_row(alloc, chars.as_slice())
@@ -185,18 +189,27 @@ impl Draft {
     }
 
     /// A header and the words after it.
-    fn read_header(&mut self, alloc: Global, header: Header, args: &[&[u8]]) -> Result<(), LineErr>
-        ensures { Takes self.old (spec.Heads header (texts args.now)) result self.new }
+    #[tactic(auto, unfolding(crate::specs::Pla::faults, crate::specs::Step::with_line))]
+    fn read_header(&mut self, alloc: Global, header: &[u8], args: &[&[u8]]) -> Result<(), LineErr>
+        requires { slice_index header.now 0 ≡ 46 }
+        ensures { Takes (spec.faults self.old (header.now ∷ texts args.now)) (with_line self.old (header.now ∷ texts args.now)) result self.new }
     {
-        match header {
-            Header::Inputs => self.read_inputs(args),
-            Header::Outputs => self.read_outputs(args),
-            Header::InputNames => self.read_input_names(alloc, args),
-            Header::OutputNames => self.read_output_names(alloc, args),
-            Header::Type => self.read_kind(args),
-            Header::Products | Header::End => Ok(()),
-            Header::Unsupported => Err(LineErr::Fault(PlaFault::Unsupported)),
-            Header::Unknown => Err(LineErr::Fault(PlaFault::Unknown)),
+        if header == b".i".as_slice() {
+            self.read_inputs(args)
+        } else if header == b".o".as_slice() {
+            self.read_outputs(args)
+        } else if header == b".ilb".as_slice() {
+            self.read_input_names(alloc, args)
+        } else if header == b".ob".as_slice() {
+            self.read_output_names(alloc, args)
+        } else if header == b".type".as_slice() {
+            self.read_kind(args)
+        } else if header == b".p".as_slice() {
+            Ok(())
+        } else if is_unsupported(header) {
+            Err(LineErr::Fault(PlaFault::Unsupported))
+        } else {
+            Err(LineErr::Fault(PlaFault::Unknown))
         }
     }
 }

@@ -3,7 +3,6 @@
 
 mod draft;
 mod fault;
-mod header;
 mod names;
 mod read;
 mod words;

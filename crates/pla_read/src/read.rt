@@ -2,41 +2,32 @@
 ghost use Rattle.std.specs.Prelude.{◌≡◌, ◌≤◌, length, map, All, IfOk};
 ghost use Rattle.ae_lex.specs.First.{first_of};
 ghost use Rattle.ae_lex.specs.Lines.{IsInside};
+ghost use Rattle.ae_lex.specs.Words.{cut, cut_line};
+ghost use Rattle.ae_cover.specs.Clash.{has_clash};
+ghost use Rattle.ae_cover.specs.Cover.{IsCover};
 ghost use Rattle.pla_read.specs.Pla as spec;
 ghost use Rattle.pla_read.specs.Reads.{Gives};
 ghost use Rattle.pla_read.specs.Step.{texts, Reads};
 
 use crate::draft::Draft;
 use crate::fault::{LineErr, PlaErr, PlaFault};
-use crate::header::{Header, header_of};
 use crate::names::names_or;
-use crate::words::share;
+use crate::words::{is_end, share};
 use ae_base::{Memory, TEXT_BYTES};
-use ae_cover::{Cover, Kind};
-use ae_lex::{Line, Style, lines};
+use ae_cover::{Cover, Kind, clash_laws};
+use ae_lex::{Line, Style, lines, words_law};
 use std::alloc::Global;
 
 /// The words of a line.
 fn words_of<'a>(alloc: Global, bytes: &'a [u8], line: &Line) -> Result<Vec<&'a [u8]>, Memory>
     requires { All (IsInside bytes.now) line.now.words }
-    ensures { IfOk result (λ words. texts words.items ≡ map (spec.word bytes.now) line.now.words) }
+    ensures { IfOk result (λ words. texts words.items ≡ map (cut bytes.now) line.now.words) }
 {
     let mut words = Vec::new(alloc);
     for span in line.words.as_slice() {
         words.push(&bytes[span.start as usize..span.end as usize])?;
     }
     Ok(words)
-}
-
-/// Whether nothing is read after a line of these words.
-#[tactic(auto, unfolding(crate::specs::Pla::statement))]
-fn is_end(words: &[&[u8]]) -> bool
-    ensures { result ≡ spec.is_end (spec.statement (texts words.now)) }
-{
-    match words {
-        [[b'.', ..], ..] => header_of(words[0]) == Header::End,
-        _ => false,
-    }
 }
 
 /// Reads the lines of a text with so many lines up to an end. It answers what they say, and the number of the last line
@@ -48,7 +39,7 @@ fn read_lines(
     last: u32,
 ) -> Result<(Draft, u32), PlaErr>
     requires { All (λ line. All (IsInside bytes.now) line.words) lines.now }
-    ensures { Reads last (map (spec.said bytes.now) lines.now) result }
+    ensures { Reads last (map (cut_line bytes.now) lines.now) result }
 {
     let mut draft = Draft::new(alloc);
     for line in lines {
@@ -68,6 +59,15 @@ fn read_lines(
         }
     }
     Ok((draft, last))
+}
+
+/// Whether two rows of a cover clash.
+fn has_clash(cover: &Cover) -> bool
+    requires { IsCover cover.now }
+    ensures { result ≡ has_clash cover.now }
+{
+    clash_laws();
+    cover.first_clash().is_some()
 }
 
 /// The cover of a draft, or the first fault of the whole text.
@@ -109,7 +109,7 @@ fn finish(alloc: Global, draft: Draft, last: u32) -> Result<Cover, PlaErr>
         kind: kind.unwrap_or(Kind::Fd),
         rows,
     };
-    if cover.first_clash().is_some() {
+    if has_clash(&cover) {
         return Err(PlaErr::At {
             line: last,
             what: PlaFault::Clash,
@@ -122,11 +122,12 @@ fn finish(alloc: Global, draft: Draft, last: u32) -> Result<Cover, PlaErr>
 ///
 /// `At` carries exactly the first fault: that of the first faulty line, and only where no line that is read has one, the
 /// first of the whole text with the number of the last line that is read. `Memory` comes only for want of memory.
-#[tactic(auto, unfolding(crate::specs::Pla::pla_says, crate::specs::Pla::lines_say))]
+#[tactic(auto, unfolding(crate::specs::Pla::pla_says))]
 pub fn read_pla(alloc: Global, bytes: &[u8]) -> Result<Cover, PlaErr>
     requires { length bytes.now ≤ TEXT_BYTES }
     ensures { Gives (spec.pla_says bytes.now) result }
 {
+    words_law();
     let found = lines(alloc, bytes, Style::Pla)?;
     let (draft, last) = read_lines(alloc, bytes, found.list.as_slice(), found.last)?;
     finish(alloc, draft, last)

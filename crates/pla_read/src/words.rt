@@ -1,5 +1,5 @@
 //! What the words of a line say.
-ghost use Rattle.std.specs.Prelude.{ℕ, ◌≡◌, ◌≢◌, ◌+◌, ◌-◌, ◌≤◌, ◌<◌, true, false, if◌then◌else◌, Some, None, length, take, drop, ◌++◌, All, AllPairs, IfSome, IfOk, OnOk};
+ghost use Rattle.std.specs.Prelude.{ℕ, ◌≡◌, ◌≢◌, ◌+◌, ◌-◌, ◌≤◌, ◌<◌, true, false, if◌then◌else◌, Some, None, length, take, drop, not, filter, ◌==◌, [], ◌∷◌, ◌++◌, All, AllPairs, IfSome, IfOk, OnOk};
 ghost use Rattle.std.specs.List.{list_any, list_all};
 ghost use Rattle.std.specs.Str.{bytes_eq};
 ghost use Rattle.ae_base.specs.Name.{is_source_name};
@@ -13,6 +13,28 @@ use std::alloc::Global;
 
 /// The most digits of a number.
 pub const NUMBER_DIGITS: usize = 9;
+
+/// Whether a header is one of other PLA dialects.
+pub fn is_unsupported(header: &[u8]) -> bool
+    ensures { result ≡ spec.is_unsupported header.now }
+{
+    header == b".phase".as_slice()
+        || header == b".pair".as_slice()
+        || header == b".symbolic".as_slice()
+        || header == b".mv".as_slice()
+        || header == b".kiss".as_slice()
+        || header == b".label".as_slice()
+}
+
+/// Whether nothing is read from a line of these words on.
+pub fn is_end(words: &[&[u8]]) -> bool
+    ensures { result ≡ spec.is_end (texts words.now) }
+{
+    match words {
+        [word, ..] => *word == b".e".as_slice() || *word == b".end".as_slice(),
+        _ => false,
+    }
+}
 
 fn is_digit(b: u8) -> bool
     ensures { result ≡ spec.is_digit b }
@@ -156,7 +178,7 @@ pub fn join(alloc: Global, words: &[&[u8]]) -> Result<Vec<u8>, Memory>
 }
 
 fn push_chars(chars: &mut Vec<u8>, word: &[u8]) -> Result<(), Memory>
-    ensures { OnOk result (chars.new.items ≡ chars.old.items ++ spec.without_bars word.now) }
+    ensures { OnOk result (chars.new.items ≡ chars.old.items ++ filter (λ b. not (b == 124)) word.now) }
 {
     for b in word {
         if *b != b'|' {

@@ -1,5 +1,7 @@
+pub mod Completed
 pub mod Ends
 pub mod Jobs
-pub mod Sources
-pub mod Tested
+pub mod Names
+pub mod OneEnd
 pub mod Telling
+pub mod Tested

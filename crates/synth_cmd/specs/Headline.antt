@@ -1,23 +1,32 @@
--- The headline of `synth IN NET VEC` in Reddy form, by what the files hold before and after the call.
-use Rattle.std.specs.Prelude.{◌≡◌, ℕ, List, Option, Some, IfSome}
+-- The headline of a call, by what the files hold before and after it.
+use Rattle.std.specs.Prelude.{◌≡◌, ℕ, Ok, List, Option, Some, IfSome, length}
 use Rattle.std.specs.FinMap.{get}
 use Rattle.ae_base.specs.Source.{Source}
 use Rattle.ae_outside.specs.Files.{Shelf}
-use Rattle.synth_core.specs.Asked.{IsSource}
+use Rattle.synth_core.specs.Asked.{polarity_of}
 use Rattle.synth_core.specs.Headline.{Headline}
+use Rattle.synth_core.specs.Says.{source_says}
 use Rattle.synth_core.specs.declared.settings.Settings.{Settings}
+use Rattle.synth_cmd.specs.Asked.{Asked}
+use Rattle.synth_cmd.specs.Asked.Asked.{Refused, Synth}
 
-pub record Tested (settings : Settings) (source net vectors : List ℕ) (old new : Option Shelf) : Type 0 where
-  -- IN held a text that says a source.
+-- The name holds these bytes, where the files tell what they hold.
+abbrev pub Holds : Option Shelf → List ℕ → List ℕ → Type 0
+Holds held name bytes = IfSome held (λ m. get m name ≡ Some bytes)
+
+-- The source was bytes that say a source, and NET and VEC hold bytes of which the headline speaks.
+pub record Tested (settings : Settings) (Was : List ℕ → Type 0) (net vectors : List ℕ) (held : Option Shelf) : Type 0 where
   pub bytes : List ℕ
-  pub held : IfSome old (λ m. get m source ≡ Some bytes)
-  pub said : Source
-  pub says : IsSource settings.kind bytes said
-  -- NET and VEC hold these bytes.
+  pub was : Was bytes
+  pub source : Source
+  pub says : source_says settings.kind bytes ≡ Ok source
   pub net_bytes : List ℕ
-  pub net_holds : IfSome new (λ m. get m net ≡ Some net_bytes)
+  pub net_holds : Holds held net net_bytes
   pub vec_bytes : List ℕ
-  pub vec_holds : IfSome new (λ m. get m vectors ≡ Some vec_bytes)
-  -- The written BLIF reads back as a network that with the control low gives every output value that the source specifies. Each response
-  -- is that network's. The vectors are at most n + 4 and two for each even input, and detect every single stuck-at fault of it.
-  pub headline : Headline said net_bytes vec_bytes
+  pub vec_holds : Holds held vectors vec_bytes
+  pub headline : Headline settings.form (polarity_of settings.polarity (length source.inputs)) source net_bytes vec_bytes
+
+-- what stands where a command is done, by what the files held before and hold now
+abbrev pub HasHeadline : Asked → Option Shelf → Option Shelf → Type 0
+HasHeadline Refused old new = ⊥
+HasHeadline (Synth settings source net vectors) old new = Tested settings (Holds old source) net vectors new

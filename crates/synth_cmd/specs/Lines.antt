@@ -6,8 +6,8 @@ use Rattle.vec_text.specs.VectorFile.{form_line, polarity_line}
 use Rattle.synth_cmd.specs.declared.TheConstants.{READ_FAULT, REFUSED, TOO_LONG, TOO_MANY_TERMS}
 use Rattle.synth_cmd.specs.declared.tell.Refusal.{Refusal}
 use Rattle.synth_cmd.specs.declared.tell.Refusal.TheVariants.{ReadFault, TooLong, Text, TooManyTerms}
-use Rattle.pla_read.specs.declared.fault.PlaFault.{PlaFault}
-use Rattle.pla_read.specs.Faults.{fault_name}
+use Rattle.synth_core.specs.declared.fault.TextFault.{TextFault}
+use Rattle.synth_core.specs.Says.{text_fault_name}
 use Rattle.synth_core.specs.declared.made.Summary.{Summary}
 
 abbrev pub usage_line : List ℕ
@@ -19,8 +19,8 @@ read_fault_line name = codes "read fault: " ++ (name ++ codes "\n")
 abbrev pub write_fault_line : List ℕ → List ℕ
 write_fault_line name = codes "write fault: " ++ (name ++ codes "\n")
 
-abbrev pub refused_line : List ℕ → ℕ → PlaFault → List ℕ
-refused_line name line what = codes "refused: " ++ (name ++ (codes ": line " ++ (decimal line ++ (codes ": " ++ (fault_name what ++ codes "\n")))))
+abbrev pub refused_line : List ℕ → ℕ → TextFault → List ℕ
+refused_line name line what = codes "refused: " ++ (name ++ (codes ": line " ++ (decimal line ++ (codes ": " ++ (text_fault_name what ++ codes "\n")))))
 
 abbrev pub too_long_line : List ℕ → List ℕ
 too_long_line name = codes "too long: " ++ (name ++ codes "\n")

@@ -1,18 +1,19 @@
 //! The files of a synthesis: the source is read, and the network and its vectors are written.
-ghost use Rattle.std.specs.Prelude.{◌≡◌, ◌⊎◌, None, IfOk, OnOk, IfSome, IsErrOf};
-ghost use Rattle.std.specs.FinMap.{get};
+ghost use Rattle.std.specs.Prelude.{◌≡◌, ◌⊎◌, ℕ, List, [], ◌∷◌, IfOk, OnOk, IsErrOf};
 ghost use Rattle.ae_outside.specs.Counts.{CountsAt, RoseAt};
 ghost use Rattle.ae_outside.specs.Files.{written, IsWrittenInPart};
+ghost use Rattle.synth_core.specs.Made.{texts_of};
 ghost use Rattle.synth_cmd.specs.declared.job.SourceErr.TheVariants as source_err;
 ghost use Rattle.synth_cmd.specs.declared.job.Stop.TheVariants as stop;
-ghost use Rattle.synth_cmd.specs.declared.tell.Refusal.TheVariants as refusal;
-ghost use Rattle.synth_cmd.specs.Outcome.{Cause, HoldsText, IsMadeOf, NetInPart, VectorsInPart, InPart, BothWhole, CountsAtBoth};
+ghost use Rattle.synth_cmd.specs.Outcome.{Cause, HoldsText, IsMadeOf};
+ghost use Rattle.synth_cmd.specs.Outside.{CountsAmong};
+ghost use Rattle.synth_cmd.specs.Telling.{StopsMade, WritesMade};
 
 use crate::tell::Refusal;
 use ae_base::TEXT_BYTES;
 use ae_outside::{Files, ReadErr, WriteErr, read_whole, write_whole};
 use std::alloc::Global;
-use synth_core::{Made, Settings, Summary, SynthErr, synthesise};
+use synth_core::{Made, Settings, SynthErr, TextFault, synthesise};
 
 /// Why a source gives no network.
 #[derive(Clone, Copy, Debug, PartialEq, Eq)]
@@ -40,10 +41,8 @@ pub enum Stop {
 
 /// Reads the source.
 fn read_source<F: Files>(alloc: Global, files: &mut F, source: &str) -> Result<Vec<u8>, SourceErr>
-    ensures held { IfOk result (λ bytes. HoldsText source.now (F.held files.old) bytes.items) }
-    ensures refused { (r : Refusal) → IsErrOf result (source_err.Refused r) → (settings : Settings) → Cause settings r source.now (F.held files.old) (F.read_faults files.old) (F.read_faults files.new) }
-    ensures not_held { IfSome (F.held files.old) (λ m. get m source.now ≡ None → IsErrOf result (source_err.Refused refusal.ReadFault) ⊎ IsErrOf result source_err.Memory) }
-
+    ensures held { IfOk result (λ bytes. HoldsText (F.held files.old) source.now bytes.items) }
+    ensures refused { (r : Refusal) → IsErrOf result (source_err.Refused r) → (settings : Settings) → Cause settings (HoldsText (F.held files.old) source.now) (F.held files.old) (F.read_faults files.old) (F.read_faults files.new) source.now r }
     ensures stays { F.held files.new ≡ F.held files.old }
     ensures reads { CountsAt source.now (F.read_faults files.old) (F.read_faults files.new) }
     ensures writes { F.write_faults files.new ≡ F.write_faults files.old }
@@ -63,10 +62,9 @@ fn make<F: Files>(
     settings: &Settings,
     source: &str,
 ) -> Result<Made, SourceErr>
-    ensures made { IfOk result (λ made. IsMadeOf settings.now source.now (F.held files.old) made.net_text.items made.vec_text.items made.summary) }
-    ensures refused { (r : Refusal) → IsErrOf result (source_err.Refused r) → Cause settings.now r source.now (F.held files.old) (F.read_faults files.old) (F.read_faults files.new) }
-    ensures not_held { IfSome (F.held files.old) (λ m. get m source.now ≡ None → IsErrOf result (source_err.Refused refusal.ReadFault) ⊎ IsErrOf result source_err.Memory) }
-
+    ensures made { IfOk result (λ made. IsMadeOf settings.now (HoldsText (F.held files.old) source.now) (texts_of made)) }
+    ensures refused { (r : Refusal) → IsErrOf result (source_err.Refused r)
+        → Cause settings.now (HoldsText (F.held files.old) source.now) (F.held files.old) (F.read_faults files.old) (F.read_faults files.new) source.now r }
     ensures stays { F.held files.new ≡ F.held files.old }
     ensures reads { CountsAt source.now (F.read_faults files.old) (F.read_faults files.new) }
     ensures writes { F.write_faults files.new ≡ F.write_faults files.old }
@@ -77,7 +75,10 @@ fn make<F: Files>(
     };
     match synthesise(alloc, &bytes, settings) {
         Ok(made) => Ok(made),
-        Err(SynthErr::Pla { line, what }) => Err(SourceErr::Refused(Refusal::Text { line, what })),
+        Err(SynthErr::Pla { line, what }) => {
+            let what = TextFault::Pla(what);
+            Err(SourceErr::Refused(Refusal::Text { line, what }))
+        }
         Err(SynthErr::TooManyTerms { output }) => {
             Err(SourceErr::Refused(Refusal::TooManyTerms { output }))
         }
@@ -102,7 +103,7 @@ fn write_texts<F: Files>(
         ⊎ IsWrittenInPart (written (F.held files.old) net.now made.now.net_text.items) vectors.now made.now.vec_text.items (F.held files.new) }
 
     ensures reads { F.read_faults files.new ≡ F.read_faults files.old }
-    ensures writes { CountsAtBoth net.now vectors.now (F.write_faults files.old) (F.write_faults files.new) }
+    ensures writes { CountsAmong (net.now ∷ vectors.now ∷ []) (F.write_faults files.old) (F.write_faults files.new) }
 {
     match write_whole(files, net, &made.net_text) {
         Ok(()) => {}
@@ -116,7 +117,7 @@ fn write_texts<F: Files>(
     }
 }
 
-/// Reads the source, synthesises, and writes the network and its vectors. It answers the numbers for the report.
+/// Reads the source, synthesises, and writes the network and its vectors.
 pub fn synthesise_files<F: Files>(
     alloc: Global,
     files: &mut F,
@@ -124,19 +125,20 @@ pub fn synthesise_files<F: Files>(
     source: &str,
     net: &str,
     vectors: &str,
-) -> Result<Summary, Stop>
-    ensures done { IfOk result (λ summary. BothWhole settings.now source.now net.now vectors.now summary (F.held files.old) (F.held files.new)) }
-    ensures refused { (r : Refusal) → IsErrOf result (stop.Refused r) → Cause settings.now r source.now (F.held files.old) (F.read_faults files.old) (F.read_faults files.new) }
+) -> Result<Made, Stop>
+    ensures done { IfOk result (λ made. WritesMade settings.now (HoldsText (F.held files.old) source.now) (net.now ∷ vectors.now ∷ []) (texts_of made) (F.held files.old) (F.held files.new)) }
+    ensures refused { (r : Refusal) → IsErrOf result (stop.Refused r)
+        → Cause settings.now (HoldsText (F.held files.old) source.now) (F.held files.old) (F.read_faults files.old) (F.read_faults files.new) source.now r }
     ensures refused_stays { (r : Refusal) → IsErrOf result (stop.Refused r) → F.held files.new ≡ F.held files.old }
     ensures net_fault { IsErrOf result stop.NetFault → RoseAt net.now (F.write_faults files.old) (F.write_faults files.new) }
-    ensures net_in_part { IsErrOf result stop.NetFault → NetInPart settings.now source.now net.now (F.held files.old) (F.held files.new) }
+    ensures net_stops { IsErrOf result stop.NetFault → StopsMade settings.now (HoldsText (F.held files.old) source.now) (net.now ∷ vectors.now ∷ []) net.now (F.held files.old) (F.held files.new) }
     ensures vectors_fault { IsErrOf result stop.VectorsFault → RoseAt vectors.now (F.write_faults files.old) (F.write_faults files.new) }
-    ensures vectors_in_part { IsErrOf result stop.VectorsFault → VectorsInPart settings.now source.now net.now vectors.now (F.held files.old) (F.held files.new) }
-    ensures memory { IsErrOf result stop.Memory → InPart settings.now source.now net.now vectors.now (F.held files.old) (F.held files.new) }
+    ensures vectors_stop { IsErrOf result stop.VectorsFault → StopsMade settings.now (HoldsText (F.held files.old) source.now) (net.now ∷ vectors.now ∷ []) vectors.now (F.held files.old) (F.held files.new) }
+    ensures memory { IsErrOf result stop.Memory → (F.held files.new ≡ F.held files.old)
+        ⊎ ((name : List ℕ) × StopsMade settings.now (HoldsText (F.held files.old) source.now) (net.now ∷ vectors.now ∷ []) name (F.held files.old) (F.held files.new)) }
 
-    ensures not_held { IfSome (F.held files.old) (λ m. get m source.now ≡ None → IsErrOf result (stop.Refused refusal.ReadFault) ⊎ IsErrOf result stop.Memory) }
     ensures reads { CountsAt source.now (F.read_faults files.old) (F.read_faults files.new) }
-    ensures writes { CountsAtBoth net.now vectors.now (F.write_faults files.old) (F.write_faults files.new) }
+    ensures writes { CountsAmong (net.now ∷ vectors.now ∷ []) (F.write_faults files.old) (F.write_faults files.new) }
 {
     let made = match make(alloc, files, settings, source) {
         Ok(made) => made,
@@ -144,7 +146,7 @@ pub fn synthesise_files<F: Files>(
         Err(SourceErr::Memory) => return Err(Stop::Memory),
     };
     match write_texts(files, net, vectors, &made) {
-        Ok(()) => Ok(made.summary),
+        Ok(()) => Ok(made),
         Err(TextsErr::NetFault) => Err(Stop::NetFault),
         Err(TextsErr::VectorsFault) => Err(Stop::VectorsFault),
         Err(TextsErr::Memory) => Err(Stop::Memory),

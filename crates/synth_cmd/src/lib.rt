@@ -2,12 +2,14 @@
 #![tactic(auto)]
 
 mod job;
+mod laws;
 mod lines;
 mod report;
 mod tell;
 mod top;
 mod words;
 
+pub use laws::one_end_law;
 pub use top::run;
 
 /// The command is done: all texts are written, and the report.

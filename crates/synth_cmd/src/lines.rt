@@ -2,8 +2,8 @@
 ghost use Rattle.std.specs.Prelude.{◌≡◌, IfOk, string_bytes};
 ghost use Rattle.synth_cmd.specs.Lines as spec;
 
-use pla_read::PlaFault;
 use std::alloc::{AllocError, Global};
+use synth_core::TextFault;
 
 /// Tells that a read of the file failed.
 pub fn read_fault(alloc: Global, name: &str) -> Result<String, AllocError>
@@ -20,7 +20,7 @@ pub fn write_fault(alloc: Global, name: &str) -> Result<String, AllocError>
 }
 
 /// Tells the first fault of the file's text, with its line.
-pub fn refused(alloc: Global, name: &str, line: u32, what: PlaFault) -> Result<String, AllocError>
+pub fn refused(alloc: Global, name: &str, line: u32, what: TextFault) -> Result<String, AllocError>
     ensures { IfOk result (λ text. string_bytes text ≡ spec.refused_line name.now line what) }
 {
     format!(in alloc; "refused: {name}: line {line}: {what}\n")

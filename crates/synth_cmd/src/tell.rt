@@ -1,16 +1,14 @@
 //! What the report takes at the end of a call.
-ghost use Rattle.std.specs.Prelude.{◌≡◌, ◌≢◌, ◌⊎◌, ◌≤◌, string_bytes, IfOk};
-ghost use Rattle.ae_outside.specs.Counts.{Rose};
-ghost use Rattle.ae_outside.specs.Files.{added, TookFront};
+ghost use Rattle.std.specs.Prelude.{◌≡◌, ◌≤◌, string_bytes, IfOk};
+ghost use Rattle.ae_outside.specs.Files.{TookFront};
 ghost use Rattle.synth_cmd.specs.Lines.{memory_line, report_lines, status_of, line_of, write_fault_line};
-ghost use Rattle.synth_cmd.specs.Outcome.{Told, TellsMemory};
+ghost use Rattle.synth_cmd.specs.Telling.{Tells, Reports};
 
 use crate::report::report as report_of;
 use crate::{DONE, MEMORY, READ_FAULT, REFUSED, TOO_LONG, TOO_MANY_TERMS, WRITE_FAULT, lines};
 use ae_outside::{Sink, WriteErr, put_all};
-use pla_read::PlaFault;
 use std::alloc::{AllocError, Global};
-use synth_core::Summary;
+use synth_core::{Summary, TextFault};
 
 /// Why a source is refused.
 #[derive(Clone, Copy, Debug, PartialEq, Eq)]
@@ -20,7 +18,7 @@ pub enum Refusal {
     /// It has more bytes than a text may have.
     TooLong,
     /// Its text has this first fault.
-    Text { line: u32, what: PlaFault },
+    Text { line: u32, what: TextFault },
     /// Its expansions have too many terms, first at this output.
     TooManyTerms { output: u32 },
 }
@@ -37,10 +35,7 @@ pub fn want_memory<K: Sink>(report: &mut K) -> u8
 
 /// Tells a line and answers the status, or that of memory. A fault of the report changes no status.
 pub fn tell<K: Sink>(report: &mut K, line: &[u8], status: u8) -> u8
-    requires { status ≢ MEMORY }
-    ensures status { (result ≡ status) ⊎ (result ≡ MEMORY) }
-    ensures told { result ≢ MEMORY → Told line.now (K.taken report.old) (K.taken report.new) (K.faults report.old) (K.faults report.new) }
-    ensures memory { result ≡ MEMORY → TellsMemory line.now (K.taken report.old) (K.taken report.new) }
+    ensures told { Tells line.now status (K.taken report.old) (K.taken report.new) (K.faults report.old) (K.faults report.new) result }
     ensures counts { K.faults report.old ≤ K.faults report.new }
 {
     match put_all(report, line) {
@@ -74,9 +69,7 @@ fn line(alloc: Global, refusal: Refusal, name: &str) -> Result<String, AllocErro
 
 /// Tells why a source is refused, and answers the refusal's status, or that of memory.
 pub fn refuse<K: Sink>(alloc: Global, report: &mut K, refusal: Refusal, name: &str) -> u8
-    ensures status { (result ≡ status_of refusal) ⊎ (result ≡ MEMORY) }
-    ensures told { result ≢ MEMORY → Told (line_of refusal name.now) (K.taken report.old) (K.taken report.new) (K.faults report.old) (K.faults report.new) }
-    ensures memory { result ≡ MEMORY → TellsMemory (line_of refusal name.now) (K.taken report.old) (K.taken report.new) }
+    ensures told { Tells (line_of refusal name.now) (status_of refusal) (K.taken report.old) (K.taken report.new) (K.faults report.old) (K.faults report.new) result }
     ensures counts { K.faults report.old ≤ K.faults report.new }
 {
     match line(alloc, refusal, name) {
@@ -87,9 +80,7 @@ pub fn refuse<K: Sink>(alloc: Global, report: &mut K, refusal: Refusal, name: &s
 
 /// Tells that a write of the file failed, and answers the status of a write fault, or that of memory.
 pub fn tell_write_fault<K: Sink>(alloc: Global, report: &mut K, name: &str) -> u8
-    ensures status { (result ≡ WRITE_FAULT) ⊎ (result ≡ MEMORY) }
-    ensures told { result ≢ MEMORY → Told (write_fault_line name.now) (K.taken report.old) (K.taken report.new) (K.faults report.old) (K.faults report.new) }
-    ensures memory { result ≡ MEMORY → TellsMemory (write_fault_line name.now) (K.taken report.old) (K.taken report.new) }
+    ensures told { Tells (write_fault_line name.now) WRITE_FAULT (K.taken report.old) (K.taken report.new) (K.faults report.old) (K.faults report.new) result }
     ensures counts { K.faults report.old ≤ K.faults report.new }
 {
     match lines::write_fault(alloc, name) {
@@ -100,11 +91,7 @@ pub fn tell_write_fault<K: Sink>(alloc: Global, report: &mut K, name: &str) -> u
 
 /// Reports a synthesis.
 pub fn finish<K: Sink>(alloc: Global, report: &mut K, summary: Summary) -> u8
-    ensures known { (result ≡ DONE) ⊎ ((result ≡ WRITE_FAULT) ⊎ (result ≡ MEMORY)) }
-    ensures done { result ≡ DONE → K.taken report.new ≡ added (K.taken report.old) (report_lines summary) }
-    ensures fault { result ≡ WRITE_FAULT → Rose (K.faults report.old) (K.faults report.new) }
-    ensures front { result ≡ WRITE_FAULT → TookFront (report_lines summary) (K.taken report.old) (K.taken report.new) }
-    ensures memory { result ≡ MEMORY → TellsMemory (report_lines summary) (K.taken report.old) (K.taken report.new) }
+    ensures told { Reports (report_lines summary) (K.taken report.old) (K.taken report.new) (K.faults report.old) (K.faults report.new) result }
     ensures counts { K.faults report.old ≤ K.faults report.new }
 {
     match report_of(alloc, summary) {

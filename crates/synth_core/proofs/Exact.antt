@@ -1,98 +1,129 @@
 -- What is answered of the bytes of a source, from what is answered of its cover.
-use Rattle.std.proofs.Common.{◌≡◌, ◌⊎◌, inl, inr, ℕ, Bool, List, length, refl, sym, ap, ◌∙◌, subst}
+use Rattle.std.proofs.Common.{◌≡◌, ◌≤◌, ◌⊎◌, inl, inr, ℕ, Bool, List, length, refl, sym, ap, ap₂, ◌∙◌, subst}
 use Rattle.std.specs.Prelude.{Result, Ok, Err, IfOk, IsOk, IsErrOf}
 use Rattle.ae_base.specs.Mask.{Set}
 use Rattle.ae_base.specs.Cube.{Signs}
 use Rattle.ae_base.specs.Source.{Source}
 use Rattle.ae_cover.specs.Cover.{Table, source_of}
 use Rattle.cascade.specs.declared.limits.TheConstants.{REDDY_TERMS}
+use Rattle.expansion.specs.Functions.{AreExpansions}
+use Rattle.expansion.specs.Terms.{Terms, cost}
 use Rattle.fn_store.specs.Davio.{IsExpansion}
 use Rattle.pla_read.specs.declared.fault.PlaFault.{PlaFault}
 use Rattle.pla_read.specs.Pla.{pla_says}
-use Rattle.synth_core.specs.Asked.{IsPlaSource, IsSource, HasFault, HasTooMany, PassesAt, polarity_of, terms_limit}
-use Rattle.synth_core.specs.Made.{IsMade, IsSynthesised}
+use Rattle.synth_core.specs.Asked.{IsExpanded, IsWithin, PassesAt, HasTooMany, polarity_of, terms_limit}
+use Rattle.synth_core.specs.Made.{IsMade, IsSynthesised, Texts, texts_of}
+use Rattle.synth_core.specs.Says.{source_says}
+use Rattle.synth_core.specs.Steps.{IsMadeOf, TooMany}
 use Rattle.synth_core.specs.declared.error.SynthErr.{SynthErr}
 use Rattle.synth_core.specs.declared.error.SynthErr.TheVariants as err
+use Rattle.synth_core.specs.declared.fault.TextFault.{TextFault}
+use Rattle.synth_core.specs.declared.fault.TextFault.TheVariants as text
 use Rattle.synth_core.specs.declared.made.Made.{Made}
-use Rattle.synth_core.specs.declared.made.Summary.{Summary}
 use Rattle.synth_core.specs.declared.settings.Settings.{Settings}
 use Rattle.synth_core.specs.declared.settings.SourceKind.{SourceKind}
 use Rattle.synth_core.specs.declared.settings.SourceKind.TheVariants.{Pla}
 use Rattle.vec_text.specs.declared.file.Form.{Form}
 use Rattle.vec_text.specs.declared.file.Form.TheVariants.{Reddy}
-use Rattle.synth_core.proofs.Limits.{passes_once}
+use Rattle.synth_core.proofs.Limits.{one_expanded, passes_once, apart, same}
 
--- a text says one cover
-same_table : (bytes : List ℕ) (t u : Table) → pla_says bytes ≡ Ok t → pla_says bytes ≡ Ok u → t ≡ u
-same_table bytes t u a b = let both = sym a ∙ b in cc both
-
--- and so one source
-same_source : (bytes : List ℕ) (t : Table) (s : Source) → pla_says bytes ≡ Ok t → IsPlaSource bytes s → s ≡ source_of t
-same_source bytes t s says other = other.source ∙ ap source_of (same_table bytes other.table t other.says says)
-
+-- there is no other form and no other kind yet
 limit_is : (form : Form) → terms_limit form ≡ REDDY_TERMS
 limit_is Reddy = refl
 
--- there is no other kind yet
+form_is : (form : Form) → form ≡ Reddy
+form_is Reddy = refl
+
 pub kind_is : (kind : SourceKind) → kind ≡ Pla
 kind_is Pla = refl
 
-pla_source : (kind : SourceKind) (bytes : List ℕ) (s : Source) → IsSource kind bytes s → IsPlaSource bytes s
-pla_source Pla bytes s h = h
+-- a PLA text with this fault
+says_fault : (bytes : List ℕ) (line : ℕ) (what : PlaFault) → pla_says bytes ≡ Err (line, what) → source_says Pla bytes ≡ Err (line, text.Pla what)
+says_fault bytes line what h = rw h refl
 
-pla_fault : (kind : SourceKind) (bytes : List ℕ) (line : ℕ) (what : PlaFault) → HasFault kind bytes line what → pla_says bytes ≡ Err (line, what)
-pla_fault Pla bytes line what h = h
+pub is_fault : (kind : SourceKind) (bytes : List ℕ) (line : ℕ) (what : PlaFault) → pla_says bytes ≡ Err (line, what) → source_says kind bytes ≡ Err (line, text.Pla what)
+is_fault Pla bytes line what h = says_fault bytes line what h
+
+same_err : (e d : ℕ × TextFault) → same {X = Result Source (ℕ × TextFault)} (Err e) (Err d) → e ≡ d
+same_err e d h = cc h
+
+-- that has no other fault
+pub one_fault : (kind : SourceKind) (bytes : List ℕ) (line a : ℕ) (what b : PlaFault) → pla_says bytes ≡ Err (line, what) → source_says kind bytes ≡ Err (a, text.Pla b)
+    → {X : Type 0} (r : Result X SynthErr) → r ≡ Err (err.Pla line what) → IsErrOf r (err.Pla a b)
+one_fault Pla bytes line a what b h g r is =
+    let pairs = same_err (line, text.Pla what) (a, text.Pla b) (sym (says_fault bytes line what h) ∙ g) in
+    let lines : line ≡ a = ap (λ e. e.0) pairs in
+    let whats : what ≡ b = let faults : text.Pla what ≡ text.Pla b = ap (λ e. e.1) pairs in cc faults in
+    is ∙ ap₂ (λ x y. Err (err.Pla x y)) lines whats
+
+-- and is no source
+pub no_source : (settings : Settings) (bytes : List ℕ) (line : ℕ) (what : PlaFault) (s : Source) (e : Terms) → pla_says bytes ≡ Err (line, what) → IsExpanded settings bytes s e → ⊥
+no_source settings bytes line what s e h is = let both = sym (is_fault settings.kind bytes line what h) ∙ is.says in cc both
 
 -- ---- where the text says a cover
 
-module _ (settings : Settings) (bytes : List ℕ) (t : Table) (p : Signs) (kind : settings.kind ≡ Pla) (says : pla_says bytes ≡ Ok t) (p_is : p ≡ polarity_of settings.polarity (length t.inputs)) where
-  is_source : IsSource settings.kind bytes (source_of t)
-  is_source = rw kind (record { table = t; says = says; source = refl })
+says_source : (bytes : List ℕ) (t : Table) → pla_says bytes ≡ Ok t → source_says Pla bytes ≡ Ok (source_of t)
+says_source bytes t h = rw h refl
 
-  passes_of : (output : ℕ) → HasTooMany settings bytes output → PassesAt (source_of t) p REDDY_TERMS output
-  passes_of output many =
-      let s_is : many.source ≡ source_of t = same_source bytes t many.source says (pla_source settings.kind bytes many.source many.says) in
-      subst (λ limit. PassesAt (source_of t) p limit output) (limit_is settings.form)
-      (subst (λ q. PassesAt (source_of t) q (terms_limit settings.form) output) (sym p_is)
-      (subst (λ s. PassesAt s (polarity_of settings.polarity (length s.inputs)) (terms_limit settings.form) output) s_is many.passes))
+module _ (settings : Settings) (bytes : List ℕ) (t : Table) (p : Signs) (says : pla_says bytes ≡ Ok t) (p_is : p ≡ polarity_of settings.polarity (length t.inputs)) where
+  is_source : (kind : SourceKind) → source_says kind bytes ≡ Ok (source_of t)
+  is_source Pla = says_source bytes t says
 
-  pub has_too_many : (output : ℕ) → PassesAt (source_of t) p REDDY_TERMS output → HasTooMany settings bytes output
-  has_too_many output passes = record {
+  is_expanded : (e : Terms) → AreExpansions (source_of t) p e → IsExpanded settings bytes (source_of t) e
+  is_expanded e are = record { says = is_source settings.kind; expansions = subst (λ q. AreExpansions (source_of t) q e) p_is are }
+
+  pub has_too_many : (output : ℕ) → TooMany (source_of t) p output → HasTooMany settings bytes output
+  has_too_many output many = record {
     source = source_of t;
-    says = is_source;
-    passes =
-        subst (λ q. PassesAt (source_of t) q (terms_limit settings.form) output) p_is
-        (subst (λ limit. PassesAt (source_of t) p limit output) (sym (limit_is settings.form)) passes);
+    expansions = many.expansions;
+    expanded = is_expanded many.expansions many.are;
+    passes = subst (λ limit. PassesAt limit many.expansions.outs output) (sym (limit_is settings.form)) many.passes;
   }
 
-  pub is_made : (net_bytes vec_bytes : List ℕ) (summary : Summary) → IsSynthesised (source_of t) p net_bytes vec_bytes summary → IsMade settings bytes net_bytes vec_bytes summary
-  is_made net_bytes vec_bytes summary is = record {
+  abbrev is_within : (texts : Texts) → IsMadeOf (source_of t) p texts → IsWithin settings bytes
+  is_within texts is = record {
     source = source_of t;
-    says = is_source;
-    within = λ output many. is.within output (passes_of output many);
-    is_synthesised = subst (λ q. IsSynthesised (source_of t) q net_bytes vec_bytes summary) p_is is;
+    expansions = is.expansions;
+    expanded = is_expanded is.expansions is.are;
+    within = subst (λ limit. cost is.expansions ≤ limit) (sym (limit_is settings.form)) is.within;
   }
 
-  pub no_fault : (line : ℕ) (what : PlaFault) → HasFault settings.kind bytes line what → ⊥
-  no_fault line what fault = let both = sym says ∙ pla_fault settings.kind bytes line what fault in cc both
+  is_made : (texts : Texts) → IsMadeOf (source_of t) p texts → IsMade settings bytes texts
+  is_made texts is = record {
+    within = is_within texts is;
+    is_synthesised =
+        subst (λ form. IsSynthesised form (polarity_of settings.polarity (length t.inputs)) (source_of t) is.expansions texts) (sym (form_is settings.form))
+        (subst (λ q. IsSynthesised Reddy q (source_of t) is.expansions texts) p_is is.is_synthesised);
+  }
+
+  pub all_made : (r : Result Made SynthErr) → IfOk r (λ m. IsMadeOf (source_of t) p (texts_of m)) → IfOk r (λ m. IsMade settings bytes (texts_of m))
+  all_made (Ok m) is = is_made (texts_of m) is
+  all_made (Err e) is = tt
+
+  says_no_fault : (kind : SourceKind) (line : ℕ) (what : PlaFault) → source_says kind bytes ≡ Err (line, text.Pla what) → ⊥
+  says_no_fault kind line what fault = let both = sym (is_source kind) ∙ fault in cc both
+
+  pub no_fault : (line : ℕ) (what : PlaFault) → source_says settings.kind bytes ≡ Err (line, text.Pla what) → ⊥
+  no_fault line what fault = says_no_fault settings.kind line what fault
 
   module _ (one : (p : Signs) (f : Set → Bool) (ts us : List Set) → IsExpansion p f ts → IsExpansion p f us → ts ≡ us) where
-    pub all_made : (r : Result Made SynthErr) → IfOk r (λ m. IsSynthesised (source_of t) p m.net_text.items m.vec_text.items m.summary) → IfOk r (λ m. IsMade settings bytes m.net_text.items m.vec_text.items m.summary)
-    all_made (Ok m) is = is_made m.net_text.items m.vec_text.items m.summary is
-    all_made (Err e) is = tt
+    same_output : (a b : ℕ) → HasTooMany settings bytes a → HasTooMany settings bytes b → a ≡ b
+    same_output a b x y =
+        let same : x.expansions ≡ y.expansions = one_expanded one settings bytes x.source y.source x.expansions y.expansions x.expanded y.expanded in
+        passes_once (terms_limit settings.form) a b y.expansions.outs (subst (λ e. PassesAt (terms_limit settings.form) e.outs a) same x.passes) y.passes
 
-    pub always_too_many : (r : Result Made SynthErr) → IfOk r (λ m. IsSynthesised (source_of t) p m.net_text.items m.vec_text.items m.summary)
-        → ((output : ℕ) → IsErrOf r (err.TooManyTerms output) → PassesAt (source_of t) p REDDY_TERMS output) → ((line : ℕ) (what : PlaFault) → IsErrOf r (err.Pla line what) → ⊥)
+    pub always_too_many : (r : Result Made SynthErr) → IfOk r (λ m. IsMadeOf (source_of t) p (texts_of m))
+        → ((output : ℕ) → IsErrOf r (err.TooManyTerms output) → TooMany (source_of t) p output) → ((line : ℕ) (what : PlaFault) → IsErrOf r (err.Pla line what) → ⊥)
         → (output : ℕ) → HasTooMany settings bytes output → IsErrOf r (err.TooManyTerms output) ⊎ IsErrOf r err.Memory
-    always_too_many (Ok m) made passes accepted output many = absurd (made.within output (passes_of output many))
-    always_too_many (Err (err.TooManyTerms o)) made passes accepted output many = inl (ap (λ k. Err (err.TooManyTerms k)) (passes_once (source_of t) p one REDDY_TERMS o output (passes o refl) (passes_of output many)))
+    always_too_many (Ok m) made passes accepted output many = absurd (apart one settings bytes output (is_within (texts_of m) made) many)
+    always_too_many (Err (err.TooManyTerms o)) made passes accepted output many = inl (ap (λ k. Err (err.TooManyTerms k)) (same_output o output (has_too_many o (passes o refl)) many))
     always_too_many (Err (err.Pla line what)) made passes accepted output many = absurd (accepted line what refl)
     always_too_many (Err err.Memory) made passes accepted output many = inr refl
 
     pub complete : (r : Result Made SynthErr)
-        → ((output : ℕ) → IsErrOf r (err.TooManyTerms output) → PassesAt (source_of t) p REDDY_TERMS output) → ((line : ℕ) (what : PlaFault) → IsErrOf r (err.Pla line what) → ⊥)
-        → ((output : ℕ) → HasTooMany settings bytes output → ⊥) → IsOk r ⊎ IsErrOf r err.Memory
-    complete (Ok m) passes accepted none = inl refl
-    complete (Err (err.TooManyTerms o)) passes accepted none = absurd (none o (has_too_many o (passes o refl)))
-    complete (Err (err.Pla line what)) passes accepted none = absurd (accepted line what refl)
-    complete (Err err.Memory) passes accepted none = inr refl
+        → ((output : ℕ) → IsErrOf r (err.TooManyTerms output) → TooMany (source_of t) p output) → ((line : ℕ) (what : PlaFault) → IsErrOf r (err.Pla line what) → ⊥)
+        → IsWithin settings bytes → IsOk r ⊎ IsErrOf r err.Memory
+    complete (Ok m) passes accepted within = inl refl
+    complete (Err (err.TooManyTerms o)) passes accepted within = absurd (apart one settings bytes o within (has_too_many o (passes o refl)))
+    complete (Err (err.Pla line what)) passes accepted within = absurd (accepted line what refl)
+    complete (Err err.Memory) passes accepted within = inr refl

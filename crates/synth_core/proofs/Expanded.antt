@@ -1,10 +1,11 @@
 -- The expansions of a cover's outputs, output by output.
-use Rattle.std.proofs.Common.{◌≡◌, ◌<◌, ◌≤◌, ◌+◌, ℕ, zero, suc, Bool, true, ◌⊎◌, inl, inr, List, [], ◌∷◌, ◌++◌, length, get_or, refl, sym, ap, ◌∙◌, subst, arith}
+use Rattle.std.proofs.Common.{◌≡◌, ◌<◌, ◌≤◌, ◌+◌, ◌-◌, ℕ, zero, suc, Bool, true, ◌⊎◌, inl, inr, List, [], ◌∷◌, ◌++◌, length, get_or, refl, sym, ap, ◌∙◌, subst, arith, take, append_assoc, add-zero}
 use Rattle.std.specs.Prelude.{All, filter, Some, slice_get}
 use Rattle.std.specs.List.{sum_by}
 use Rattle.std.proofs.lemmas.Bool.{lt-ltb}
 use Rattle.std.proofs.lemmas.Option.{slice_get-get_or}
-use Rattle.std.proofs.lemmas.List.{length-append}
+use Rattle.std.proofs.lemmas.List.{length-append, append-nil}
+use Rattle.std.proofs.Math.Seq.{take-append_seam}
 use Rattle.std.proofs.lemmas.List.Elements.{All-map, All-filter, All-weaker}
 use Rattle.std.proofs.lemmas.List.Sums.{sum_by-cons}
 use Rattle.ae_base.specs.Mask.{Set, has, first, inside}
@@ -19,8 +20,7 @@ use Rattle.expansion.specs.Functions.{AreExpansions}
 use Rattle.expansion.specs.Terms.{Terms, IsTerms, cost}
 use Rattle.cascade.specs.declared.limits.TheConstants.{REDDY_TERMS}
 use Rattle.ae_cover.specs.Cover.{Table, IsCover, IsRow, has_mark, is_one, source_of}
-use Rattle.synth_core.specs.Asked.{PassesAt}
-use Rattle.synth_core.specs.Steps.{cubes_of}
+use Rattle.synth_core.specs.Steps.{cubes_of, TooMany}
 use Rattle.synth_core.proofs.Meaning.{on_set-cubes}
 
 -- ---- lists
@@ -88,17 +88,54 @@ module _ (s : Source) (p : Signs) (k : ℕ) (outs : List (List Set)) (sum : ℕ)
     few = few;
   })
 
-  pub passes_at : k < length s.outputs → REDDY_TERMS < sum + length ts → PassesAt s p REDDY_TERMS k
-  passes_at within past = record {
-    is_output = within;
-    before = outs;
-    here = ts;
-    are_before = had.outputs;
-    each = had.each;
-    is_here = is;
-    within = omega (arith, had.sum_is, had.few);
-    past = omega (arith, had.sum_is, past);
+-- ---- the first lists, and those after them
+
+-- the expansions of the first outputs
+pub record AreFirst (s : Source) (p : Signs) (k : ℕ) (lists : List (List Set)) : Type 0 where
+  pub count : length lists ≡ k
+  pub each : (o : ℕ) (ts : List Set) → slice_get lists o ≡ Some ts → IsExpansion p (on_set s o) ts
+
+module _ (s : Source) (p : Signs) (exists : (p : Signs) (f : Set → Bool) → ((ts : List Set) × IsExpansion p f ts)) where
+  first_more : (k : ℕ) (lists : List (List Set)) (ts : List Set) → AreFirst s p k lists → IsExpansion p (on_set s k) ts → AreFirst s p (k + 1) (lists ++ ts ∷ [])
+  first_more k lists ts had is = record {
+    count = length-append lists (ts ∷ []) ∙ ap (λ n. n + 1) had.count;
+    each = λ o us e. elim (one_more lists ts us o e) [
+      | inl earlier ↦ had.each o us earlier
+      | inr last ↦
+          let here : o ≡ k = omega (arith, last.0, had.count) in
+          rw (here, sym last.1) is
+    ];
   }
+
+  -- there are lists for n outputs more
+  all_first : (n k : ℕ) (lists : List (List Set)) → AreFirst s p k lists → (rest : List (List Set)) × AreFirst s p (k + n) (lists ++ rest)
+  all_first zero k lists had = ([], rw (append-nil lists, add-zero k) had)
+  all_first (suc n) k lists had =
+      let new = exists p (on_set s k) in
+      let more = all_first n (k + 1) (lists ++ new.0 ∷ []) (first_more k lists new.0 had new.1) in
+      let count : k + 1 + n ≡ k + suc n = omega arith in
+      (new.0 ∷ more.0, subst (λ m. AreFirst s p m (lists ++ (new.0 ∷ more.0))) count (subst (AreFirst s p (k + 1 + n)) (append_assoc lists (new.0 ∷ []) more.0) more.1))
+
+  -- the loop at an output where its expansion passes the limit
+  pub passes_at : (k : ℕ) (outs : List (List Set)) (sum : ℕ) (ts : List Set) → Expanded s p k outs sum → IsExpansion p (on_set s k) ts → p.n ≡ length s.inputs → k < length s.outputs → REDDY_TERMS < sum + length ts → TooMany s p k
+  passes_at k outs sum ts had is n_is within past =
+      let next : AreFirst s p (k + 1) (outs ++ ts ∷ []) = first_more k outs ts (record { count = had.outputs; each = had.each }) is in
+      let all = all_first (length s.outputs - (k + 1)) (k + 1) (outs ++ ts ∷ []) next in
+      let lists : List (List Set) = (outs ++ ts ∷ []) ++ all.0 in
+      let count : length lists ≡ length s.outputs = omega (arith, all.1.count, within) in
+      let front : take k lists ≡ outs =
+      ap (take k) (append_assoc outs (ts ∷ []) all.0) ∙ ap (λ n. take n (outs ++ (ts ∷ [] ++ all.0))) (sym had.outputs) ∙ take-append_seam outs (ts ∷ [] ++ all.0) in
+      let through : take (suc k) lists ≡ outs ++ ts ∷ [] =
+      ap (λ n. take n lists) (let e : suc k ≡ length (outs ++ ts ∷ []) = omega (arith, next.count) in e) ∙ take-append_seam (outs ++ ts ∷ []) all.0 in
+      record {
+        expansions = record { polarity = p; outs = lists };
+        are = record { inputs = n_is; polarity = refl; outputs = count; each = all.1.each };
+        passes = record {
+          is_place = omega (arith, count, within);
+          before = omega (arith, ap (λ xs. sum_by length xs) front, had.sum_is, had.few);
+          past = omega (arith, ap (λ xs. sum_by length xs) through, sum_one_more outs ts, had.sum_is, past);
+        };
+      }
 
 -- ---- all outputs
 

@@ -1,61 +1,75 @@
--- Expansions that keep the limit on terms pass it at no output.
-use Rattle.std.proofs.Common.{◌≡◌, ◌<◌, ◌≤◌, ◌++◌, ◌∷◌, ℕ, suc, Bool, List, [], length, get_or, inl, inr, refl, sym, ap, ◌∙◌, arith}
+-- A source has one list of expansions, and its running sum passes a limit first at one output at most.
+use Rattle.std.proofs.Common.{◌≡◌, ◌<◌, ◌≤◌, ◌∷◌, ℕ, suc, Bool, List, [], length, inl, inr, refl, sym, ap, ap₂, ◌∙◌, subst, arith, take}
 use Rattle.std.specs.Prelude.{Some, slice_get}
 use Rattle.std.specs.List.{sum_by}
 use Rattle.std.proofs.lemmas.Bool.{cases_eq, cases_lt}
-use Rattle.std.proofs.lemmas.List.Sums.{sum_by-cons}
-use Rattle.std.proofs.lemmas.Option.{slice_get-get_or, slice_get_within}
+use Rattle.std.proofs.lemmas.List.{take-take}
+use Rattle.std.proofs.lemmas.List.Sums.{sum_by-take-le}
 use Rattle.ae_base.specs.Mask.{Set}
 use Rattle.ae_base.specs.Cube.{Signs}
 use Rattle.ae_base.specs.Source.{Source, on_set}
 use Rattle.fn_store.specs.Davio.{IsExpansion}
-use Rattle.expansion.specs.Terms.{Terms, cost}
+use Rattle.expansion.specs.Terms.{Terms}
 use Rattle.expansion.specs.Functions.{AreExpansions}
-use Rattle.synth_core.specs.Asked.{PassesAt}
-use Rattle.synth_core.proofs.Expanded.{one_more, sum_one_more}
+use Rattle.synth_core.specs.Asked.{IsExpanded, IsWithin, PassesAt, HasTooMany, polarity_of, terms_limit}
+use Rattle.synth_core.specs.declared.settings.Settings.{Settings}
 
--- a list that stands at the front of another has no more terms
-sum_front : (xs ys : List (List Set)) → ((i : ℕ) (z : List Set) → slice_get xs i ≡ Some z → slice_get ys i ≡ Some z) → sum_by length xs ≤ sum_by length ys
-sum_front [] ys h = omega arith
-sum_front (x ∷ xs) [] h = absurd (let e = h 0 x refl in cc e)
-sum_front (x ∷ xs) (y ∷ ys) h =
-    let same : y ≡ x = let e = h 0 x refl in cc e in
-    omega (arith, sum_by-cons length x xs, sum_by-cons length y ys, ap length same, sum_front xs ys (λ i z e. h (suc i) z e))
+-- ---- one source, one list of expansions
 
--- expansions of the first outputs of a source, up to one at which a limit is passed, have more terms than the limit
-module _ (s : Source) (p : Signs) (one : (p : Signs) (f : Set → Bool) (ts us : List Set) → IsExpansion p f ts → IsExpansion p f us → ts ≡ us) where
-  module _ (outs : List (List Set)) (each : (o : ℕ) (ts : List Set) → slice_get outs o ≡ Some ts → IsExpansion p (on_set s o) ts) (limit output : ℕ) (passes : PassesAt s p limit output) (l : output < length outs) where
-    -- an expansion of an output is the one that stands there
-    is_there : (o : ℕ) (ts : List Set) → o < length outs → IsExpansion p (on_set s o) ts → slice_get outs o ≡ Some ts
-    is_there o ts within is =
-        let there : slice_get outs o ≡ Some (get_or outs o []) = slice_get-get_or outs o [] within in
-        there ∙ ap Some (one p (on_set s o) (get_or outs o []) ts (each o (get_or outs o []) there) is)
+-- an equation between records or pairs, whose type is given
+abbrev pub same : {X : Type 0} → X → X → Type 0
+same x y = x ≡ y
 
-    front : (i : ℕ) (z : List Set) → slice_get (passes.before ++ passes.here ∷ []) i ≡ Some z → slice_get outs i ≡ Some z
-    front i z at = elim (one_more passes.before passes.here z i at) [
-      | inl earlier ↦ is_there i z (omega (arith, slice_get_within passes.before i z earlier, passes.are_before, l)) (passes.each i z earlier)
-      | inr last ↦ let here : i ≡ output = last.0 ∙ passes.are_before in rw (here, sym last.1) (is_there output passes.here l passes.is_here)
+-- lists with the same elements
+pub same_all : {X : Type 0} (xs ys : List X) → length xs ≡ length ys → ((i : ℕ) (a b : X) → slice_get xs i ≡ Some a → slice_get ys i ≡ Some b → a ≡ b) → xs ≡ ys
+same_all [] [] e h = refl
+same_all [] (y ∷ ys) e h = absurd (omega (arith, e))
+same_all (x ∷ xs) [] e h = absurd (omega (arith, e))
+same_all (x ∷ xs) (y ∷ ys) e h =
+    let tails : xs ≡ ys = same_all xs ys (omega (arith, e)) (λ i a b p q. h (suc i) a b p q) in
+    let heads : x ≡ y = h 0 x y refl refl in
+    ap₂ (λ z zs. z ∷ zs) heads tails
+
+module _ (one : (p : Signs) (f : Set → Bool) (ts us : List Set) → IsExpansion p f ts → IsExpansion p f us → ts ≡ us) where
+  pub one_terms : (s : Source) (p : Signs) (e d : Terms) → AreExpansions s p e → AreExpansions s p d → e ≡ d
+  one_terms s p e d a b =
+      let outs : e.outs ≡ d.outs = same_all e.outs d.outs (a.outputs ∙ sym b.outputs) (λ o ts us x y. one p (on_set s o) ts us (a.each o ts x) (b.each o us y)) in
+      let signs : e.polarity ≡ d.polarity = a.polarity ∙ sym b.polarity in
+      ap₂ (λ x y. record { polarity = x; outs = y }) signs outs
+
+  module _ (settings : Settings) (bytes : List ℕ) where
+    pub one_source : (s r : Source) (e d : Terms) → IsExpanded settings bytes s e → IsExpanded settings bytes r d → s ≡ r
+    one_source s r e d a b = let both = sym a.says ∙ b.says in cc both
+
+    pub one_expanded : (s r : Source) (e d : Terms) → IsExpanded settings bytes s e → IsExpanded settings bytes r d → e ≡ d
+    one_expanded s r e d a b =
+        one_terms r (polarity_of settings.polarity (length r.inputs)) e d
+        (subst (λ q. AreExpansions q (polarity_of settings.polarity (length q.inputs)) e) (one_source s r e d a b) a.expansions) b.expansions
+
+-- ---- the limit
+
+-- a list within the limit passes it nowhere
+within_not : (limit place : ℕ) (lists : List (List Set)) → sum_by length lists ≤ limit → PassesAt limit lists place → ⊥
+within_not limit place lists few passes = absurd (omega (arith, few, passes.past, sum_by-take-le length lists (suc place)))
+
+not_before : (limit a b : ℕ) (lists : List (List Set)) → PassesAt limit lists a → PassesAt limit lists b → a < b → ⊥
+not_before limit a b lists earlier later l =
+    let front : take (suc a) (take b lists) ≡ take (suc a) lists = take-take (suc a) b lists (omega arith) in
+    absurd (omega (arith, earlier.past, later.before, sum_by-take-le length (take b lists) (suc a), ap (λ xs. sum_by length xs) front))
+
+-- a limit is passed first at one place alone
+pub passes_once : (limit a b : ℕ) (lists : List (List Set)) → PassesAt limit lists a → PassesAt limit lists b → a ≡ b
+passes_once limit a b lists first second =
+    elim (cases_eq a b) [
+      | inl same ↦ same
+      | inr other ↦ elim (cases_lt a b) [
+        | inl l ↦ absurd (not_before limit a b lists first second l)
+        | inr l ↦ absurd (not_before limit b a lists second first (omega (arith, l, other)))
+      ]
     ]
 
-    pub past : limit < sum_by length outs
-    past = omega (arith, passes.past, sum_one_more passes.before passes.here, sum_front (passes.before ++ passes.here ∷ []) outs front)
-
-  -- so expansions that keep the limit pass it at no output
-  pub not_within : (e : Terms) → AreExpansions s p e → (limit : ℕ) → cost e ≤ limit → (output : ℕ) → PassesAt s p limit output → ⊥
-  not_within e are limit few output passes =
-      absurd (omega (arith, few, past e.outs are.each limit output passes (omega (arith, are.outputs, passes.is_output))))
-
-  not_before : (limit a b : ℕ) → PassesAt s p limit a → PassesAt s p limit b → a < b → ⊥
-  not_before limit a b earlier later l =
-      absurd (omega (arith, later.within, past later.before later.each limit a earlier (omega (arith, later.are_before, l))))
-
-  -- and a limit is passed first at one output alone
-  pub passes_once : (limit a b : ℕ) → PassesAt s p limit a → PassesAt s p limit b → a ≡ b
-  passes_once limit a b first second =
-      elim (cases_eq a b) [
-        | inl same ↦ same
-        | inr other ↦ elim (cases_lt a b) [
-          | inl l ↦ absurd (not_before limit a b first second l)
-          | inr l ↦ absurd (not_before limit b a second first (omega (arith, l, other)))
-        ]
-      ]
+pub apart : ((p : Signs) (f : Set → Bool) (ts us : List Set) → IsExpansion p f ts → IsExpansion p f us → ts ≡ us)
+    → (settings : Settings) (bytes : List ℕ) (output : ℕ) → IsWithin settings bytes → HasTooMany settings bytes output → ⊥
+apart one settings bytes output within many =
+    let same : many.expansions ≡ within.expansions = one_expanded one settings bytes many.source within.source many.expansions within.expansions many.expanded within.expanded in
+    within_not (terms_limit settings.form) output within.expansions.outs within.within (subst (λ e. PassesAt (terms_limit settings.form) e.outs output) same many.passes)

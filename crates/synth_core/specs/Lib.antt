@@ -1,4 +1,5 @@
 pub mod Asked
 pub mod Headline
 pub mod Made
+pub mod Says
 pub mod Steps

@@ -3,12 +3,16 @@
 
 mod error;
 mod expand;
+mod fault;
 mod laws;
 mod made;
+mod one;
 mod settings;
 mod synthesis;
 
 pub use error::SynthErr;
+pub use fault::TextFault;
 pub use made::{Made, Summary};
+pub use one::one_answer_law;
 pub use settings::{Choice, Settings, SourceKind};
 pub use synthesis::synthesise;

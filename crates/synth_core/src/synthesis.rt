@@ -1,17 +1,21 @@
 //! The network of a source and the network's vectors.
-ghost use Rattle.std.specs.Prelude.{◌≡◌, ◌≤◌, ◌⊎◌, ℕ, IfOk, IsOk, IsErrOf, length};
+ghost use Rattle.std.specs.Prelude.{◌≡◌, ◌≤◌, ◌⊎◌, ℕ, IfOk, IsOk, IsErrOf, Err, length};
 ghost use Rattle.ae_base.specs.declared.limits.TheConstants.{TEXT_BYTES};
-ghost use Rattle.ae_base.specs.Source.{Source};
 ghost use Rattle.ae_cover.specs.Cover.{source_of};
+ghost use Rattle.ae_net.specs.Blif as blif;
 ghost use Rattle.cascade.specs.declared.limits.TheConstants.{REDDY_TERMS};
-ghost use Rattle.pla_read.specs.declared.fault.PlaFault.{PlaFault};
-ghost use Rattle.synth_core.specs.declared.error.SynthErr.TheVariants as synth_err;
-ghost use Rattle.synth_core.specs.Asked.{HasFault, HasTooMany, IsSource, PassesAt};
+ghost use Rattle.cascade.specs.Reddy.{reddy_net};
 ghost use Rattle.expansion.specs.Functions.{AreExpansions};
 ghost use Rattle.expansion.specs.Terms.{cost};
-ghost use Rattle.synth_core.specs.Made.{AreNumbers, IsMade, IsSynthesised, names_of};
-ghost use Rattle.synth_core.specs.Steps.{file_over, vectors_of};
-ghost use Rattle.vec_text.specs.VectorFile.{IsValidVectorFile};
+ghost use Rattle.pla_read.specs.declared.fault.PlaFault.{PlaFault};
+ghost use Rattle.synth_core.specs.declared.error.SynthErr.TheVariants as synth_err;
+ghost use Rattle.synth_core.specs.declared.fault.TextFault.TheVariants as text;
+ghost use Rattle.synth_core.specs.Asked.{HasTooMany, IsWithin};
+ghost use Rattle.synth_core.specs.Made.{IsMade, IsSynthesised, names_of, texts_of};
+ghost use Rattle.synth_core.specs.Says.{source_says};
+ghost use Rattle.synth_core.specs.Steps.{AreReady, AreReddyNumbers, IsMadeOf, TooMany, file_over, reddy_file, vectors_of};
+ghost use Rattle.vec_text.specs.declared.file.Form.TheVariants.{Reddy};
+ghost use Rattle.vec_text.specs.VectorFile.{IsValidVectorFile, vector_text};
 
 use crate::error::SynthErr;
 use crate::expand::expansions;
@@ -93,6 +97,29 @@ fn vector_file(
     })
 }
 
+/// The Reddy network of a cover's expansions.
+fn reddy_of(alloc: Global, cover: &Cover, e: &Expansion) -> Result<Net, Memory>
+    requires expansions { AreExpansions (source_of cover.now) e.now.polarity e.now }
+    requires cheap { cost e.now ≤ REDDY_TERMS }
+    ensures { IfOk result (λ net. net ≡ reddy_net (names_of (source_of cover.now)) e.now) }
+{
+    let names = net_names(alloc, cover)?;
+    reddy(alloc, &names, e)
+}
+
+/// The vector file of that network over the vectors of the cascade.
+fn file_of(alloc: Global, cover: &Cover, e: &Expansion, net: &Net) -> Result<VecFile, Memory>
+    requires net { net.now ≡ reddy_net (names_of (source_of cover.now)) e.now }
+    requires expansions { AreExpansions (source_of cover.now) e.now.polarity e.now }
+    requires cheap { cost e.now ≤ REDDY_TERMS }
+    ensures file { IfOk result (λ file. file ≡ reddy_file (source_of cover.now) e.now) }
+    ensures ready { IfOk result (λ _. AreReady cover.now e.now) }
+{
+    let points = cascade_vectors(alloc, e)?;
+    synthesis_law();
+    vector_file(alloc, net, cover.outputs(), e.polarity(), &points)
+}
+
 /// The numbers of the network of a cover's expansions and of its vector file.
 fn summary(
     alloc: Global,
@@ -101,8 +128,10 @@ fn summary(
     net: &Net,
     file: &VecFile,
 ) -> Result<Summary, Memory>
-    requires { e.now.polarity.n ≡ length cover.now.inputs }
-    ensures { IfOk result (λ summary. AreNumbers (source_of cover.now) e.now.polarity e.now net.now file.now summary) }
+    requires inputs { e.now.polarity.n ≡ length cover.now.inputs }
+    requires form { file.now.form ≡ Reddy }
+    requires polarity { file.now.polarity ≡ e.now.polarity }
+    ensures { IfOk result (λ summary. AreReddyNumbers (source_of cover.now) e.now net.now file.now summary) }
 {
     let faults = faults(alloc, net)?;
     Ok(Summary {
@@ -119,20 +148,12 @@ fn summary(
     })
 }
 
-/// The texts of the network of a cover's expansions and of its vectors.
-fn texts(alloc: Global, cover: &Cover, e: &Expansion) -> Result<Made, Memory>
-    requires expansions { AreExpansions (source_of cover.now) e.now.polarity e.now }
-    requires cheap { cost e.now ≤ REDDY_TERMS }
-    ensures { IfOk result (λ made. IsSynthesised (source_of cover.now) e.now.polarity made.net_text.items made.vec_text.items made.summary) }
+/// The texts of a network and of its vector file.
+fn made_of(alloc: Global, net: &Net, file: &VecFile, summary: Summary) -> Result<Made, Memory>
+    ensures { IfOk result (λ made. texts_of made ≡ record { net_text = blif.blif_text net.now; vec_text = vector_text file.now; summary = summary }) }
 {
-    let names = net_names(alloc, cover)?;
-    let net = reddy(alloc, &names, e)?;
-    let points = cascade_vectors(alloc, e)?;
-    synthesis_law();
-    let file = vector_file(alloc, &net, cover.outputs(), e.polarity(), &points)?;
-    let summary = summary(alloc, cover, e, &net, &file)?;
-    let net_text = blif_text(alloc, &net)?;
-    let vec_text = vec_text(alloc, &file)?;
+    let net_text = blif_text(alloc, net)?;
+    let vec_text = vec_text(alloc, file)?;
     Ok(Made {
         net_text,
         vec_text,
@@ -140,11 +161,24 @@ fn texts(alloc: Global, cover: &Cover, e: &Expansion) -> Result<Made, Memory>
     })
 }
 
+/// The texts of the network of a cover's expansions and of its vectors.
+fn texts(alloc: Global, cover: &Cover, e: &Expansion) -> Result<Made, Memory>
+    requires expansions { AreExpansions (source_of cover.now) e.now.polarity e.now }
+    requires cheap { cost e.now ≤ REDDY_TERMS }
+    ensures { IfOk result (λ made. IsSynthesised Reddy e.now.polarity (source_of cover.now) e.now (texts_of made)) }
+{
+    let net = reddy_of(alloc, cover, e)?;
+    let file = file_of(alloc, cover, e, &net)?;
+    let summary = summary(alloc, cover, e, &net, &file)?;
+    synthesis_law();
+    made_of(alloc, &net, &file, summary)
+}
+
 /// The network of a cover at a polarity of its inputs, and the vectors of the cascade, as texts.
 fn synthesise_cover(alloc: Global, cover: &Cover, polarity: Polarity) -> Result<Made, SynthErr>
     requires { polarity.n ≡ length cover.now.inputs }
-    ensures made { IfOk result (λ made. IsSynthesised (source_of cover.now) polarity made.net_text.items made.vec_text.items made.summary) }
-    ensures too_many { (output : ℕ) → IsErrOf result (synth_err.TooManyTerms output) → PassesAt (source_of cover.now) polarity REDDY_TERMS output }
+    ensures made { IfOk result (λ made. IsMadeOf (source_of cover.now) polarity (texts_of made)) }
+    ensures too_many { (output : ℕ) → IsErrOf result (synth_err.TooManyTerms output) → TooMany (source_of cover.now) polarity output }
     ensures accepted { (line : ℕ) (what : PlaFault) → ¬ (IsErrOf result (synth_err.Pla line what)) }
 {
     let expansions = expansions(alloc, cover, polarity)?;
@@ -158,13 +192,13 @@ fn synthesise_cover(alloc: Global, cover: &Cover, polarity: Polarity) -> Result<
 /// does; `Memory` for want of memory alone.
 pub fn synthesise(alloc: Global, bytes: &[u8], settings: &Settings) -> Result<Made, SynthErr>
     requires { length bytes.now ≤ TEXT_BYTES }
-    ensures made { IfOk result (λ made. IsMade settings.now bytes.now made.net_text.items made.vec_text.items made.summary) }
-    ensures refused { (line : ℕ) (what : PlaFault) → IsErrOf result (synth_err.Pla line what) → HasFault settings.now.kind bytes.now line what }
+    ensures made { IfOk result (λ made. IsMade settings.now bytes.now (texts_of made)) }
+    ensures refused { (line : ℕ) (what : PlaFault) → IsErrOf result (synth_err.Pla line what) → source_says settings.now.kind bytes.now ≡ Err (line, text.Pla what) }
     ensures too_many { (output : ℕ) → IsErrOf result (synth_err.TooManyTerms output) → HasTooMany settings.now bytes.now output }
     // Each cause has its answer, unless memory is wanting.
-    ensures always_refused { (line : ℕ) (what : PlaFault) → HasFault settings.now.kind bytes.now line what → IsErrOf result (synth_err.Pla line what) ⊎ IsErrOf result synth_err.Memory }
+    ensures always_refused { (line : ℕ) (what : PlaFault) → source_says settings.now.kind bytes.now ≡ Err (line, text.Pla what) → IsErrOf result (synth_err.Pla line what) ⊎ IsErrOf result synth_err.Memory }
     ensures always_too_many { (output : ℕ) → HasTooMany settings.now bytes.now output → IsErrOf result (synth_err.TooManyTerms output) ⊎ IsErrOf result synth_err.Memory }
-    ensures complete { (s : Source) → IsSource settings.now.kind bytes.now s → ((output : ℕ) → ¬ (HasTooMany settings.now bytes.now output)) → IsOk result ⊎ IsErrOf result synth_err.Memory }
+    ensures complete { IsWithin settings.now bytes.now → IsOk result ⊎ IsErrOf result synth_err.Memory }
 {
     match settings.kind {
         SourceKind::Pla => match read_pla(alloc, bytes) {

@@ -33,9 +33,6 @@ pub has-one_low : (p : Signs) (used : Set) (j k : ℕ) → has (one_low p used j
 unfolding one_low
 has-one_low p used j k = has-flipped j (literals_at p used true) k
 
-pub control-one_low : (p : Signs) (used : Set) (j : ℕ) → j < p.n → has (one_low p used j) p.n ≡ false
-control-one_low p used j l = has-one_low p used j p.n ∙ ap₂ differ (outside p used true) (ne_eqb p.n j (λ e. absurd (omega arith)))
-
 -- ---- literals
 
 -- the control is no source input

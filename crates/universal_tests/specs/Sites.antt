@@ -1,4 +1,6 @@
--- The fault sites of a source input's literal, and the faults that a list of vectors detects.
+-- The fault sites of a source input's literal, and the faults that a list of vectors detects. That a vector detects a fault is said here of
+-- the outputs as the code works them out, `out`. By the law of the one run a valid network shows these and no others, so it is the same as
+-- said of runs.
 use Rattle.std.specs.Prelude.{◌≡◌, ◌⊎◌, ℕ, ◌+◌, ◌<◌, Some, List, length, slice_get, Contains}
 use Rattle.ae_base.specs.Mask.{Set}
 use Rattle.ae_net.specs.declared.net.Place.{Place}
@@ -19,7 +21,7 @@ IsOfLiteral n j (Stem s) = (s ≡ j) ⊎ ((i : ℕ) × (s ≡ length n.inputs + 
 IsOfLiteral n j (Pin i k) = IsInverterOf n i j
 IsOfLiteral n j (Port o) = ⊥
 
--- some vector of the list detects the fault
+-- some vector of the list detects the fault: the outputs differ there
 abbrev pub IsDetected : Network → List Set → Fault → Type 0
 IsDetected n xs fault = (x : Set) × Contains xs x × Differs n fault x
 

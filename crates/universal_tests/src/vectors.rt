@@ -34,14 +34,16 @@ fn push_turned(list: &mut Vec<Point>, used: Mask, high: Point, j: u32) -> Result
 
 /// The universal vectors of the Reddy form, each once: control 0 and all literals 0, control 0 and all literals 1, control 1 and all
 /// literals 0, control 1 and all literals 1, and then for each used input in order control 0, its literal 0 and all others 1. The control
-/// is the number after the inputs, and the literals are those of the used inputs. An input that is not used is 0 in each vector.
-/// They are n + 4 at most, n being the number of inputs (after S. M. Reddy, "Easily Testable Realizations for Logic Functions", 1972).
+/// has the number n, n being the number of inputs, which a `Mask` has to be able to hold. The literals are those of the used inputs. An
+/// input that is not used is 0 in each vector. They are n + 4 at most (after S. M. Reddy, "Easily Testable Realizations for Logic
+/// Functions", 1972).
 ///
 /// On the Reddy network of the expansions they detect every stuck-at fault but those of the literals of the source's inputs, and of these
 /// each whose input some output's expansion holds an odd number of times, which is where a source of these expansions uses it and it is
 /// not even; `universal_law` says the same of the definitions.
 #[tactic(auto, using(crate::proofs::CodeLemmas::none_so_far))]
 pub fn universal(alloc: Global, e: &Expansion) -> Result<Vec<Point>, Memory>
+    requires control { e.now.polarity.n < WIDTH }
     ensures vectors { IfOk result (λ list. list.items ≡ spec.universal_vectors e.now.polarity (used_inputs e.now)) }
     ensures few { IfOk result (λ list. length list.items ≤ e.now.polarity.n + 4) }
     ensures distinct { IfOk result (λ list. IsDistinct list.items) }

@@ -1,7 +1,7 @@
 -- Vector files and their text.
 use Rattle.std.specs.Prelude.{◌≡◌, ◌≢◌, ℕ, suc, ◌<◌, ◌≤◌, true, List, [], ◌∷◌, ◌++◌, length, map, All, AllPairs, codes}
 use Rattle.ae_base.specs.declared.limits.TheConstants.{WRITTEN_LINES}
-use Rattle.ae_base.specs.Cube.{Signs}
+use Rattle.ae_base.specs.Cube.{Signs, IsSigns}
 use Rattle.ae_base.specs.Name.{is_name}
 use Rattle.ae_base.specs.Terms.{IsPoint}
 use Rattle.ae_base.specs.Text.{bits_of, text_of}
@@ -21,10 +21,11 @@ pub record VectorFile : Type 0 where
 abbrev pub inputs_over : Form → ℕ → ℕ
 inputs_over Reddy n = suc n
 
--- The rules of the vector text: one to 65 names of inputs and of outputs, all different, a polarity for each input of the source, which
--- has one or more, and vectors over the inputs with responses over the outputs.
+-- The rules of the vector text: one to 65 names of inputs and of outputs, all different, a polarity of the inputs of the source, of
+-- which there is one or more, and vectors over the inputs with responses over the outputs.
 pub record IsValidVectorFile (file : VectorFile) : Type 0 where
   pub some_input : 0 < file.polarity.n
+  pub signs : IsSigns file.polarity
   pub polarity : length file.inputs ≡ inputs_over file.form file.polarity.n
   pub few_inputs : length file.inputs ≤ WRITTEN_LINES
   pub some_output : 0 < length file.outputs

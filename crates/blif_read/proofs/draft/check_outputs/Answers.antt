@@ -2,7 +2,7 @@ use Rattle.std.proofs.Common.{map, ◌++◌, arith}
 use Rattle.std.proofs.lemmas.List.{length-map}
 use Rattle.std.proofs.lemmas.Result.{err_from_is_err_and}
 use Rattle.ae_lex.specs.Words.{cut_line}
-use Rattle.blif_read.specs.Says.{shows_unknown}
+use Rattle.blif_read.specs.Build.{shows_unknown}
 use Rattle.blif_read.proofs.Drafts.{first_more, first_err, first_end}
 use Rattle.blif_read.proofs.Reading.{cut_at}
 use Rattle.blif_read.proofs.draft.check_outputs.Goals as goal

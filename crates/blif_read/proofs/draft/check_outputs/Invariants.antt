@@ -1,6 +1,6 @@
 use Rattle.std.proofs.Common.{◌≡◌, ◌++◌, map, drop}
 use Rattle.ae_lex.specs.Words.{cut_line}
-use Rattle.blif_read.specs.Says.{first_line, shows_unknown}
+use Rattle.blif_read.specs.Build.{shows_unknown, first_line}
 use Rattle.blif_read.proofs.draft.check_outputs.Given as goal
 
 abbrev pub invariant-loop-line : goal.invariant-loop-line

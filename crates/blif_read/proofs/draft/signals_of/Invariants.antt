@@ -1,5 +1,6 @@
 use Rattle.std.proofs.Common.{◌≡◌, ◌++◌, false, map, take}
-use Rattle.blif_read.specs.Says.{place_of, some_unknown}
+use Rattle.ae_net.specs.Named.{place_of}
+use Rattle.blif_read.specs.Says.{some_unknown}
 use Rattle.blif_read.specs.Reads.{texts}
 use Rattle.blif_read.proofs.draft.signals_of.Given as goal
 

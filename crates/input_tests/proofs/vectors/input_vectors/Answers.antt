@@ -4,6 +4,7 @@ use Rattle.cascade.proofs.VectorLemmas.{all_low}
 use Rattle.expansion.specs.Even.{even_inputs}
 use Rattle.input_tests.specs.Inputs.{input_vectors_of}
 use Rattle.input_tests.specs.Whole.{cascade_tests}
+use Rattle.input_tests.proofs.Whole.{two_each}
 use Rattle.input_tests.proofs.CodeLemmas.{so_far, none_so_far, one_more, no_more, all_so_far, pairs_distinct, all_points}
 use Rattle.input_tests.proofs.vectors.input_vectors.Goals as goal
 use Rattle.input_tests.proofs.vectors.input_vectors.Goals.{then-has+in_ok-push_pair, else-has}
@@ -32,6 +33,9 @@ whole c =
 
 pub returns-clause-vectors : goal.returns-clause-vectors
 returns-clause-vectors c = whole c
+
+pub returns-clause-few : goal.returns-clause-few
+returns-clause-few c = rw (whole c) (two_each c.args.e.now)
 
 pub returns-clause-distinct : goal.returns-clause-distinct
 returns-clause-distinct c = rw (whole c) (pairs_distinct c.args.e.now)

@@ -1,5 +1,5 @@
-use Rattle.std.proofs.Common.{sym, ap, ◌∙◌}
-use Rattle.ae_base.specs.Mask.{with, xor}
+use Rattle.std.proofs.Common.{sym, ◌∙◌, arith}
+use Rattle.ae_base.proofs.Sets.{same_set, has-xor}
 use Rattle.expansion.specs.Terms.{used_inputs}
 use Rattle.input_tests.specs.Inputs.{first_term}
 use Rattle.input_tests.proofs.CodeLemmas.{two_added}
@@ -9,5 +9,5 @@ pub returns-in_ok-push_new-2 : goal.returns-in_ok-push_new-2
 returns-in_ok-push_new-2 c =
     two_added c.args.e.now.polarity (used_inputs c.args.e.now) c.args.j (first_term c.args.e.now c.args.j) c.in-Some.term c.args.low c.xor-high.result c.xor.result c.args.list.now.items c.push_new.new.list.items c.push_new-in-Some.new.list.items
     (sym c.first_term.ensures ∙ c.in-Some.is) c.requires.low c.xor-high.ensures
-    (c.xor.ensures ∙ ap (xor c.xor-high.result) (c.with.ensures ∙ ap (λ s. with s c.args.j) c.empty.ensures))
+    (same_set _ _ (λ k. simp (c.xor.ensures, c.with.ensures, c.empty.ensures, has-xor) (grind arith)))
     c.in_ok-push_new.ensures c.in_ok-push_new-2.ensures

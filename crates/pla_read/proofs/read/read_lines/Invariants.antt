@@ -1,5 +1,6 @@
 use Rattle.std.proofs.Common.{◌≡◌, map}
-use Rattle.pla_read.specs.Pla.{said, seen}
+use Rattle.ae_lex.specs.Words.{cut_line}
+use Rattle.pla_read.specs.Pla.{seen}
 use Rattle.pla_read.proofs.Reading.{IsAt, before, rest}
 use Rattle.pla_read.proofs.read.read_lines.Given as goal
 
@@ -7,5 +8,5 @@ use Rattle.pla_read.proofs.read.read_lines.Given as goal
 abbrev pub invariant-loop-line : goal.invariant-loop-line
 invariant-loop-line l = record {
   seen : l.draft ≡ seen (before l.bytes l.lines l.line-index);
-  at : IsAt l.last (map (said l.bytes) l.lines) (before l.bytes l.lines l.line-index) (rest l.bytes l.lines l.line-index);
+  at : IsAt l.last (map (cut_line l.bytes) l.lines) (before l.bytes l.lines l.line-index) (rest l.bytes l.lines l.line-index);
 }

@@ -6,7 +6,8 @@ use Rattle.synth_core.proofs.expand.expansions.Goals as goal
 
 pub returns-then-len-sum : goal.returns-then-len-sum
 returns-then-len-sum c =
-    passes_at (source_of c.args.cover.now) c.args.polarity c.loop-output.output c.loop-output.outs c.loop-output.sum c.in_ok-terms.terms.items c.loop-output.invariant c.in_ok-terms.ensures
+    passes_at (source_of c.args.cover.now) c.args.polarity c.expansion_law.ensures.exists c.loop-output.output c.loop-output.outs c.loop-output.sum c.in_ok-terms.terms.items c.loop-output.invariant c.in_ok-terms.ensures
+    c.requires.inputs
     (omega (arith, c.loop-output-test.true, ap length c.outputs-output-end.ensures.outputs))
     (omega (arith, c.if-len-sum.true, c.len.ensures, c.loop-output.invariant.few))
 

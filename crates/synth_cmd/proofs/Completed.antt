@@ -1,0 +1,148 @@
+-- Which status a synthesis of a file's text ends with, by what the file held.
+use Rattle.std.proofs.Common.{◌≡◌, ◌<◌, ◌≤◌, ◌∷◌, [], inl, inr, ℕ, List, Option, Some, None, length, sym, refl, ◌∙◌, subst, arith}
+use Rattle.std.specs.Prelude.{Contains, Err, IfSome}
+use Rattle.std.specs.FinMap.{get}
+use Rattle.ae_base.specs.declared.limits.TheConstants.{TEXT_BYTES}
+use Rattle.ae_outside.specs.Files.{Shelf, bytes_of}
+use Rattle.synth_core.specs.Asked.{HasTooMany, IsWithin}
+use Rattle.synth_core.specs.Made.{Texts}
+use Rattle.synth_core.specs.Says.{source_says}
+use Rattle.synth_core.specs.declared.fault.TextFault.{TextFault}
+use Rattle.synth_core.specs.declared.settings.Settings.{Settings}
+use Rattle.synth_cmd.specs.Complete.{OrMemory, WasOnly, NoRead, NoFault, IsComplete}
+use Rattle.synth_cmd.specs.Headline.{Holds}
+use Rattle.synth_cmd.specs.Outcome.{Ending, HoldsText, IsMadeOf, Stage, Stands, Answers}
+use Rattle.synth_cmd.specs.Outcome.Ending.{at_stage, untouched, in_part, half_told}
+use Rattle.synth_cmd.specs.Outcome.Stage.{Refuses, Fails, Writes}
+use Rattle.synth_cmd.specs.Outside.{Outside}
+use Rattle.synth_cmd.specs.declared.tell.Refusal.TheVariants.{ReadFault, TooLong, Text, TooManyTerms}
+use Rattle.synth_cmd.specs.declared.TheConstants.{DONE, READ_FAULT, REFUSED, TOO_LONG, TOO_MANY_TERMS}
+use Rattle.synth_cmd.proofs.Names.{is_only}
+
+-- ---- what a file held
+
+-- where the files tell, the name holds the bytes
+pub held_at : (held : Option Shelf) (m : Shelf) (name bytes : List ℕ) → held ≡ Some m → HoldsText held name bytes → get m name ≡ Some bytes
+held_at held m name bytes tells was = let h = subst (λ x. Holds x name bytes) tells was.is_held in h
+
+short_at : (held : Option Shelf) (m : Shelf) (name bytes : List ℕ) → held ≡ Some m → HoldsText held name bytes → length (bytes_of m name) ≤ TEXT_BYTES
+short_at held m name bytes tells was = rw (held_at held m name bytes tells was) was.short
+
+-- files that do not tell could have held anything short
+tells_of : (held : Option Shelf) (name bytes : List ℕ) → WasOnly (HoldsText held name) bytes → (m : Shelf) × (held ≡ Some m)
+tells_of (Some m) name bytes was = (m, refl)
+tells_of None name bytes was =
+    let none : [] ≡ bytes = was.only [] (record { is_held = tt; short = omega arith }) in
+    let one : 0 ∷ [] ≡ bytes = was.only (0 ∷ []) (record { is_held = tt; short = omega arith }) in
+    absurd (cc (none, one))
+
+-- a name that is too long
+long_at : (held : Option Shelf) (m : Shelf) (name : List ℕ) → held ≡ Some m → IfSome held (λ m. TEXT_BYTES < length (bytes_of m name)) → TEXT_BYTES < length (bytes_of m name)
+long_at held m name tells long = let h = subst (λ x. IfSome x (λ m. TEXT_BYTES < length (bytes_of m name))) tells long in h
+
+none_short : (m : Shelf) (name : List ℕ) → get m name ≡ None → TEXT_BYTES < length (bytes_of m name) → ⊥
+none_short m name none long = let h = rw none at long in omega (arith, h)
+
+module _ (apart : (settings : Settings) (bytes : List ℕ) (output : ℕ) → IsWithin settings bytes → HasTooMany settings bytes output → ⊥)
+    (settings : Settings) (source : List ℕ) (writes : List (List ℕ)) (old new : Outside) (status : ℕ) where
+  abbrev reads : List (List ℕ)
+  reads = source ∷ []
+
+  abbrev Was : List ℕ → Type 0
+  Was = HoldsText old.held source
+
+  -- each stage has its status, and want of memory answers every question
+  by_stage : (wanted : ℕ) → ((stage : Stage) → Stands settings Was reads writes old new stage → Answers stage old new status → OrMemory wanted status) → Ending settings Was reads writes old new status → OrMemory wanted status
+  by_stage wanted f (at_stage stage stands answers) = f stage stands answers
+  by_stage wanted f (untouched is stays front) = inr is
+  by_stage wanted f (in_part name texts is made stops front) = inr is
+  by_stage wanted f (half_told stage is stands front) = inr is
+
+  no_bytes : (m : Shelf) → old.held ≡ Some m → get m source ≡ None → (bytes : List ℕ) → Was bytes → ⊥
+  no_bytes m tells none bytes was = let both = sym (held_at old.held m source bytes tells was) ∙ none in cc both
+
+  not_long : (m : Shelf) → old.held ≡ Some m → TEXT_BYTES < length (bytes_of m source) → (bytes : List ℕ) → Was bytes → ⊥
+  not_long m tells long bytes was = omega (arith, long, short_at old.held m source bytes tells was)
+
+  -- a refusal as too long is one of the source
+  source_long : (m : Shelf) (name : List ℕ) → old.held ≡ Some m → Contains reads name → IfSome old.held (λ m. TEXT_BYTES < length (bytes_of m name)) → TEXT_BYTES < length (bytes_of m source)
+  source_long m name tells named long = subst (λ n. TEXT_BYTES < length (bytes_of m n)) (sym (is_only source name named)) (long_at old.held m name tells long)
+
+  -- ---- the source is not held
+  not_held_by : (m : Shelf) → old.held ≡ Some m → get m source ≡ None → (stage : Stage) → Stands settings Was reads writes old new stage → Answers stage old new status → OrMemory READ_FAULT status
+  not_held_by m tells none (Refuses name ReadFault) stands answers = inl answers.0
+  not_held_by m tells none (Refuses name TooLong) stands answers = absurd (none_short m source none (source_long m name tells stands.0 stands.1))
+  not_held_by m tells none (Refuses name (Text line what)) stands answers = absurd (no_bytes m tells none stands.1.0 stands.1.1)
+  not_held_by m tells none (Refuses name (TooManyTerms output)) stands answers = absurd (no_bytes m tells none stands.1.0 stands.1.1)
+  not_held_by m tells none (Fails name texts) stands answers = absurd (no_bytes m tells none stands.2.bytes stands.2.was)
+  not_held_by m tells none (Writes texts) stands answers = absurd (no_bytes m tells none stands.0.bytes stands.0.was)
+
+  -- ---- the source is too long
+  too_long_by : (m : Shelf) → old.held ≡ Some m → TEXT_BYTES < length (bytes_of m source) → NoRead reads old new → (stage : Stage) → Stands settings Was reads writes old new stage → Answers stage old new status → OrMemory TOO_LONG status
+  too_long_by m tells long quiet (Refuses name ReadFault) stands answers = absurd (quiet name stands.0 stands.1)
+  too_long_by m tells long quiet (Refuses name TooLong) stands answers = inl answers.0
+  too_long_by m tells long quiet (Refuses name (Text line what)) stands answers = absurd (not_long m tells long stands.1.0 stands.1.1)
+  too_long_by m tells long quiet (Refuses name (TooManyTerms output)) stands answers = absurd (not_long m tells long stands.1.0 stands.1.1)
+  too_long_by m tells long quiet (Fails name texts) stands answers = absurd (not_long m tells long stands.2.bytes stands.2.was)
+  too_long_by m tells long quiet (Writes texts) stands answers = absurd (not_long m tells long stands.0.bytes stands.0.was)
+
+  module _ (bytes : List ℕ) (was : WasOnly Was bytes) where
+    -- the one text is short
+    never_long : (name : List ℕ) → Contains reads name → IfSome old.held (λ m. TEXT_BYTES < length (bytes_of m name)) → ⊥
+    never_long name named long =
+        let told = tells_of old.held source bytes was in
+        not_long told.0 told.1 (source_long told.0 name told.1 named long) bytes was.was
+
+    -- what was made of a text was made of this one
+    made_within : (texts : Texts) → IsMadeOf settings Was texts → IsWithin settings bytes
+    made_within texts of = subst (λ b. IsWithin settings b) (was.only of.bytes of.was) of.is_made.within
+
+    made_no_fault : (texts : Texts) (line : ℕ) (what : TextFault) → source_says settings.kind bytes ≡ Err (line, what) → IsMadeOf settings Was texts → ⊥
+    made_no_fault texts line what says of = let both = sym says ∙ (made_within texts of).expanded.says in cc both
+
+    -- ---- the source has a fault
+    faulty_by : (line : ℕ) (what : TextFault) → source_says settings.kind bytes ≡ Err (line, what) → NoRead reads old new → (stage : Stage) → Stands settings Was reads writes old new stage → Answers stage old new status → OrMemory REFUSED status
+    faulty_by line what says quiet (Refuses name ReadFault) stands answers = absurd (quiet name stands.0 stands.1)
+    faulty_by line what says quiet (Refuses name TooLong) stands answers = absurd (never_long name stands.0 stands.1)
+    faulty_by line what says quiet (Refuses name (Text a b)) stands answers = inl answers.0
+    faulty_by line what says quiet (Refuses name (TooManyTerms output)) stands answers =
+        let many = subst (λ b. HasTooMany settings b output) (was.only stands.1.0 stands.1.1) stands.1.2 in
+        absurd (let both = sym says ∙ many.expanded.says in cc both)
+    faulty_by line what says quiet (Fails name texts) stands answers = absurd (made_no_fault texts line what says stands.2)
+    faulty_by line what says quiet (Writes texts) stands answers = absurd (made_no_fault texts line what says stands.0)
+
+    -- ---- the source has too many terms
+    too_many_by : (output : ℕ) → HasTooMany settings bytes output → NoRead reads old new → (stage : Stage) → Stands settings Was reads writes old new stage → Answers stage old new status → OrMemory TOO_MANY_TERMS status
+    too_many_by output many quiet (Refuses name ReadFault) stands answers = absurd (quiet name stands.0 stands.1)
+    too_many_by output many quiet (Refuses name TooLong) stands answers = absurd (never_long name stands.0 stands.1)
+    too_many_by output many quiet (Refuses name (Text line what)) stands answers =
+        let says = subst (λ b. source_says settings.kind b ≡ Err (line, what)) (was.only stands.1.0 stands.1.1) stands.1.2 in
+        absurd (let both = sym says ∙ many.expanded.says in cc both)
+    too_many_by output many quiet (Refuses name (TooManyTerms o)) stands answers = inl answers.0
+    too_many_by output many quiet (Fails name texts) stands answers = absurd (apart settings bytes output (made_within texts stands.2) many)
+    too_many_by output many quiet (Writes texts) stands answers = absurd (apart settings bytes output (made_within texts stands.0) many)
+
+    -- ---- every other source
+    done_or : NoFault reads writes old new → (texts : Texts) → Answers (Writes texts) old new status → OrMemory DONE status
+    done_or none texts (inl done) = inl done.0
+    done_or none texts (inr fault) = absurd (none.no_report fault.1)
+
+    complete_by : IsWithin settings bytes → NoFault reads writes old new → (stage : Stage) → Stands settings Was reads writes old new stage → Answers stage old new status → OrMemory DONE status
+    complete_by within none (Refuses name ReadFault) stands answers = absurd (none.no_read name stands.0 stands.1)
+    complete_by within none (Refuses name TooLong) stands answers = absurd (never_long name stands.0 stands.1)
+    complete_by within none (Refuses name (Text line what)) stands answers =
+        let says = subst (λ b. source_says settings.kind b ≡ Err (line, what)) (was.only stands.1.0 stands.1.1) stands.1.2 in
+        absurd (let both = sym says ∙ within.expanded.says in cc both)
+    complete_by within none (Refuses name (TooManyTerms output)) stands answers =
+        absurd (apart settings bytes output within (subst (λ b. HasTooMany settings b output) (was.only stands.1.0 stands.1.1) stands.1.2))
+    complete_by within none (Fails name texts) stands answers = absurd (none.no_write name stands.0 stands.1)
+    complete_by within none (Writes texts) stands answers = done_or none texts answers
+
+  pub is_complete : Ending settings Was reads writes old new status → IsComplete settings Was reads writes old new status
+  is_complete ending = record {
+    not_held = λ m name tells named none. by_stage READ_FAULT (not_held_by m tells (subst (λ n. get m n ≡ None) (sym (is_only source name named)) none)) ending;
+    too_long = λ m name tells named long quiet. by_stage TOO_LONG (too_long_by m tells (subst (λ n. TEXT_BYTES < length (bytes_of m n)) (sym (is_only source name named)) long) quiet) ending;
+    faulty = λ bytes line what was says quiet. by_stage REFUSED (faulty_by bytes was line what says quiet) ending;
+    too_many = λ bytes output was many quiet. by_stage TOO_MANY_TERMS (too_many_by bytes was output many quiet) ending;
+    complete = λ bytes was within none. by_stage DONE (complete_by bytes was within none) ending;
+  }

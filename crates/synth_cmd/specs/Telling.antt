@@ -1,0 +1,29 @@
+-- How a step of a call ends. For private contracts alone.
+use Rattle.std.specs.Prelude.{◌≡◌, ◌⊎◌, ℕ, List, Option}
+use Rattle.ae_outside.specs.Counts.{Rose}
+use Rattle.ae_outside.specs.Files.{Shelf, added, TookFront}
+use Rattle.synth_core.specs.Made.{Texts}
+use Rattle.synth_core.specs.declared.settings.Settings.{Settings}
+use Rattle.synth_cmd.specs.Outcome.{Told, TellsMemory, IsMadeOf, StopsAt, all_written, files_of}
+use Rattle.synth_cmd.specs.declared.TheConstants.{DONE, WRITE_FAULT, MEMORY}
+
+-- A line is told and the status answered, or that of memory.
+abbrev pub Tells : (line : List ℕ) (status : ℕ) → (old new : Option (List ℕ)) → (before now answer : ℕ) → Type 0
+Tells line status old new before now answer = ((answer ≡ status) × Told line old new before now) ⊎ ((answer ≡ MEMORY) × TellsMemory line old new)
+
+-- The lines of the report are written whole, or a write of them failed, or memory is wanting.
+abbrev pub Reports : (lines : List ℕ) → (old new : Option (List ℕ)) → (before now answer : ℕ) → Type 0
+Reports lines old new before now answer =
+    ((answer ≡ DONE) × (new ≡ added old lines))
+    ⊎ (((answer ≡ WRITE_FAULT) × Rose before now × TookFront lines old new) ⊎ ((answer ≡ MEMORY) × TellsMemory lines old new))
+
+-- Texts were made, and their writing stopped at a name.
+pub record StopsMade (settings : Settings) (Was : List ℕ → Type 0) (names : List (List ℕ)) (name : List ℕ) (old new : Option Shelf) : Type 0 where
+  pub texts : Texts
+  pub is_made : IsMadeOf settings Was texts
+  pub stops : StopsAt name (files_of names texts) old new
+
+-- All texts were made and written.
+pub record WritesMade (settings : Settings) (Was : List ℕ → Type 0) (names : List (List ℕ)) (texts : Texts) (old new : Option Shelf) : Type 0 where
+  pub is_made : IsMadeOf settings Was texts
+  pub whole : new ≡ all_written old (files_of names texts)

@@ -1,0 +1,24 @@
+//! The faults of a text that is read.
+
+use pla_read::PlaFault;
+use std::fmt;
+
+/// What is wrong with a text, whichever reader found it.
+#[derive(Clone, Copy, Debug, PartialEq, Eq)]
+pub enum TextFault {
+    /// A fault of a PLA text.
+    Pla(PlaFault),
+}
+
+impl fmt::Display for TextFault {
+    ghost use Rattle.std.specs.Prelude.{Some};
+    ghost use Rattle.synth_core.specs.Says.{text_fault_name};
+
+    ghost output = { λ fault. Some (text_fault_name fault) };
+
+    fn fmt<W: fmt::Write>(&self, f: &mut fmt::Formatter<W>) -> fmt::Result {
+        match self {
+            TextFault::Pla(fault) => fault.fmt(f),
+        }
+    }
+}

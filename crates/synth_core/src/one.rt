@@ -1,0 +1,19 @@
+//! What is made of a source is one.
+ghost use Rattle.std.specs.Prelude.{◌≡◌, ℕ, List};
+ghost use Rattle.synth_core.specs.Asked.{HasTooMany, IsWithin};
+ghost use Rattle.synth_core.specs.Made.{IsMade, Texts};
+ghost use Rattle.synth_core.specs.declared.settings.Settings.{Settings};
+
+use ae_net::{lead_law, one_run};
+use fn_store::expansion_law;
+
+/// The bytes of a source and the settings leave one network text, one vector text and one set of numbers. No source is both within the
+/// limit on terms and past it.
+pub fn one_answer_law()
+    ensures one { (settings : Settings) (bytes : List ℕ) (a b : Texts) → IsMade settings bytes a → IsMade settings bytes b → a ≡ b }
+    ensures apart { (settings : Settings) (bytes : List ℕ) (output : ℕ) → IsWithin settings bytes → ¬ (HasTooMany settings bytes output) }
+{
+    one_run();
+    lead_law();
+    expansion_law();
+}
