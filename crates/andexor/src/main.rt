@@ -1,14 +1,16 @@
 //! The program `andexor`: a proved design-for-test synthesiser.
 #![tactic(auto)]
 
+ghost use Rattle.std.specs.Prelude.{◌≡◌};
+
 #[cfg(test)]
 mod tests;
 
-use ae_outside::{HostFiles, HostSink};
+use ae_outside::{HostFiles, HostSink, put_all};
 use std::alloc::{AllocError, Global};
-use std::env;
 use std::process::ExitCode;
-use synth_cmd::{MEMORY, WORDS, run};
+use std::{env, io};
+use synth_cmd::{MEMORY, run};
 
 /// The words without the program's name.
 fn words_of(alloc: Global, args: env::Args) -> Result<Vec<String>, AllocError> {
@@ -19,21 +21,48 @@ fn words_of(alloc: Global, args: env::Args) -> Result<Vec<String>, AllocError> {
     Ok(words)
 }
 
-/// Makes the real files and standard output, and does what the words ask for. A word that is no text ends the program as words that
-/// ask for nothing do.
-fn main(rt: HostRuntime) -> ExitCode {
+/// Tells that memory is wanting before any work is begun.
+fn tell_memory(rt: HostRuntime) -> u8
+    ensures { result ≡ MEMORY }
+{
+    if let Ok(mut report) = HostSink::new(rt.alloc(), rt) {
+        let _ = put_all(&mut report, b"want of memory\n");
+    }
+    MEMORY
+}
+
+/// Does what the words ask for, over the host's files and its standard output.
+fn run_words(rt: HostRuntime, words: &[String]) -> u8 {
     let alloc = rt.alloc();
-    let Ok(args) = env::args(&rt) else {
-        return ExitCode::from(WORDS);
-    };
-    let Ok(words) = words_of(alloc, args) else {
-        return ExitCode::from(MEMORY);
-    };
     let Ok(mut files) = HostFiles::new(alloc, rt) else {
-        return ExitCode::from(MEMORY);
+        return tell_memory(rt);
     };
     let Ok(mut report) = HostSink::new(alloc, rt) else {
-        return ExitCode::from(MEMORY);
+        return tell_memory(rt);
     };
-    ExitCode::from(run(alloc, &words, &mut files, &mut report))
+    run(alloc, words, &mut files, &mut report)
+}
+
+/// What stands for words that cannot be had: want of memory, or, where a word is no text, no words, which ask for no command.
+fn run_without_words(rt: HostRuntime, error: &io::Error) -> u8 {
+    if error.kind() == io::ErrorKind::OutOfMemory {
+        tell_memory(rt)
+    } else {
+        run_words(rt, &[])
+    }
+}
+
+/// The whole program, and its status.
+fn program(rt: HostRuntime) -> u8 {
+    match env::args(&rt) {
+        Ok(args) => match words_of(rt.alloc(), args) {
+            Ok(words) => run_words(rt, &words),
+            Err(_) => tell_memory(rt),
+        },
+        Err(error) => run_without_words(rt, &error),
+    }
+}
+
+fn main(rt: HostRuntime) -> ExitCode {
+    ExitCode::from(program(rt))
 }

@@ -1,5 +1,6 @@
 //! A source that is cut off: BCD to seven segments.
 
+use crate::files::Differs;
 use crate::refused::{Refusal, first_wrong};
 use crate::written::{Counts, Row, gives};
 use std::test::Fail;
@@ -48,6 +49,6 @@ static CONSTANTS: Row = Row {
 #[test]
 fn a_source_that_stops_before_its_names(rt: HostRuntime) -> Result<(), Fail> {
     let given = gives(rt.alloc(), &CONSTANTS)?;
-    assert!(rt; given);
+    assert_eq!(rt; given, Differs::Nothing);
     Ok(())
 }

@@ -1,8 +1,37 @@
-//! A run over files in memory.
+//! A run over files in memory, set up, run and compared by functions of their own.
 
 use ae_outside::{MemFiles, MemSink};
 use std::alloc::{AllocError, Global};
 use synth_cmd::run;
+
+/// What is the first to be otherwise than a row says.
+#[derive(Debug, PartialEq, Clone, Copy)]
+pub enum Differs {
+    Nothing,
+    Status,
+    Report,
+    Net,
+    Vectors,
+    Source,
+}
+
+impl Differs {
+    /// This, or where it is nothing the other.
+    pub fn or(self, other: Differs) -> Differs {
+        match self {
+            Differs::Nothing => other,
+            found => found,
+        }
+    }
+}
+
+/// What `in.pla`, `n.blif` and `v.vec` are to hold, where they are to be there.
+#[derive(Drop)]
+pub struct Held<'a> {
+    pub source: Option<&'a [u8]>,
+    pub net: Option<&'a [u8]>,
+    pub vectors: Option<&'a [u8]>,
+}
 
 /// The words of a text, by blanks.
 pub fn words(alloc: Global, text: &str) -> Result<Vec<String>, AllocError> {
@@ -24,10 +53,64 @@ pub fn run_words(
     Ok(run(alloc, &words, files, report))
 }
 
-/// Whether the name holds exactly these bytes.
-pub fn holds(files: &MemFiles, name: &str, bytes: &[u8]) -> bool {
-    match files.held(name) {
-        Some(held) => held == bytes,
-        None => false,
+/// Files of which one, `in.pla`, holds the source.
+pub fn with_source(alloc: Global, source: &[u8]) -> Result<MemFiles, AllocError> {
+    let mut files = MemFiles::new(alloc);
+    files.put("in.pla", source).map_err(|_| AllocError)?;
+    Ok(files)
+}
+
+/// Compares a status and a report with those that are wanted.
+pub fn compare_report(status: u8, report: &MemSink, wanted: u8, line: &[u8]) -> Differs {
+    if status != wanted {
+        Differs::Status
+    } else if report.bytes() != line {
+        Differs::Report
+    } else {
+        Differs::Nothing
+    }
+}
+
+/// Runs words, and compares the status and the report.
+pub fn tells_for(
+    alloc: Global,
+    text: &str,
+    files: &mut MemFiles,
+    wanted: u8,
+    line: &[u8],
+) -> Result<Differs, AllocError> {
+    let mut report = MemSink::new(alloc);
+    let status = run_words(alloc, text, files, &mut report)?;
+    Ok(compare_report(status, &report, wanted, line))
+}
+
+/// Runs `synth in.pla n.blif v.vec`, and compares the status and the report.
+pub fn tells(
+    alloc: Global,
+    files: &mut MemFiles,
+    wanted: u8,
+    line: &[u8],
+) -> Result<Differs, AllocError> {
+    tells_for(alloc, "synth in.pla n.blif v.vec", files, wanted, line)
+}
+
+/// Whether the name holds exactly these bytes, or is not there.
+fn holds(files: &MemFiles, name: &str, wanted: Option<&[u8]>) -> bool {
+    match (files.held(name), wanted) {
+        (Some(held), Some(bytes)) => held == bytes,
+        (held, bytes) => held.is_none() && bytes.is_none(),
+    }
+}
+
+/// Compares the files.
+pub fn compare_files(files: &MemFiles, wanted: &Held) -> Differs {
+    if !holds(files, "n.blif", wanted.net) {
+        Differs::Net
+    } else if !holds(files, "v.vec", wanted.vectors) {
+        Differs::Vectors
+    } else if !holds(files, "in.pla", wanted.source) {
+        Differs::Source
+    } else {
+        Differs::Nothing
     }
 }

@@ -1,5 +1,6 @@
 //! What is written for sources of the whole PLA profile: types, names, don't cares, and the many ways to write one text.
 
+use crate::files::Differs;
 use crate::written::{AND, Counts, ONE_INPUT, Row, first_other, gives, gives_for};
 use std::test::Fail;
 
@@ -21,7 +22,7 @@ static BCD: Row = Row {
 #[test]
 fn bcd_to_seven_segments(rt: HostRuntime) -> Result<(), Fail> {
     let given = gives(rt.alloc(), &BCD)?;
-    assert!(rt; given);
+    assert_eq!(rt; given, Differs::Nothing);
     Ok(())
 }
 
@@ -29,7 +30,7 @@ fn bcd_to_seven_segments(rt: HostRuntime) -> Result<(), Fail> {
 fn a_point_in_on_and_in_dc_is_on(rt: HostRuntime) -> Result<(), Fail> {
     let source = b".i 1\n.o 1\n1 1\n- -\n.e\n".as_slice();
     let given = gives_for(rt.alloc(), source, &ONE_INPUT)?;
-    assert!(rt; given);
+    assert_eq!(rt; given, Differs::Nothing);
     Ok(())
 }
 
@@ -51,7 +52,7 @@ static FREE_POINT: Row = Row {
 #[test]
 fn a_point_that_no_row_lists_is_free_in_fr(rt: HostRuntime) -> Result<(), Fail> {
     let given = gives(rt.alloc(), &FREE_POINT)?;
-    assert!(rt; given);
+    assert_eq!(rt; given, Differs::Nothing);
     Ok(())
 }
 
@@ -73,7 +74,7 @@ static UNDERSCORES: Row = Row {
 #[test]
 fn names_with_underscores(rt: HostRuntime) -> Result<(), Fail> {
     let given = gives(rt.alloc(), &UNDERSCORES)?;
-    assert!(rt; given);
+    assert_eq!(rt; given, Differs::Nothing);
     Ok(())
 }
 

@@ -1,7 +1,7 @@
 //! Runs on a source that is refused.
 
-use crate::files::{holds, run_words};
-use ae_outside::{MemFiles, MemSink};
+use crate::files::{Differs, Held, compare_files, tells, with_source};
+use ae_outside::MemFiles;
 use std::alloc::{AllocError, Global};
 use synth_cmd::REFUSED;
 
@@ -11,28 +11,43 @@ pub struct Refusal {
     pub report: &'static [u8],
 }
 
-/// Whether a run on the source ends with this status and this report, and leaves every file as before.
-pub fn ends(alloc: Global, source: &[u8], wanted: u8, line: &[u8]) -> Result<bool, AllocError> {
-    let mut files = MemFiles::new(alloc);
-    let mut report = MemSink::new(alloc);
-    files.put("in.pla", source).map_err(|_| AllocError)?;
-    files.put("n.blif", b"old").map_err(|_| AllocError)?;
-    let status = run_words(alloc, "synth in.pla n.blif v.vec", &mut files, &mut report)?;
-    Ok(
-        status == wanted
-            && report.bytes() == line
-            && holds(&files, "in.pla", source)
-            && holds(&files, "n.blif", b"old")
-            && files.held("v.vec").is_none(),
-    )
+/// A row of a table that is not as it says.
+#[derive(Debug, PartialEq, Clone, Copy)]
+pub struct Other {
+    pub row: usize,
+    pub differs: Differs,
 }
 
-/// The place of the first row whose text is not refused as it says, where there is one.
-pub fn first_wrong(alloc: Global, rows: &[Refusal]) -> Result<Option<usize>, AllocError> {
-    for (i, row) in rows.iter().enumerate() {
-        let refused = ends(alloc, row.source, REFUSED, row.report)?;
-        if !refused {
-            return Ok(Some(i));
+/// The files before a run: the source, and a network that was there.
+fn files_before(alloc: Global, source: &[u8]) -> Result<MemFiles, AllocError> {
+    let mut files = with_source(alloc, source)?;
+    files.put("n.blif", b"old").map_err(|_| AllocError)?;
+    Ok(files)
+}
+
+/// Compares the files with those before a run.
+fn are_as_before(files: &MemFiles, source: &[u8]) -> Differs {
+    let before = Held {
+        source: Some(source),
+        net: Some(b"old".as_slice()),
+        vectors: None,
+    };
+    compare_files(files, &before)
+}
+
+/// Runs `synth` on the source, and compares with this status and this report, and every file as before.
+pub fn ends(alloc: Global, source: &[u8], wanted: u8, line: &[u8]) -> Result<Differs, AllocError> {
+    let mut files = files_before(alloc, source)?;
+    let told = tells(alloc, &mut files, wanted, line)?;
+    Ok(told.or(are_as_before(&files, source)))
+}
+
+/// The first row whose text is not refused as it says, where there is one.
+pub fn first_wrong(alloc: Global, rows: &[Refusal]) -> Result<Option<Other>, AllocError> {
+    for (row, refusal) in rows.iter().enumerate() {
+        let differs = ends(alloc, refusal.source, REFUSED, refusal.report)?;
+        if differs != Differs::Nothing {
+            return Ok(Some(Other { row, differs }));
         }
     }
     Ok(None)

@@ -1,5 +1,6 @@
 //! What is written for sources, byte for byte.
 
+use crate::files::Differs;
 use crate::written::{AND, Counts, ONE_INPUT, Row, gives};
 use std::test::Fail;
 
@@ -105,62 +106,62 @@ static TWO_EVEN_AND_ONE_ODD: Row = Row {
 #[test]
 fn two_inputs_even_and_one_odd(rt: HostRuntime) -> Result<(), Fail> {
     let given = gives(rt.alloc(), &TWO_EVEN_AND_ONE_ODD)?;
-    assert!(rt; given);
+    assert_eq!(rt; given, Differs::Nothing);
     Ok(())
 }
 
 #[test]
 fn two_input_and(rt: HostRuntime) -> Result<(), Fail> {
     let given = gives(rt.alloc(), &AND)?;
-    assert!(rt; given);
+    assert_eq!(rt; given, Differs::Nothing);
     Ok(())
 }
 
 #[test]
 fn majority_of_three(rt: HostRuntime) -> Result<(), Fail> {
     let given = gives(rt.alloc(), &MAJORITY)?;
-    assert!(rt; given);
+    assert_eq!(rt; given, Differs::Nothing);
     Ok(())
 }
 
 #[test]
 fn two_input_exor(rt: HostRuntime) -> Result<(), Fail> {
     let given = gives(rt.alloc(), &EXOR)?;
-    assert!(rt; given);
+    assert_eq!(rt; given, Differs::Nothing);
     Ok(())
 }
 
 #[test]
 fn one_input(rt: HostRuntime) -> Result<(), Fail> {
     let given = gives(rt.alloc(), &ONE_INPUT)?;
-    assert!(rt; given);
+    assert_eq!(rt; given, Differs::Nothing);
     Ok(())
 }
 
 #[test]
 fn constant_0(rt: HostRuntime) -> Result<(), Fail> {
     let given = gives(rt.alloc(), &CONSTANT_0)?;
-    assert!(rt; given);
+    assert_eq!(rt; given, Differs::Nothing);
     Ok(())
 }
 
 #[test]
 fn constant_1(rt: HostRuntime) -> Result<(), Fail> {
     let given = gives(rt.alloc(), &CONSTANT_1)?;
-    assert!(rt; given);
+    assert_eq!(rt; given, Differs::Nothing);
     Ok(())
 }
 
 #[test]
 fn shared_term_and_inverter(rt: HostRuntime) -> Result<(), Fail> {
     let given = gives(rt.alloc(), &SHARED)?;
-    assert!(rt; given);
+    assert_eq!(rt; given, Differs::Nothing);
     Ok(())
 }
 
 #[test]
 fn an_input_that_nothing_reads(rt: HostRuntime) -> Result<(), Fail> {
     let given = gives(rt.alloc(), &UNREAD_INPUT)?;
-    assert!(rt; given);
+    assert_eq!(rt; given, Differs::Nothing);
     Ok(())
 }

@@ -1,9 +1,8 @@
 //! Texts at the limits, and past them.
 
-use crate::files::run_words;
+use crate::files::{Differs, with_source};
 use crate::refused::ends;
-use crate::written::{AND, Counts, ONE_INPUT, gives_for, report_of};
-use ae_outside::{MemFiles, MemSink};
+use crate::written::{AND, Counts, ONE_INPUT, counts_for, gives_for};
 use std::alloc::{AllocError, Global};
 use std::test::Fail;
 use synth_cmd::{DONE, REFUSED, TOO_LONG, TOO_MANY_TERMS};
@@ -23,7 +22,7 @@ fn a_text_of_the_greatest_length(rt: HostRuntime) -> Result<(), Fail> {
     let alloc = rt.alloc();
     let text = filled(alloc, LONGEST)?;
     let given = gives_for(alloc, &text, &AND)?;
-    assert!(rt; given);
+    assert_eq!(rt; given, Differs::Nothing);
     Ok(())
 }
 
@@ -32,7 +31,7 @@ fn a_text_of_one_byte_more(rt: HostRuntime) -> Result<(), Fail> {
     let alloc = rt.alloc();
     let text = filled(alloc, LONGEST + 1)?;
     let refused = ends(alloc, &text, TOO_LONG, b"too long: in.pla\n")?;
-    assert!(rt; refused);
+    assert_eq!(rt; refused, Differs::Nothing);
     Ok(())
 }
 
@@ -50,7 +49,7 @@ fn as_many_rows_as_there_may_be(rt: HostRuntime) -> Result<(), Fail> {
     let alloc = rt.alloc();
     let text = rows(alloc, 65_536)?;
     let given = gives_for(alloc, &text, &ONE_INPUT)?;
-    assert!(rt; given);
+    assert_eq!(rt; given, Differs::Nothing);
     Ok(())
 }
 
@@ -60,7 +59,7 @@ fn one_row_more_than_there_may_be(rt: HostRuntime) -> Result<(), Fail> {
     let text = rows(alloc, 65_537)?;
     let line = b"refused: in.pla: line 65539: TooManyRows\n".as_slice();
     let refused = ends(alloc, &text, REFUSED, line)?;
-    assert!(rt; refused);
+    assert_eq!(rt; refused, Differs::Nothing);
     Ok(())
 }
 
@@ -74,20 +73,90 @@ fn named(alloc: Global, count: usize) -> Result<Vec<u8>, AllocError> {
     Ok(text)
 }
 
+/// Runs `synth` on a text whose input has a name of this number of bytes, and compares with a refusal.
+fn refuses_named(alloc: Global, count: usize, line: &[u8]) -> Result<Differs, AllocError> {
+    let text = named(alloc, count)?;
+    ends(alloc, &text, REFUSED, line)
+}
+
 #[test]
-fn the_longest_name_and_one_byte_more(rt: HostRuntime) -> Result<(), Fail> {
+fn the_longest_name(rt: HostRuntime) -> Result<(), Fail> {
+    let line = b"refused: in.pla: line 5: Late\n".as_slice();
+    let refused = refuses_named(rt.alloc(), 255, line)?;
+    assert_eq!(rt; refused, Differs::Nothing);
+    Ok(())
+}
+
+#[test]
+fn a_name_of_one_byte_more(rt: HostRuntime) -> Result<(), Fail> {
+    let line = b"refused: in.pla: line 3: BadNames\n".as_slice();
+    let refused = refuses_named(rt.alloc(), 256, line)?;
+    assert_eq!(rt; refused, Differs::Nothing);
+    Ok(())
+}
+
+/// The bytes of each name of the widest source.
+const LONG: usize = 255;
+
+/// Writes a blank and a name of `LONG` bytes: one letter over and over, and the two digits of the number.
+fn push_long(text: &mut Vec<u8>, letter: u8, number: u8) -> Result<(), AllocError> {
+    text.push(b' ')?;
+    for _ in 2..LONG {
+        text.push(letter)?;
+    }
+    text.push(b'0' + number / 10 % 10)?;
+    text.push(b'0' + number % 10)?;
+    Ok(())
+}
+
+/// Writes a line of sixty-four long names.
+fn push_names(text: &mut Vec<u8>, head: &[u8], letter: u8) -> Result<(), AllocError> {
+    text.extend_from_slice(head)?;
+    for number in 0..64 {
+        push_long(text, letter, number)?;
+    }
+    text.push(b'\n')?;
+    Ok(())
+}
+
+/// Writes sixty-four bytes, of which one is a `1`.
+fn push_one(text: &mut Vec<u8>, other: u8, place: u8) -> Result<(), AllocError> {
+    for k in 0..64 {
+        text.push(if k == place { b'1' } else { other })?;
+    }
+    Ok(())
+}
+
+/// A text of sixty-four inputs and as many outputs, each of which is the input of its place.
+fn widest(alloc: Global) -> Result<Vec<u8>, AllocError> {
+    let mut text = Vec::from_slice(alloc, b".i 64\n.o 64\n")?;
+    push_names(&mut text, b".ilb", b'a')?;
+    push_names(&mut text, b".ob", b'f')?;
+    for place in 0..64 {
+        push_one(&mut text, b'-', place)?;
+        push_one(&mut text, b'0', place)?;
+        text.push(b'\n')?;
+    }
+    Ok(text)
+}
+
+/// An EXOR gate of the control and an input for each output: 129 stems, 128 pins and 64 ports, and two faults at each. Each input is
+/// odd in its own output, so there are four vectors and one more for each input.
+static WIDEST_COUNTS: Counts = Counts {
+    inputs: 64,
+    outputs: 64,
+    terms: 64,
+    gates: 64,
+    faults: 642,
+    vectors: 68,
+};
+
+#[test]
+fn as_many_inputs_and_outputs_as_there_may_be(rt: HostRuntime) -> Result<(), Fail> {
     let alloc = rt.alloc();
-    let text = named(alloc, 255)?;
-    let refused = ends(alloc, &text, REFUSED, b"refused: in.pla: line 5: Late\n")?;
-    assert!(rt; refused);
-    let text = named(alloc, 256)?;
-    let refused = ends(
-        alloc,
-        &text,
-        REFUSED,
-        b"refused: in.pla: line 3: BadNames\n",
-    )?;
-    assert!(rt; refused);
+    let text = widest(alloc)?;
+    let told = tells_counts(alloc, &text, &WIDEST_COUNTS)?;
+    assert_eq!(rt; told, Differs::Nothing);
     Ok(())
 }
 
@@ -102,7 +171,7 @@ fn seventeen_complemented_inputs(rt: HostRuntime) -> Result<(), Fail> {
         TOO_MANY_TERMS,
         b"too many terms: output 1\n",
     )?;
-    assert!(rt; refused);
+    assert_eq!(rt; refused, Differs::Nothing);
     Ok(())
 }
 
@@ -124,16 +193,16 @@ static SIXTEEN_COUNTS: Counts = Counts {
     vectors: 36,
 };
 
+/// Runs `synth` on a text, and compares the status and the report alone.
+fn tells_counts(alloc: Global, source: &[u8], counts: &Counts) -> Result<Differs, AllocError> {
+    let mut files = with_source(alloc, source)?;
+    counts_for(alloc, &mut files, counts)
+}
+
 #[test]
 fn as_many_terms_as_there_may_be(rt: HostRuntime) -> Result<(), Fail> {
-    let alloc = rt.alloc();
-    let mut files = MemFiles::new(alloc);
-    let mut report = MemSink::new(alloc);
-    files.put("in.pla", SIXTEEN)?;
-    let status = run_words(alloc, "synth in.pla n.blif v.vec", &mut files, &mut report)?;
-    assert_eq!(rt; status, DONE);
-    let wanted = report_of(alloc, &SIXTEEN_COUNTS)?;
-    assert_eq!(rt; report.bytes(), wanted.as_bytes());
+    let told = tells_counts(rt.alloc(), SIXTEEN, &SIXTEEN_COUNTS)?;
+    assert_eq!(rt; told, Differs::Nothing);
     Ok(())
 }
 
@@ -148,6 +217,6 @@ fn the_terms_of_all_outputs_count(rt: HostRuntime) -> Result<(), Fail> {
         TOO_MANY_TERMS,
         b"too many terms: output 2\n",
     )?;
-    assert!(rt; refused);
+    assert_eq!(rt; refused, Differs::Nothing);
     Ok(())
 }

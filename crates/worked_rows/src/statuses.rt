@@ -1,6 +1,10 @@
 //! The statuses, the lines that tell them, and what the files hold then.
 
-use crate::files::run_words;
+use crate::files::{
+    Differs, Held, compare_files, compare_report, run_words, tells, tells_for, with_source,
+};
+use crate::refused::Other;
+use crate::written;
 use ae_outside::{MemFiles, MemSink};
 use std::alloc::{AllocError, Global};
 use std::test::Fail;
@@ -11,120 +15,155 @@ static AND: &[u8] = b".i 2\n.o 1\n11 1\n.e\n";
 static USAGE: &[u8] =
     b"usage: andexor synth IN NET VEC, grade NET VEC, check NET VEC, demo NUMBER NET VEC\n";
 
+/// The status of `synth` with ample memory.
+fn status_of_and(alloc: Global) -> Result<u8, AllocError> {
+    let mut files = with_source(alloc, AND)?;
+    let mut report = MemSink::new(alloc);
+    run_words(alloc, "synth in.pla n.blif v.vec", &mut files, &mut report)
+}
+
 #[test]
 fn synth_succeeds_with_ample_memory(rt: HostRuntime) -> Result<(), Fail> {
-    let alloc = rt.alloc();
-    let mut files = MemFiles::new(alloc);
-    let mut report = MemSink::new(alloc);
-    files.put("in.pla", AND)?;
-    let status = run_words(alloc, "synth in.pla n.blif v.vec", &mut files, &mut report)?;
+    let status = status_of_and(rt.alloc())?;
     assert_eq!(rt; status, DONE);
     Ok(())
 }
 
-/// Whether neither text was written.
-fn holds_no_text(files: &MemFiles) -> bool {
-    files.held("n.blif").is_none() && files.held("v.vec").is_none()
+/// Runs words that are none of a command, and compares with their refusal: no file is touched.
+fn refuses_words(alloc: Global, text: &str) -> Result<Differs, AllocError> {
+    let mut files = with_source(alloc, AND)?;
+    let told = tells_for(alloc, text, &mut files, WORDS, USAGE)?;
+    let left = Held {
+        source: Some(AND),
+        net: None,
+        vectors: None,
+    };
+    Ok(told.or(compare_files(&files, &left)))
 }
 
-/// Whether words are refused, and no file is touched: other words than those of a command are.
-fn refuses_words(alloc: Global, text: &str) -> Result<bool, AllocError> {
+/// The first of such words that are not refused so, where there are some.
+fn first_taken(alloc: Global, texts: &[&'static str]) -> Result<Option<Other>, AllocError> {
+    for (row, text) in texts.iter().enumerate() {
+        let differs = refuses_words(alloc, text)?;
+        if differs != Differs::Nothing {
+            return Ok(Some(Other { row, differs }));
+        }
+    }
+    Ok(None)
+}
+
+static OTHER_WORDS: [&str; 7] = [
+    "synth in.pla n.blif",
+    "synth in.pla n.blif v.vec more",
+    "grade n.blif v.vec",
+    "Synth in.pla n.blif v.vec",
+    "synth in.pla in.pla v.vec",
+    "synth in.pla n.blif in.pla",
+    "synth in.pla n.blif n.blif",
+];
+
+#[test]
+fn words_of_another_number_or_mode_or_with_equal_names(rt: HostRuntime) -> Result<(), Fail> {
+    let taken = first_taken(rt.alloc(), &OTHER_WORDS)?;
+    assert_eq!(rt; taken, None);
+    Ok(())
+}
+
+/// Compares a run with no file there with a read fault: none is there after it.
+fn source_is_missing(alloc: Global) -> Result<Differs, AllocError> {
     let mut files = MemFiles::new(alloc);
-    let mut report = MemSink::new(alloc);
-    files.put("in.pla", AND).map_err(|_| AllocError)?;
-    let status = run_words(alloc, text, &mut files, &mut report)?;
-    Ok(status == WORDS && report.bytes() == USAGE && holds_no_text(&files))
-}
-
-#[test]
-fn words_of_another_number(rt: HostRuntime) -> Result<(), Fail> {
-    let alloc = rt.alloc();
-    let refused = refuses_words(alloc, "synth in.pla n.blif")?;
-    assert!(rt; refused);
-    let refused = refuses_words(alloc, "synth in.pla n.blif v.vec more")?;
-    assert!(rt; refused);
-    Ok(())
-}
-
-#[test]
-fn words_of_another_mode(rt: HostRuntime) -> Result<(), Fail> {
-    let alloc = rt.alloc();
-    let refused = refuses_words(alloc, "grade n.blif v.vec")?;
-    assert!(rt; refused);
-    let refused = refuses_words(alloc, "Synth in.pla n.blif v.vec")?;
-    assert!(rt; refused);
-    Ok(())
-}
-
-#[test]
-fn words_with_equal_names(rt: HostRuntime) -> Result<(), Fail> {
-    let alloc = rt.alloc();
-    let refused = refuses_words(alloc, "synth in.pla in.pla v.vec")?;
-    assert!(rt; refused);
-    let refused = refuses_words(alloc, "synth in.pla n.blif in.pla")?;
-    assert!(rt; refused);
-    let refused = refuses_words(alloc, "synth in.pla n.blif n.blif")?;
-    assert!(rt; refused);
-    Ok(())
+    let told = tells(alloc, &mut files, READ_FAULT, b"read fault: in.pla\n")?;
+    let nothing = Held {
+        source: None,
+        net: None,
+        vectors: None,
+    };
+    Ok(told.or(compare_files(&files, &nothing)))
 }
 
 #[test]
 fn a_missing_source_is_a_read_fault(rt: HostRuntime) -> Result<(), Fail> {
-    let alloc = rt.alloc();
-    let mut files = MemFiles::new(alloc);
-    let mut report = MemSink::new(alloc);
-    let status = run_words(alloc, "synth in.pla n.blif v.vec", &mut files, &mut report)?;
-    assert_eq!(rt; status, READ_FAULT);
-    assert_eq!(rt; report.bytes(), b"read fault: in.pla\n".as_slice());
-    assert!(rt; files.held("n.blif").is_none());
+    let missing = source_is_missing(rt.alloc())?;
+    assert_eq!(rt; missing, Differs::Nothing);
     Ok(())
+}
+
+/// The second append of a file fails, of pieces of sixteen bytes.
+fn with_cut_append(alloc: Global) -> Result<MemFiles, AllocError> {
+    let mut files = with_source(alloc, AND)?;
+    files.piece(16);
+    files.fail_append(2).map_err(|_| AllocError)?;
+    Ok(files)
+}
+
+/// Compares a run whose write of the network is cut: its first piece stands, and no vectors.
+fn network_is_cut(alloc: Global) -> Result<Differs, AllocError> {
+    let mut files = with_cut_append(alloc)?;
+    let told = tells(alloc, &mut files, WRITE_FAULT, b"write fault: n.blif\n")?;
+    let left = Held {
+        source: Some(AND),
+        net: Some(b".model andexor\n.".as_slice()),
+        vectors: None,
+    };
+    Ok(told.or(compare_files(&files, &left)))
 }
 
 #[test]
 fn a_write_of_the_network_stops(rt: HostRuntime) -> Result<(), Fail> {
-    let alloc = rt.alloc();
-    let mut files = MemFiles::new(alloc);
-    let mut report = MemSink::new(alloc);
-    files.put("in.pla", AND)?;
-    files.piece(16);
-    files.fail_append(2)?;
-    let status = run_words(alloc, "synth in.pla n.blif v.vec", &mut files, &mut report)?;
-    assert_eq!(rt; status, WRITE_FAULT);
-    assert_eq!(rt;
-        files.held("n.blif").unwrap_or(b""),
-        b".model andexor\n.".as_slice()
-    );
-    assert!(rt; files.held("v.vec").is_none());
-    assert_eq!(rt; report.bytes(), b"write fault: n.blif\n".as_slice());
+    let cut = network_is_cut(rt.alloc())?;
+    assert_eq!(rt; cut, Differs::Nothing);
     Ok(())
+}
+
+/// The second file is not made.
+fn with_cut_create(alloc: Global) -> Result<MemFiles, AllocError> {
+    let mut files = with_source(alloc, AND)?;
+    files.fail_create(2).map_err(|_| AllocError)?;
+    Ok(files)
+}
+
+/// Compares a run whose file of the vectors is not made: the network stands.
+fn vectors_are_cut(alloc: Global) -> Result<Differs, AllocError> {
+    let mut files = with_cut_create(alloc)?;
+    let told = tells(alloc, &mut files, WRITE_FAULT, b"write fault: v.vec\n")?;
+    let left = Held {
+        source: Some(AND),
+        net: Some(written::AND.net),
+        vectors: None,
+    };
+    Ok(told.or(compare_files(&files, &left)))
 }
 
 #[test]
 fn a_write_of_the_vectors_stops(rt: HostRuntime) -> Result<(), Fail> {
-    let alloc = rt.alloc();
-    let mut files = MemFiles::new(alloc);
-    let mut report = MemSink::new(alloc);
-    files.put("in.pla", AND)?;
-    files.fail_create(2)?;
-    let status = run_words(alloc, "synth in.pla n.blif v.vec", &mut files, &mut report)?;
-    assert_eq!(rt; status, WRITE_FAULT);
-    assert!(rt; files.held("n.blif").is_some());
-    assert!(rt; files.held("v.vec").is_none());
-    assert_eq!(rt; report.bytes(), b"write fault: v.vec\n".as_slice());
+    let cut = vectors_are_cut(rt.alloc())?;
+    assert_eq!(rt; cut, Differs::Nothing);
     Ok(())
+}
+
+/// Runs `synth` with a report of which no byte is taken, and compares the status, and the report with nothing.
+fn tells_nothing(alloc: Global, files: &mut MemFiles) -> Result<Differs, AllocError> {
+    let mut report = MemSink::new(alloc);
+    report.fail_write(1).map_err(|_| AllocError)?;
+    let status = run_words(alloc, "synth in.pla n.blif v.vec", files, &mut report)?;
+    Ok(compare_report(status, &report, WRITE_FAULT, b""))
+}
+
+/// Compares a run whose report is not taken: both texts stand.
+fn report_is_cut(alloc: Global) -> Result<Differs, AllocError> {
+    let mut files = with_source(alloc, AND)?;
+    let told = tells_nothing(alloc, &mut files)?;
+    let left = Held {
+        source: Some(AND),
+        net: Some(written::AND.net),
+        vectors: Some(written::AND.vectors),
+    };
+    Ok(told.or(compare_files(&files, &left)))
 }
 
 #[test]
 fn a_write_of_the_report_stops(rt: HostRuntime) -> Result<(), Fail> {
-    let alloc = rt.alloc();
-    let mut files = MemFiles::new(alloc);
-    let mut report = MemSink::new(alloc);
-    files.put("in.pla", AND)?;
-    report.fail_write(1)?;
-    let status = run_words(alloc, "synth in.pla n.blif v.vec", &mut files, &mut report)?;
-    assert_eq!(rt; status, WRITE_FAULT);
-    assert!(rt; files.held("n.blif").is_some());
-    assert!(rt; files.held("v.vec").is_some());
-    assert_eq!(rt; report.bytes(), b"".as_slice());
+    let cut = report_is_cut(rt.alloc())?;
+    assert_eq!(rt; cut, Differs::Nothing);
     Ok(())
 }

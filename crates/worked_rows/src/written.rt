@@ -1,9 +1,10 @@
 //! Runs on a source that is accepted.
 
-use crate::files::{holds, run_words};
+use crate::files::{Differs, Held, compare_files, tells, with_source};
+use crate::refused::Other;
 use ae_base::TEXT_BYTES;
 use ae_net::faults;
-use ae_outside::{MemFiles, MemSink};
+use ae_outside::MemFiles;
 use blif_read::{NetLimits, read_blif};
 use std::alloc::{AllocError, Global};
 use synth_cmd::DONE;
@@ -91,38 +92,52 @@ fn reads_back(alloc: Global, text: &[u8], count: usize) -> bool {
     }
 }
 
-/// Runs `synth` on a text, and tells whether all that is written and held is as for the row's source.
-pub fn gives_for(alloc: Global, source: &[u8], row: &Row) -> Result<bool, AllocError> {
-    let mut files = MemFiles::new(alloc);
-    let mut report = MemSink::new(alloc);
-    files.put("in.pla", source).map_err(|_| AllocError)?;
-    let status = run_words(alloc, "synth in.pla n.blif v.vec", &mut files, &mut report)?;
-    let wanted = report_of(alloc, &row.counts)?;
-    Ok(
-        status == DONE
-            && holds(&files, "n.blif", row.net)
-            && holds(&files, "v.vec", row.vectors)
-            && holds(&files, "in.pla", source)
-            && report.bytes() == wanted.as_bytes()
-            && reads_back(alloc, row.net, row.counts.faults),
-    )
+/// Compares the files with what the row says, and reads its netlist back.
+fn are_as_said(alloc: Global, files: &MemFiles, source: &[u8], row: &Row) -> Differs {
+    let wanted = Held {
+        source: Some(source),
+        net: Some(row.net),
+        vectors: Some(row.vectors),
+    };
+    if reads_back(alloc, row.net, row.counts.faults) {
+        compare_files(files, &wanted)
+    } else {
+        Differs::Net
+    }
 }
 
-/// Runs `synth` on the row's source, and tells whether all that is written and held is as the row says.
-pub fn gives(alloc: Global, row: &Row) -> Result<bool, AllocError> {
+/// Runs `synth` over these files, and compares the status and the report with those at these numbers.
+pub fn counts_for(
+    alloc: Global,
+    files: &mut MemFiles,
+    counts: &Counts,
+) -> Result<Differs, AllocError> {
+    let wanted = report_of(alloc, counts)?;
+    tells(alloc, files, DONE, wanted.as_bytes())
+}
+
+/// Runs `synth` on a text, and compares all that is written and held with what is for the row's source.
+pub fn gives_for(alloc: Global, source: &[u8], row: &Row) -> Result<Differs, AllocError> {
+    let mut files = with_source(alloc, source)?;
+    let told = counts_for(alloc, &mut files, &row.counts)?;
+    Ok(told.or(are_as_said(alloc, &files, source, row)))
+}
+
+/// Runs `synth` on the row's source, and compares all that is written and held with what the row says.
+pub fn gives(alloc: Global, row: &Row) -> Result<Differs, AllocError> {
     gives_for(alloc, row.source, row)
 }
 
-/// The place of the first text for which something else is written than for the row's source, where there is one.
+/// The first text for which something else is written than for the row's source, where there is one.
 pub fn first_other(
     alloc: Global,
     texts: &[&'static [u8]],
-    row: &Row,
-) -> Result<Option<usize>, AllocError> {
-    for (i, text) in texts.iter().enumerate() {
-        let given = gives_for(alloc, text, row)?;
-        if !given {
-            return Ok(Some(i));
+    wanted: &Row,
+) -> Result<Option<Other>, AllocError> {
+    for (row, text) in texts.iter().enumerate() {
+        let differs = gives_for(alloc, text, wanted)?;
+        if differs != Differs::Nothing {
+            return Ok(Some(Other { row, differs }));
         }
     }
     Ok(None)

@@ -1,0 +1,36 @@
+//! Tests of the public calls of the crates below the command: each is run once with ample memory, and its answer is compared with
+//! values that were worked out by hand.
+#![tactic(auto)]
+
+#[cfg(test)]
+mod cascades;
+#[cfg(test)]
+mod covers;
+#[cfg(test)]
+mod expansions;
+#[cfg(test)]
+mod given;
+#[cfg(test)]
+mod held_files;
+#[cfg(test)]
+mod laws;
+#[cfg(test)]
+mod netlists;
+#[cfg(test)]
+mod networks;
+#[cfg(test)]
+mod placing;
+#[cfg(test)]
+mod sets;
+#[cfg(test)]
+mod tables;
+#[cfg(test)]
+mod term_lists;
+#[cfg(test)]
+mod text_lines;
+#[cfg(test)]
+mod vector_files;
+#[cfg(test)]
+mod vectors;
+#[cfg(test)]
+mod written_netlists;

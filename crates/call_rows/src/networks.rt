@@ -1,0 +1,304 @@
+//! The calls of `ae_net`: gates, names, places, faults and answers.
+
+use crate::given::{Table, are_names, cover_of, is_gate, names_of, net_of, set};
+use ae_base::{Memory, Name};
+use ae_net::{
+    Fault, Gate, Net, Pins, Place, and_gate, answer, buffer, exor, faults, inverter, is_place,
+    lead, letter_name, numbered_name, scratch_for,
+};
+use blif_read::BlifErr;
+use pla_read::PlaErr;
+use std::alloc::Global;
+use std::test::Fail;
+
+/// The cascade of the AND of `a` and `b`, whose control is `c`. Nothing reads `d`.
+static CASCADE: &[u8] =
+    b".model m\n.inputs a b c d\n.outputs f\n.names a b e\n11 1\n.names c e f\n10 1\n01 1\n";
+
+static INVERTER: &[u8] = b".model m\n.inputs a\n.outputs f\n.names a f\n0 1\n";
+
+static FAULTS: [Fault; 20] = [
+    Fault {
+        place: Place::Stem(0),
+        value: false,
+    },
+    Fault {
+        place: Place::Stem(0),
+        value: true,
+    },
+    Fault {
+        place: Place::Stem(1),
+        value: false,
+    },
+    Fault {
+        place: Place::Stem(1),
+        value: true,
+    },
+    Fault {
+        place: Place::Stem(2),
+        value: false,
+    },
+    Fault {
+        place: Place::Stem(2),
+        value: true,
+    },
+    Fault {
+        place: Place::Stem(4),
+        value: false,
+    },
+    Fault {
+        place: Place::Stem(4),
+        value: true,
+    },
+    Fault {
+        place: Place::Stem(5),
+        value: false,
+    },
+    Fault {
+        place: Place::Stem(5),
+        value: true,
+    },
+    Fault {
+        place: Place::Pin(0, 0),
+        value: false,
+    },
+    Fault {
+        place: Place::Pin(0, 0),
+        value: true,
+    },
+    Fault {
+        place: Place::Pin(0, 1),
+        value: false,
+    },
+    Fault {
+        place: Place::Pin(0, 1),
+        value: true,
+    },
+    Fault {
+        place: Place::Pin(1, 0),
+        value: false,
+    },
+    Fault {
+        place: Place::Pin(1, 0),
+        value: true,
+    },
+    Fault {
+        place: Place::Pin(1, 1),
+        value: false,
+    },
+    Fault {
+        place: Place::Pin(1, 1),
+        value: true,
+    },
+    Fault {
+        place: Place::Port(0),
+        value: false,
+    },
+    Fault {
+        place: Place::Port(0),
+        value: true,
+    },
+];
+
+static NO_PLACES: [Place; 5] = [
+    Place::Stem(3),
+    Place::Stem(6),
+    Place::Pin(0, 2),
+    Place::Pin(2, 0),
+    Place::Port(1),
+];
+
+fn tells_places(net: &Net) -> bool {
+    for fault in &FAULTS {
+        if !is_place(net, fault.place) {
+            return false;
+        }
+    }
+    for place in &NO_PLACES {
+        if is_place(net, *place) {
+            return false;
+        }
+    }
+    true
+}
+
+fn lists_faults(alloc: Global) -> Result<bool, BlifErr> {
+    let net = net_of(alloc, CASCADE)?;
+    let found = faults(alloc, &net)?;
+    Ok(found.as_slice() == FAULTS.as_slice() && tells_places(&net))
+}
+
+#[test]
+fn places_and_faults(rt: HostRuntime) -> Result<(), Fail> {
+    let same = lists_faults(rt.alloc())?;
+    assert!(rt; same);
+    Ok(())
+}
+
+/// Whether a scratch lends a byte for each signal.
+fn lends_bytes(alloc: Global) -> Result<bool, BlifErr> {
+    let net = net_of(alloc, CASCADE)?;
+    let mut scratch = scratch_for(alloc, &net)?;
+    Ok(scratch.room() == 6 && scratch.bytes().len() == 6)
+}
+
+#[test]
+fn scratch(rt: HostRuntime) -> Result<(), Fail> {
+    let lends = lends_bytes(rt.alloc())?;
+    assert!(rt; lends);
+    Ok(())
+}
+
+/// A fault, the inputs that are 1, and the outputs that show 1 then.
+struct Answer {
+    fault: Option<Fault>,
+    ones: &'static [u32],
+    outs: &'static [u32],
+}
+
+static ANSWERS: [Answer; 3] = [
+    Answer {
+        fault: None,
+        ones: &[],
+        outs: &[0],
+    },
+    Answer {
+        fault: None,
+        ones: &[0],
+        outs: &[],
+    },
+    Answer {
+        fault: Some(Fault {
+            place: Place::Pin(0, 0),
+            value: true,
+        }),
+        ones: &[],
+        outs: &[],
+    },
+];
+
+fn answers(alloc: Global, net: &Net, row: &Answer) -> Result<bool, Memory> {
+    let mut scratch = scratch_for(alloc, net)?;
+    Ok(answer(net, row.fault, set(row.ones), &mut scratch) == set(row.outs))
+}
+
+/// The place of the first row with another answer, where there is one.
+fn first_other(alloc: Global) -> Result<Option<usize>, BlifErr> {
+    let net = net_of(alloc, INVERTER)?;
+    for (i, row) in ANSWERS.iter().enumerate() {
+        if !answers(alloc, &net, row)? {
+            return Ok(Some(i));
+        }
+    }
+    Ok(None)
+}
+
+#[test]
+fn answers_of_an_inverter(rt: HostRuntime) -> Result<(), Fail> {
+    let other = first_other(rt.alloc())?;
+    assert_eq!(rt; other, None);
+    Ok(())
+}
+
+static INVERTED: Table = Table {
+    name: b"_f",
+    pins: &[3],
+    rows: &[(&[], &[0])],
+    on: true,
+};
+
+static BUFFERED: Table = Table {
+    name: b"_f",
+    pins: &[3],
+    rows: &[(&[0], &[])],
+    on: true,
+};
+
+static DIFFERENT: Table = Table {
+    name: b"_f",
+    pins: &[2, 4],
+    rows: &[(&[0], &[1]), (&[1], &[0])],
+    on: true,
+};
+
+static BOTH: Table = Table {
+    name: b"_f",
+    pins: &[2, 4],
+    rows: &[(&[0, 1], &[])],
+    on: true,
+};
+
+fn f(alloc: Global) -> Result<Name, Memory> {
+    letter_name(alloc, 1, b'f')
+}
+
+fn and_of_two(alloc: Global) -> Result<Gate, Memory> {
+    let mut pins = Pins::new(alloc);
+    pins.push(2)?;
+    pins.push(4)?;
+    and_gate(alloc, f(alloc)?, pins)
+}
+
+fn gates_of_one_pin(alloc: Global) -> Result<bool, Memory> {
+    let inverted = inverter(alloc, f(alloc)?, 3)?;
+    let buffered = buffer(alloc, f(alloc)?, 3)?;
+    Ok(is_gate(&inverted, &INVERTED) && is_gate(&buffered, &BUFFERED))
+}
+
+fn gates_of_two_pins(alloc: Global) -> Result<bool, Memory> {
+    let different = exor(alloc, f(alloc)?, 2, 4)?;
+    let both = and_of_two(alloc)?;
+    Ok(is_gate(&different, &DIFFERENT) && is_gate(&both, &BOTH) && both.pins.len() == 2)
+}
+
+#[test]
+fn gates(rt: HostRuntime) -> Result<(), Fail> {
+    let alloc = rt.alloc();
+    let one = gates_of_one_pin(alloc)?;
+    let two = gates_of_two_pins(alloc)?;
+    assert!(rt; one && two);
+    Ok(())
+}
+
+fn has_its_names(alloc: Global) -> Result<bool, PlaErr> {
+    let cover = cover_of(alloc, b".i 2\n.o 1\n.ilb _c x\n.ob f\n")?;
+    let names = names_of(alloc, cover)?;
+    Ok(
+        names.model().bytes() == b"andexor".as_slice()
+            && are_names(names.inputs(), &[b"_c", b"x"])
+            && are_names(names.outputs(), &[b"f"])
+            && lead(&names) == 2,
+    )
+}
+
+fn has_a_number(alloc: Global) -> Result<bool, Memory> {
+    Ok(numbered_name(alloc, 2, b't', 12)?.bytes() == b"__t12".as_slice())
+}
+
+#[test]
+fn names(rt: HostRuntime) -> Result<(), Fail> {
+    let alloc = rt.alloc();
+    let same = has_its_names(alloc)?;
+    let numbered = has_a_number(alloc)?;
+    assert!(rt; same && numbered);
+    Ok(())
+}
+
+/// Whether the parts of the cascade's network are those of its text.
+fn has_its_parts(alloc: Global) -> Result<bool, BlifErr> {
+    let net = net_of(alloc, CASCADE)?;
+    Ok(
+        net.model().bytes() == b"m".as_slice()
+            && are_names(net.inputs(), &[b"a", b"b", b"c", b"d"])
+            && net.outputs() == [5].as_slice()
+            && net.gates().len() == 2
+            && net.gate(1).out.bytes() == b"f".as_slice(),
+    )
+}
+
+#[test]
+fn parts_of_a_network(rt: HostRuntime) -> Result<(), Fail> {
+    let has = has_its_parts(rt.alloc())?;
+    assert!(rt; has);
+    Ok(())
+}
