@@ -56,10 +56,11 @@ one_more P xs x all here = All-append P xs (x ∷ []) all (All-from_recursion P 
 pub with_kind : (t : Table) (kind : Kind) → IsCover t → IsCover (record { inputs = t.inputs; outputs = t.outputs; kind = kind; rows = t.rows })
 with_kind t kind cover = record { inputs = cover.inputs; outputs = cover.outputs; named = cover.named; distinct = cover.distinct; few = cover.few; rows = cover.rows }
 
-pub file : (t : Table) (p : Signs) (vectors : List Vector) → IsCover t → p.n ≡ 2 → length t.inputs ≡ 3 → length t.outputs ≡ 1 → All (λ v. IsPoint 3 v.point) vectors → All (λ v. IsPoint 1 v.outs) vectors
+pub file : (t : Table) (p : Signs) (vectors : List Vector) → IsCover t → p.n ≡ 2 → IsSigns p → length t.inputs ≡ 3 → length t.outputs ≡ 1 → All (λ v. IsPoint 3 v.point) vectors → All (λ v. IsPoint 1 v.outs) vectors
     → IsValidVectorFile (record { form = Reddy; inputs = t.inputs; outputs = t.outputs; polarity = p; vectors = vectors })
-file t p vectors cover n_is three one points outs = record {
+file t p vectors cover n_is is_signs three one points outs = record {
   some_input = omega (arith, n_is);
+  signs = is_signs;
   polarity = omega (arith, n_is, three);
   few_inputs = omega (arith, three);
   some_output = omega (arith, one);

@@ -1,6 +1,6 @@
 //! What the tests of several crates are made of.
 ghost use Rattle.std.specs.Prelude.{◌≡◌, ◌≤◌, ◌<◌, IfOk, All, length};
-ghost use Rattle.ae_base.specs.Cube.{IsOver};
+ghost use Rattle.ae_base.specs.Cube.{IsOver, IsSigns};
 ghost use Rattle.expansion.specs.Terms.{cost};
 
 use ae_base::{Cube, Mask, Memory, Name, Polarity, Seq, TEXT_BYTES, WIDTH};
@@ -112,7 +112,8 @@ pub fn names_of(alloc: Global, cover: Cover) -> Result<NetNames, Memory> {
 #[tactic(auto, using(crate::proofs::Keeps::signs))]
 pub fn polarity(n: u32, plain: Mask) -> Polarity
     requires { n ≤ FEW }
-    ensures { result.n ≡ n }
+    ensures number { result.n ≡ n }
+    ensures signs { IsSigns result }
 {
     Polarity {
         n,

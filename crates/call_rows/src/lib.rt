@@ -7,6 +7,8 @@ mod cascades;
 #[cfg(test)]
 mod covers;
 #[cfg(test)]
+mod even_inputs;
+#[cfg(test)]
 mod expansions;
 #[cfg(test)]
 mod given;
@@ -23,14 +25,16 @@ mod placing;
 #[cfg(test)]
 mod sets;
 #[cfg(test)]
+mod synthesis;
+#[cfg(test)]
 mod tables;
 #[cfg(test)]
 mod term_lists;
 #[cfg(test)]
 mod text_lines;
 #[cfg(test)]
-mod vector_files;
+mod universal_vectors;
 #[cfg(test)]
-mod vectors;
+mod vector_files;
 #[cfg(test)]
 mod written_netlists;

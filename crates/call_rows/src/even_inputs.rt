@@ -1,58 +1,15 @@
-//! The calls of `universal_tests` and `input_tests`: the vectors of a cascade, as the network's inputs that are 1, the control last.
+//! The calls of `input_tests`: the vectors of even inputs, and all vectors of a cascade, as the network's inputs that are 1.
 
-use crate::given::{AND, AND_OF_OUTER, Function, MAJORITY, are_sets, expansion_of};
+use crate::given::{Function, MAJORITY, are_sets, expansion_of};
 use ae_base::Memory;
 use input_tests::{cascade_vectors, input_vectors};
 use std::alloc::Global;
 use std::test::Fail;
-use universal_tests::universal;
 
 /// A function, and vectors.
 struct Row {
     function: Function,
     vectors: &'static [&'static [u32]],
-}
-
-static UNIVERSAL: [Row; 3] = [
-    Row {
-        function: AND,
-        vectors: &[&[], &[0, 1], &[2], &[0, 1, 2], &[1], &[0]],
-    },
-    Row {
-        function: MAJORITY,
-        vectors: &[
-            &[],
-            &[0, 1, 2],
-            &[3],
-            &[0, 1, 2, 3],
-            &[1, 2],
-            &[0, 2],
-            &[0, 1],
-        ],
-    },
-    // The second input has no vector of its own, and is 0 in each.
-    Row {
-        function: AND_OF_OUTER,
-        vectors: &[&[], &[0, 2], &[3], &[0, 2, 3], &[2], &[0]],
-    },
-];
-
-/// The place of the first function with other universal vectors, where there is one.
-fn first_other_universal(alloc: Global) -> Result<Option<usize>, Memory> {
-    for (i, row) in UNIVERSAL.iter().enumerate() {
-        let e = expansion_of(alloc, &row.function)?;
-        if !are_sets(&universal(alloc, &e)?, row.vectors) {
-            return Ok(Some(i));
-        }
-    }
-    Ok(None)
-}
-
-#[test]
-fn universal_vectors(rt: HostRuntime) -> Result<(), Fail> {
-    let other = first_other_universal(rt.alloc())?;
-    assert_eq!(rt; other, None);
-    Ok(())
 }
 
 /// The first two of three inputs, and not the third: the first two are in both terms, the third in one.
@@ -62,7 +19,7 @@ const TWO_AND_NOT: Function = Function {
     plain: &[0, 1, 2],
 };
 
-static OF_INPUTS: [Row; 2] = [
+static ROWS: [Row; 2] = [
     // Each input is in two terms.
     Row {
         function: MAJORITY,
@@ -76,8 +33,8 @@ static OF_INPUTS: [Row; 2] = [
 ];
 
 /// The place of the first function with other vectors of its even inputs, where there is one.
-fn first_other_of_inputs(alloc: Global) -> Result<Option<usize>, Memory> {
-    for (i, row) in OF_INPUTS.iter().enumerate() {
+fn first_other(alloc: Global) -> Result<Option<usize>, Memory> {
+    for (i, row) in ROWS.iter().enumerate() {
         let e = expansion_of(alloc, &row.function)?;
         if !are_sets(&input_vectors(alloc, &e)?, row.vectors) {
             return Ok(Some(i));
@@ -88,7 +45,7 @@ fn first_other_of_inputs(alloc: Global) -> Result<Option<usize>, Memory> {
 
 #[test]
 fn vectors_of_even_inputs(rt: HostRuntime) -> Result<(), Fail> {
-    let other = first_other_of_inputs(rt.alloc())?;
+    let other = first_other(rt.alloc())?;
     assert_eq!(rt; other, None);
     Ok(())
 }

@@ -1,0 +1,163 @@
+#!/usr/bin/env python3
+"""Times `andexor synth` on families of functions, and grades what it writes.
+
+  bench/synthesis.py [SECONDS]
+
+The families grow step by step: symmetric functions (parity, majority, exactly half), adders, multipliers, weight counters, and random
+tables of 10 to 14 inputs, each written as a PLA of its minterms, as the tool that makes tables would. For each the script prints the
+numbers of inputs, outputs, rows, terms, gates, faults and vectors, the wall seconds of the synthesis, and, where the network is small
+enough, what bench/fault_sim.py finds: vectors with a wrong response and faults that no vector detects. At the end it says, family by
+family, how the time grows with the rows and with the terms: the exponent of the best fitting power. A family ends where a synthesis takes
+more than SECONDS (by default 20), or where its expansions have too many terms (status 7), which it says.
+
+The program is the one that `rt run` or `rt ci` left in crates/andexor/out, or that the variable ANDEXOR names. The status is 0 where all
+responses are right and no fault is missed, 1 where one is not, and 2 where the program is missing.
+"""
+import math
+import os
+import random
+import subprocess
+import sys
+import tempfile
+import time
+
+HERE = os.path.dirname(os.path.dirname(os.path.abspath(__file__)))
+PROGRAM = os.environ.get("ANDEXOR", os.path.join(HERE, "crates/andexor/out/andexor"))
+# faults times vectors times gates that the simulator is asked for
+MOST_STEPS = 30_000_000
+
+
+def bits(number, count):
+    return [(number >> k) & 1 for k in range(count)]
+
+
+def table(inputs, outputs, function):
+    """The rows of a truth table: those with some output at 1. Input k has the weight 2 to the k."""
+    rows = []
+    for x in range(1 << inputs):
+        outs = function(x)
+        if any(outs):
+            rows.append("".join(map(str, bits(x, inputs))) + " " + "".join(map(str, outs)))
+    return inputs, outputs, rows
+
+
+def parity(n):
+    return table(n, 1, lambda x: [x.bit_count() & 1])
+
+
+def majority(n):
+    return table(n, 1, lambda x: [int(2 * x.bit_count() > n)])
+
+
+def exactly_half(n):
+    return table(n, 1, lambda x: [int(2 * x.bit_count() == n)])
+
+
+def adder(n):
+    return table(2 * n, n + 1, lambda x: bits((x & ((1 << n) - 1)) + (x >> n), n + 1))
+
+
+def multiplier(n):
+    return table(2 * n, 2 * n, lambda x: bits((x & ((1 << n) - 1)) * (x >> n), 2 * n))
+
+
+def weight_counter(n):
+    outputs = n.bit_length()
+    return table(n, outputs, lambda x: bits(x.bit_count(), outputs))
+
+
+def random_table(n):
+    source = random.Random(n)
+    ones = [source.getrandbits(2) for _ in range(1 << n)]
+    return table(n, 2, lambda x: bits(ones[x], 2))
+
+
+FAMILIES = {
+    "parity": (parity, range(4, 17, 2)),
+    "majority": (majority, range(5, 16, 2)),
+    "exactly half": (exactly_half, range(4, 15, 2)),
+    "adder": (adder, range(1, 8)),
+    "multiplier": (multiplier, range(1, 8)),
+    "weight counter": (weight_counter, range(3, 16)),
+    "random table": (random_table, range(10, 15)),
+}
+
+
+def synthesise(folder, source):
+    inputs, outputs, rows = source
+    with open(os.path.join(folder, "in.pla"), "w") as text:
+        text.write(f".i {inputs}\n.o {outputs}\n")
+        text.writelines(row + "\n" for row in rows)
+        text.write(".e\n")
+    start = time.perf_counter()
+    run = subprocess.run([os.path.abspath(PROGRAM), "synth", "in.pla", "net.blif", "net.vec"], cwd=folder, capture_output=True, text=True)
+    seconds = time.perf_counter() - start
+    return run.returncode, run.stdout, seconds
+
+
+def numbers_of(report):
+    words = report.split()
+    return {name: int(words[words.index(name) + 1]) for name in ("terms", "gates", "faults", "vectors")}
+
+
+def graded(folder):
+    grade = subprocess.run(
+        [sys.executable, os.path.join(HERE, "bench/fault_sim.py"), "net.blif", "net.vec"], cwd=folder, capture_output=True, text=True
+    )
+    return grade.returncode == 0, grade.stdout.split("\n")[0]
+
+
+def exponent(points):
+    """The slope of the best line through the logarithms, where the times are long enough to tell."""
+    points = [(math.log(size), math.log(seconds)) for size, seconds in points if size > 1 and seconds > 0.02]
+    if len(points) < 3:
+        return "too short to tell"
+    mean_x = sum(x for x, _ in points) / len(points)
+    mean_y = sum(y for _, y in points) / len(points)
+    spread = sum((x - mean_x) ** 2 for x, _ in points)
+    if spread == 0:
+        return "all of one size"
+    return f"{sum((x - mean_x) * (y - mean_y) for x, y in points) / spread:.2f}"
+
+
+def bench(folder, name, most):
+    make, sizes = FAMILIES[name]
+    by_rows, by_terms, good = [], [], True
+    for n in sizes:
+        source = make(n)
+        status, report, seconds = synthesise(folder, source)
+        head = f"{name} {n}: inputs {source[0]} outputs {source[1]} rows {len(source[2])}"
+        if status != 0:
+            print(f"{head}: status {status}: {report.strip()}")
+            good = good and status == 7
+            break
+        found = numbers_of(report)
+        by_rows.append((len(source[2]), seconds))
+        by_terms.append((found["terms"], seconds))
+        line = f"{head} " + " ".join(f"{word} {value}" for word, value in found.items()) + f" seconds {seconds:.2f}"
+        if found["faults"] * found["vectors"] * found["gates"] <= MOST_STEPS:
+            right, text = graded(folder)
+            good = good and right
+            line += f"; simulated: {text}"
+        print(line, flush=True)
+        if seconds > most:
+            break
+    print(f"{name}: the time grows with the rows to the power {exponent(by_rows)}, with the terms to the power {exponent(by_terms)}")
+    return good
+
+
+def main(most):
+    if not os.access(PROGRAM, os.X_OK):
+        print(f"there is no {PROGRAM} (rt run in crates/andexor builds it)")
+        return 2
+    good = True
+    with tempfile.TemporaryDirectory() as folder:
+        for name in FAMILIES:
+            good = bench(folder, name, most) and good
+    return int(not good)
+
+
+if __name__ == "__main__":
+    if len(sys.argv) > 2:
+        sys.exit(__doc__)
+    sys.exit(main(float(sys.argv[1]) if len(sys.argv) == 2 else 20.0))
