@@ -4,9 +4,9 @@
 #   bench/host.sh [RUNS]
 #
 # Each run's status, printed lines and files are compared with what docs/FORMATS.md says of them: IN is missing, a folder,
-# empty, a pipe, or replaced by a rename while it is read (RUNS times, by default 50: the texts must be those of one of the
-# two sources); NET or VEC is in a missing folder, a folder, a file that may not be written, or full; standard output is full
-# or closed; a word is no text; and memory is limited, from a limit under which the program ends with status 8 on to one
+# empty, without end, a pipe, or replaced by a rename while it is read (RUNS times, by default 50: the texts must be those of
+# one of the two sources); NET or VEC is in a missing folder, a folder, a file that may not be written, or full; standard
+# output is full or closed; a word is no text; and memory is limited, by each limit under which the program begins, up to one
 # under which it is done. The program is the one that `rt run` or `rt ci` left in crates/andexor/out, or that the variable
 # ANDEXOR names. The script prints a line for each comparison that fails, for each kind of run, and for what it leaves out.
 # The status is 0 where all agree, 1 where something differs, and 2 where the program or a tool is missing.
@@ -19,13 +19,13 @@ if [ ! -x "$program" ]; then
     exit 2
 fi
 program=$(realpath "$program")
-for tool in cmp head mkfifo mktemp seq; do
+for tool in cmp head mkfifo mktemp realpath seq wc; do
     if ! command -v "$tool" >/dev/null; then
         echo "$tool is missing"
         exit 2
     fi
 done
-for device in /dev/full /dev/stdin; do
+for device in /dev/full /dev/stdin /dev/zero; do
     if [ ! -e "$device" ]; then
         echo "$device is missing"
         exit 2
@@ -49,7 +49,7 @@ differs() {
     status=1
 }
 
-# ends NAME STATUS LINE: the last run ended with the status, of which `got` holds the one that came, and printed the line to
+# ends NAME STATUS LINE: the last run ended with the status, `got` being the one that came, and printed the line to
 # the file `report` and nothing to `errors`
 ends() {
     [ "$got" = "$2" ] || differs "$1" "status $got, not $2"
@@ -97,6 +97,9 @@ holds "a folder as IN" v.vec -
 synth empty.pla n.blif v.vec
 ends "an empty IN" 5 "refused: empty.pla: line 0: NoI"
 holds "an empty IN" n.blif -
+synth /dev/zero n.blif v.vec
+ends "an IN without end" 6 "too long: /dev/zero"
+holds "an IN without end" n.blif -
 if [ "$(id -u)" = 0 ]; then
     echo "left out: an IN that may not be read (root may read it)"
 else
@@ -184,7 +187,7 @@ ends "a named pipe" 0 "$done_report"
 holds "a named pipe" n.blif and.blif
 wait
 
-# rows OUTPUT: a text of 4 megabytes, with a row for each point of four inputs, that OUTPUT alone tells from the other text
+# rows OUTPUT: a text of 4 megabytes, with a row for each point of four inputs; OUTPUT stands in all of them
 filler=$(printf '# %0254d\n' 0)
 filler=$(for _ in $(seq 1000); do echo "$filler"; done)
 rows() {
@@ -231,36 +234,46 @@ wait "$swapper" 2>/dev/null
 swapper=
 echo "$of_0 of $runs runs read the one source, $of_1 the other"
 
-# under KILOBYTES: a run of the long source with so much memory for addresses
+# front NAME FILE TEXT: the file is absent, or holds a front of the file TEXT
+front() {
+    [ ! -e "$2" ] || head -c "$(wc -c <"$2")" "$3" | cmp -s - "$2" || differs "$1" "$2 is no front of $3"
+}
+
+# starts KILOBYTES: another program can be begun with so much memory for addresses
+starts() {
+    { (ulimit -v "$1" && exec cat /dev/null) >/dev/null 2>&1; } 2>/dev/null
+}
+
+# under SOURCE STEP: runs of SOURCE.pla, each with STEP more kilobytes for addresses, until one is done. Where the system
+# cannot begin a program there is nothing to compare.
 under() {
-    rm -f n.blif v.vec
-    (ulimit -v "$1" && exec "$program" synth 0.pla n.blif v.vec) >report 2>errors
-    got=$?
+    local limit name wanting=0
+    for limit in $(seq "$2" "$2" 200000); do
+        rm -f n.blif v.vec
+        { (ulimit -v "$limit" && exec "$program" synth "$1.pla" n.blif v.vec) >report 2>errors; } 2>/dev/null
+        got=$?
+        name="$1.pla under $limit kB"
+        if [ $got = 0 ]; then
+            holds "$name" n.blif "$1.blif"
+            holds "$name" v.vec "$1.vec"
+            [ $wanting -gt 0 ] || differs "$1.pla" "no limit made memory wanting"
+            echo "$1.pla: memory was wanting under $wanting limits; it is done under $limit kB"
+            return
+        fi
+        # the system's own ends of a program that it cannot begin
+        if [ $wanting = 0 ] && { [ $got = 126 ] || [ $got = 127 ] || { [ $got -gt 128 ] && ! starts "$limit"; }; }; then
+            continue
+        fi
+        wanting=$((wanting + 1))
+        ends "$name" 8 "want of memory"
+        front "$name" n.blif "$1.blif"
+        front "$name" v.vec "$1.vec"
+    done
+    differs "$1.pla" "not done under any limit"
 }
 
 echo "little memory"
-wanting=0
-enough=
-for size in $(seq 500 500 200000); do
-    under "$size"
-    # the system's own answers, where the program cannot be begun
-    if [ "$wanting" = 0 ] && { [ "$got" = 126 ] || [ "$got" = 127 ] || [ "$got" -gt 128 ]; }; then
-        continue
-    fi
-    if [ "$got" = 0 ]; then
-        enough=$size
-        break
-    fi
-    wanting=$((wanting + 1))
-    ends "$size kB of memory" 8 "want of memory"
-done
-[ "$wanting" -gt 0 ] || differs "little memory" "no limit made memory wanting"
-if [ -z "$enough" ]; then
-    differs "little memory" "not done under any limit"
-else
-    holds "$enough kB of memory" n.blif 0.blif
-    holds "$enough kB of memory" v.vec 0.vec
-fi
-echo "memory was wanting under $wanting limits; the program is done under ${enough:-no} kB"
+under and 20
+under 0 200
 [ $status != 0 ] || echo "all agree"
 exit $status

@@ -16,12 +16,3 @@ is_only x y (suc k, l, e) = absurd (omega arith)
 
 pub among_one : (name : List ℕ) (a b : Tally) → CountsAt name a b → CountsAmong (name ∷ []) a b
 among_one name a b h = record { later = h.later; others = λ q no. h.others q (λ e. no (0, omega arith, sym e)) }
-
-pub among_first : (p q : List ℕ) (a b : Tally) → CountsAt p a b → CountsAmong (p ∷ q ∷ []) a b
-among_first p q a b h = record { later = h.later; others = λ r no. h.others r (λ e. no (0, omega arith, sym e)) }
-
-pub among_two : (p q : List ℕ) (a b c : Tally) → CountsAt p a b → CountsAt q b c → CountsAmong (p ∷ q ∷ []) a c
-among_two p q a b c h g = record {
-  later = λ r. omega (arith, h.later r, g.later r);
-  others = λ r no. g.others r (λ e. no (1, omega arith, sym e)) ∙ h.others r (λ e. no (0, omega arith, sym e));
-}

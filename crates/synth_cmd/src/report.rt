@@ -7,7 +7,7 @@ ghost use Rattle.synth_cmd.specs.Lines as spec;
 use ae_base::{Memory, push_word};
 use std::alloc::Global;
 use synth_core::Summary;
-use vec_text::{push_form, push_polarity};
+use vec_text::{line_law, push_form, push_polarity};
 
 /// Writes a blank and a number.
 fn push_number(alloc: Global, out: &mut Vec<u8>, number: u64) -> Result<(), Memory>
@@ -33,6 +33,7 @@ fn push_sizes(alloc: Global, out: &mut Vec<u8>, inputs: u32, outputs: u32) -> Re
 fn push_count(alloc: Global, out: &mut Vec<u8>, word: &[u8], number: u64) -> Result<(), Memory>
     ensures { OnOk result (out.new.items ≡ out.old.items ++ text_of ((word.now ∷ decimal number ∷ []) ∷ [])) }
 {
+    line_law();
     out.extend_from_slice(word)?;
     push_number(alloc, out, number)?;
     out.push(b'\n')?;
@@ -43,6 +44,7 @@ fn push_count(alloc: Global, out: &mut Vec<u8>, word: &[u8], number: u64) -> Res
 fn push_counts(alloc: Global, out: &mut Vec<u8>, summary: &Summary) -> Result<(), Memory>
     ensures { OnOk result (out.new.items ≡ out.old.items ++ text_of (spec.count_lines summary.now)) }
 {
+    line_law();
     push_count(alloc, out, b"terms", summary.terms)?;
     push_count(alloc, out, b"gates", summary.gates)?;
     push_count(alloc, out, b"faults", summary.faults)?;
@@ -55,6 +57,7 @@ fn push_counts(alloc: Global, out: &mut Vec<u8>, summary: &Summary) -> Result<()
 pub fn report(alloc: Global, summary: Summary) -> Result<Vec<u8>, Memory>
     ensures { IfOk result (λ bytes. bytes.items ≡ spec.report_lines summary) }
 {
+    line_law();
     let mut out = Vec::new(alloc);
     push_form(&mut out, summary.form)?;
     push_sizes(alloc, &mut out, summary.inputs, summary.outputs)?;

@@ -6,7 +6,7 @@ ghost use Rattle.synth_cmd.specs.Telling.{Tells, Reports};
 
 use crate::report::report as report_of;
 use crate::{DONE, MEMORY, READ_FAULT, REFUSED, TOO_LONG, TOO_MANY_TERMS, WRITE_FAULT, lines};
-use ae_outside::{Sink, WriteErr, put_all};
+use ae_outside::{Sink, WriteErr, file_laws, put_all};
 use std::alloc::{AllocError, Global};
 use synth_core::{Summary, TextFault};
 
@@ -38,6 +38,7 @@ pub fn tell<K: Sink>(report: &mut K, line: &[u8], status: u8) -> u8
     ensures told { Tells line.now status (K.taken report.old) (K.taken report.new) (K.faults report.old) (K.faults report.new) result }
     ensures counts { K.faults report.old ≤ K.faults report.new }
 {
+    file_laws();
     match put_all(report, line) {
         Ok(()) => status,
         Err(WriteErr::Fault) => status,
@@ -94,6 +95,7 @@ pub fn finish<K: Sink>(alloc: Global, report: &mut K, summary: Summary) -> u8
     ensures told { Reports (report_lines summary) (K.taken report.old) (K.taken report.new) (K.faults report.old) (K.faults report.new) result }
     ensures counts { K.faults report.old ≤ K.faults report.new }
 {
+    file_laws();
     match report_of(alloc, summary) {
         Ok(text) => match put_all(report, &text) {
             Ok(()) => DONE,

@@ -9,7 +9,7 @@ use crate::job::{Stop, synthesise_files};
 use crate::tell::{finish, refuse, tell, tell_write_fault, want_memory};
 use crate::words::{Command, read_command};
 use crate::{DONE, WORDS};
-use ae_outside::{Files, Sink};
+use ae_outside::{Files, Sink, file_laws};
 use std::alloc::Global;
 use synth_core::{Settings, one_answer_law};
 
@@ -33,6 +33,7 @@ fn synth_work<F: Files, K: Sink>(
     ensures writes { CountsAmong (net.now ∷ vectors.now ∷ []) (F.write_faults files.old) (F.write_faults files.new) }
     ensures faults { K.faults report.old ≤ K.faults report.new }
 {
+    file_laws();
     match synthesise_files(alloc, files, settings, source, net, vectors) {
         Ok(made) => finish(alloc, report, made.summary),
         Err(Stop::Refused(refusal)) => refuse(alloc, report, refusal, source),

@@ -34,9 +34,6 @@ limit_is Reddy = refl
 form_is : (form : Form) → form ≡ Reddy
 form_is Reddy = refl
 
-pub kind_is : (kind : SourceKind) → kind ≡ Pla
-kind_is Pla = refl
-
 -- a PLA text with this fault
 says_fault : (bytes : List ℕ) (line : ℕ) (what : PlaFault) → pla_says bytes ≡ Err (line, what) → source_says Pla bytes ≡ Err (line, text.Pla what)
 says_fault bytes line what h = rw h refl
@@ -46,19 +43,6 @@ is_fault Pla bytes line what h = says_fault bytes line what h
 
 same_err : (e d : ℕ × TextFault) → same {X = Result Source (ℕ × TextFault)} (Err e) (Err d) → e ≡ d
 same_err e d h = cc h
-
--- that has no other fault
-pub one_fault : (kind : SourceKind) (bytes : List ℕ) (line a : ℕ) (what b : PlaFault) → pla_says bytes ≡ Err (line, what) → source_says kind bytes ≡ Err (a, text.Pla b)
-    → {X : Type 0} (r : Result X SynthErr) → r ≡ Err (err.Pla line what) → IsErrOf r (err.Pla a b)
-one_fault Pla bytes line a what b h g r is =
-    let pairs = same_err (line, text.Pla what) (a, text.Pla b) (sym (says_fault bytes line what h) ∙ g) in
-    let lines : line ≡ a = ap (λ e. e.0) pairs in
-    let whats : what ≡ b = let faults : text.Pla what ≡ text.Pla b = ap (λ e. e.1) pairs in cc faults in
-    is ∙ ap₂ (λ x y. Err (err.Pla x y)) lines whats
-
--- and is no source
-pub no_source : (settings : Settings) (bytes : List ℕ) (line : ℕ) (what : PlaFault) (s : Source) (e : Terms) → pla_says bytes ≡ Err (line, what) → IsExpanded settings bytes s e → ⊥
-no_source settings bytes line what s e h is = let both = sym (is_fault settings.kind bytes line what h) ∙ is.says in cc both
 
 -- ---- where the text says a cover
 

@@ -2,7 +2,9 @@
 #![tactic(auto)]
 
 mod file;
+mod laws;
 mod text;
 
 pub use file::{Form, VecFile, Vector};
+pub use laws::line_law;
 pub use text::{push_form, push_polarity, vec_text};
