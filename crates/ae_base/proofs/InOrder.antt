@@ -1,31 +1,14 @@
--- Lists in the order of terms, without repeats: neighbours suffice, a sorted list of different terms is one, and the members determine it.
-use Rattle.std.proofs.Common.{◌≡◌, ◌≢◌, ◌<◌, ◌+◌, ℕ, zero, suc, Bool, true, false, cond, ◌||◌, List, [], ◌∷◌, length, Less, Equal, Greater, refl, sym, ap, ap₂, ◌∙◌, subst, inl, inr, arith, get_or, eqb, eqb-true, eq-eqb, All}
-use Rattle.std.specs.Prelude.{AllPairs}
+-- Lists in the order of terms, without repeats: the members determine such a list, and terms are put into one.
+use Rattle.std.proofs.Common.{◌≡◌, ◌≢◌, suc, Bool, true, false, cond, ◌||◌, List, [], ◌∷◌, Less, Equal, Greater, refl, sym, ap, ap₂, ◌∙◌, subst, inl, inr, arith, eqb, eqb-true, eq-eqb}
 use Rattle.std.specs.declared.cmp.Ordering.{Ordering}
 use Rattle.std.specs.Ordering.{is_lt, ordering_reverse}
 use Rattle.std.specs.List.{list_any, AllByRecursion}
-use Rattle.std.specs.List.Sorted.{IsSorted}
 use Rattle.std.proofs.lemmas.Bool.{cases_Bool, false≢true, or_cases, or_left}
 use Rattle.std.proofs.lemmas.List.Elements.{All-from_recursion, recursion_from_All}
 use Rattle.std.proofs.lemmas.List.Kept.{AllPairs-cons}
 use Rattle.ae_base.specs.Mask.{Set, cmp_terms}
 use Rattle.ae_base.specs.Terms.{IsInOrder, placed, in_order}
 use Rattle.ae_base.proofs.Order.{cmp_terms_total, cmp_equal, less_trans, less_irreflexive}
-
--- a transitive relation that holds of neighbours holds of all pairs
-pub pairs_from_neighbours : {X : Type 0} (R : X → X → Type 0) → ((x y z : X) → R x y → R y z → R x z) → (xs : List X) → ((k : ℕ) (d : X) → k + 1 < length xs → R (get_or xs k d) (get_or xs (k + 1) d)) → AllPairs R xs
-pairs_from_neighbours R tr [] h = λ i j d lt within. absurd (omega arith)
-pairs_from_neighbours R tr (x ∷ []) h = λ i j d lt within. absurd (omega arith)
-pairs_from_neighbours R tr (x ∷ y ∷ xs) h =
-    let rest = pairs_from_neighbours R tr (y ∷ xs) (λ k d within. let e : suc k + 1 ≡ suc (k + 1) = omega arith in subst (λ n. R (get_or (y ∷ xs) k d) (get_or (x ∷ y ∷ xs) n d)) e (h (suc k) d (omega arith))) in
-    AllPairs-cons R x (y ∷ xs) (above (h 0 x (omega arith)) rest) rest
-  where
-    above : R x y → AllPairs R (y ∷ xs) → All (R x) (y ∷ xs)
-    above first rest zero d within = first
-    above first rest (suc k) d within = tr x y (get_or xs k d) first (rest zero (suc k) d (omega arith) within)
-
-pub in_order-neighbours : (ts : List Set) → ((k : ℕ) (d : Set) → k + 1 < length ts → cmp_terms (get_or ts k d) (get_or ts (k + 1) d) ≡ Less) → IsInOrder ts
-in_order-neighbours = pairs_from_neighbours (λ s t. cmp_terms s t ≡ Less) less_trans
 
 pub less_from_sorted : (s t : Set) → is_lt (cmp_terms t s) ≡ false → s ≢ t → cmp_terms s t ≡ Less
 less_from_sorted s t h ne = by_order (cmp_terms s t) refl
@@ -34,10 +17,6 @@ less_from_sorted s t h ne = by_order (cmp_terms s t) refl
     by_order Less e = e
     by_order Equal e = absurd (ne (cmp_equal s t e))
     by_order Greater e = absurd (false≢true (sym h ∙ ap is_lt (cmp_terms_total.antisymm t s ∙ ap ordering_reverse e)))
-
--- a sorted list of different terms is in order
-pub in_order-sorted : (ts : List Set) → IsSorted cmp_terms ts → AllPairs (λ s t. s ≢ t) ts → IsInOrder ts
-in_order-sorted ts sorted apart = in_order-neighbours ts (λ k d h. less_from_sorted _ _ (sorted k d (omega arith) h) (apart k (k + 1) d (omega arith) h))
 
 -- ---- the terms of a list determine it
 

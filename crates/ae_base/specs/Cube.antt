@@ -36,6 +36,10 @@ holds c x = set.inside c.pos x && set.len (set.both c.neg x) == 0
 abbrev pub EachHolds : Product → Set → Type 0
 EachHolds c x = ((j : ℕ) → set.has c.pos j ≡ true → set.has x j ≡ true) × ((j : ℕ) → set.has c.neg j ≡ true → set.has x j ≡ false)
 
+-- some point is in both
+unfoldable pub meet : Product → Product → Bool
+meet c d = set.len (set.both c.pos d.neg) == 0 && set.len (set.both c.neg d.pos) == 0
+
 -- the number of inputs at which the literals differ
 unfoldable pub distance : Product → Product → ℕ
 distance c d = set.len (set.either (set.xor c.pos d.pos) (set.xor c.neg d.neg))

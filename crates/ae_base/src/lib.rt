@@ -16,8 +16,8 @@ pub use limits::{
     GATES, NAME_BYTES, NET_LINES, PINS, SOURCE_LINES, SOURCE_NAME_BYTES, TEXT_BYTES, WIDTH,
     WRITTEN_LINES,
 };
-pub use mask::Mask;
+pub use mask::{Mask, MaskIter};
 pub use memory::Memory;
-pub use name::Name;
-pub use seq::Seq;
+pub use name::{Name, copies, is_name, is_source_name};
+pub use seq::{Seq, push_new};
 pub use text::{push_bits, push_names, push_word};

@@ -1,5 +1,6 @@
 //! A set of small numbers: the inputs that are 1 at a point, or the members of a term.
-ghost use Rattle.std.specs.Prelude.{◌≡◌, ◌<◌, ◌≤◌, IfSome};
+ghost use Rattle.std.specs.Prelude.{◌≡◌, ◌<◌, ◌≤◌, ◌==◌, IfSome};
+ghost use Rattle.std.specs.Iterator.{YieldsFirst, item_count};
 ghost use Rattle.ae_base.specs.Mask as set;
 
 use crate::limits::WIDTH;
@@ -179,6 +180,20 @@ impl Mask {
         Some(bits.trailing_zeros())
     }
 
+    /// The members in increasing order, for loops.
+    pub fn members(self) -> MaskIter
+        ensures { result ≡ set.members self }
+    {
+        MaskIter { rest: self }
+    }
+
+    /// Whether there is no member.
+    pub fn is_empty(self) -> bool
+        ensures { result ≡ (set.len self == 0) }
+    {
+        self.bits == 0
+    }
+
     /// The number of members.
     pub fn len(self) -> u32
         ensures { result ≡ set.len self }
@@ -205,5 +220,34 @@ impl Mask {
         } else {
             Ordering::Greater
         }
+    }
+}
+
+/// The members of a set in increasing order. Contracts see the list of those that are left.
+#[derive(Drop, Debug)]
+pub struct MaskIter {
+    rest: Mask,
+}
+
+impl Model for MaskIter {
+    ghost use Rattle.std.specs.Prelude.{List, ℕ};
+    ghost use Rattle.ae_base.specs.Mask.{members};
+
+    ghost Value = { List ℕ };
+
+    ghost view = { λ it. members it.rest };
+}
+
+impl Iterator for MaskIter {
+    type Item = u32;
+
+    ghost next_gives = { YieldsFirst (λ rest. rest) };
+
+    ghost remaining = { item_count (λ rest. rest) };
+
+    fn next(&mut self) -> Option<u32> {
+        let j = self.rest.least()?;
+        self.rest = self.rest.without(j);
+        Some(j)
     }
 }

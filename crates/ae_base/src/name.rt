@@ -1,10 +1,11 @@
 //! Names of models and signals.
 ghost use Rattle.std.specs.Prelude.{◌≡◌, Some, None, true, if◌then◌else◌, IfOk};
 ghost use Rattle.std.specs.List.{list_all};
-ghost use Rattle.ae_base.specs.Name.{is_allowed, is_name};
+ghost use Rattle.ae_base.specs.Name.{is_allowed, is_name, is_source_name};
 
-use crate::limits::NAME_BYTES;
+use crate::limits::{NAME_BYTES, SOURCE_NAME_BYTES};
 use crate::memory::Memory;
+use crate::seq::Seq;
 use std::alloc::Global;
 use std::hash::{Hash, Hasher};
 use std::marker::Model;
@@ -73,9 +74,17 @@ impl Name {
         if !is_name(bytes) {
             return Ok(None);
         }
-        Ok(Some(Name {
+        Ok(Some(Name::known(alloc, bytes)?))
+    }
+
+    /// The name that has these bytes, which are known to be one. `Memory` comes only for want of memory.
+    pub fn known(alloc: Global, bytes: &[u8]) -> Result<Name, Memory>
+        requires { is_name bytes.now ≡ true }
+        ensures { IfOk result (λ name. name ≡ bytes.now) }
+    {
+        Ok(Name {
             bytes: Vec::from_slice(alloc, bytes)?,
-        }))
+        })
     }
 
     /// The bytes of the name.
@@ -96,7 +105,19 @@ impl Name {
     }
 }
 
-fn is_name(bytes: &[u8]) -> bool
+/// Other names of the same bytes, in the same order. `Memory` comes only for want of memory.
+pub fn copies(alloc: Global, names: &[Name]) -> Result<Seq<Name>, Memory>
+    ensures { IfOk result (λ list. list ≡ names.now) }
+{
+    let mut list = Seq::new(alloc);
+    for name in names {
+        list.push(name.copy(alloc)?)?;
+    }
+    Ok(list)
+}
+
+/// Whether the bytes are a name.
+pub fn is_name(bytes: &[u8]) -> bool
     ensures { result ≡ is_name bytes.now }
 {
     if bytes.is_empty() {
@@ -115,4 +136,11 @@ fn are_allowed(bytes: &[u8]) -> bool
     ensures { result ≡ list_all is_allowed bytes.now }
 {
     bytes.iter().all(|b| 33 <= *b && *b != b'#')
+}
+
+/// Whether the bytes are a name of a source text, which has at most `SOURCE_NAME_BYTES` bytes.
+pub fn is_source_name(bytes: &[u8]) -> bool
+    ensures { result ≡ is_source_name bytes.now }
+{
+    is_name(bytes) && bytes.len() <= SOURCE_NAME_BYTES
 }
