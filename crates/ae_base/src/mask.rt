@@ -1,5 +1,5 @@
 //! A set of small numbers: the inputs that are 1 at a point, or the members of a term.
-ghost use Rattle.std.specs.Prelude.{◌≡◌, ◌<◌, ◌≤◌, ◌==◌, IfSome};
+ghost use Rattle.std.specs.Prelude.{◌≡◌, ◌<◌, ◌≤◌, ◌==◌, All, IfSome};
 ghost use Rattle.std.specs.Iterator.{YieldsFirst, item_count};
 ghost use Rattle.ae_base.specs.Mask as set;
 
@@ -182,9 +182,13 @@ impl Mask {
 
     /// The members in increasing order, for loops.
     pub fn members(self) -> MaskIter
-        ensures { result ≡ set.members self }
+        ensures members { result ≡ set.members self }
+        ensures below { All (λ j. j < WIDTH) result }
     {
-        MaskIter { rest: self }
+        let Mask { bits } = self;
+        MaskIter {
+            rest: Mask { bits },
+        }
     }
 
     /// Whether there is no member.
