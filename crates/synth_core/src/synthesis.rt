@@ -22,7 +22,7 @@ use crate::expand::expansions;
 use crate::laws::synthesis_law;
 use crate::made::{Made, Summary};
 use crate::settings::{Settings, SourceKind, polarity_of};
-use ae_base::{Memory, Name, Point, Polarity, Seq};
+use ae_base::{Memory, Name, Point, Polarity, Seq, copies};
 use ae_cover::Cover;
 use ae_net::{Net, NetNames, answer, faults, scratch_for};
 use blif_write::blif_text;
@@ -34,23 +34,13 @@ use pla_read::{PlaErr, read_pla};
 use std::alloc::Global;
 use vec_text::{Form, VecFile, Vector, vec_text};
 
-fn copies(alloc: Global, names: &[Name]) -> Result<Seq<Name>, Memory>
-    ensures { IfOk result (λ list. list ≡ names.now) }
-{
-    let mut list = Seq::new(alloc);
-    for name in names {
-        list.push(name.copy(alloc)?)?;
-    }
-    Ok(list)
-}
-
 /// The names of a network: a PLA text gives its model none of its own.
 fn net_names(alloc: Global, cover: &Cover) -> Result<NetNames, Memory>
     ensures { IfOk result (λ names. names ≡ names_of (source_of cover.now)) }
 {
     let inputs = copies(alloc, cover.inputs())?;
     let outputs = copies(alloc, cover.outputs())?;
-    let model = Name::from_bytes(alloc, b"andexor")?.unwrap();
+    let model = Name::known(alloc, b"andexor")?;
     Ok(NetNames {
         model,
         inputs,
