@@ -192,8 +192,10 @@ impl Mask {
     }
 
     /// Whether there is no member.
+    #[tactic(auto, unfolding(crate::specs::Mask::empty))]
     pub fn is_empty(self) -> bool
-        ensures { result ≡ (set.len self == 0) }
+        ensures len { result ≡ (set.len self == 0) }
+        ensures empty { result ≡ (self == set.empty) }
     {
         self.bits == 0
     }
