@@ -20,6 +20,7 @@ use Rattle.ae_cover.specs.declared.parts.Row.{Row}
 use Rattle.ae_cover.specs.declared.parts.Clash.{Clash}
 use Rattle.ae_cover.specs.Cover.{Table, IsRow, IsCover, is_one, is_zero, has_mark}
 use Rattle.ae_cover.specs.Clash.{IsClash, zero_is_off, meet, disagree, has_clash}
+use Rattle.ae_cover.specs.LeastClash.{Disagree}
 use Rattle.ae_cover.specs.FirstClash.{IsBefore, first_below, clash, clash_of, clash_at, least_clash, first_clash}
 
 -- ---- the first answer below n
@@ -154,20 +155,14 @@ on_answer : List Row → ℕ → ℕ → Option Clash
 on_answer rows output on_row = option_map_or (clash_of rows output on_row) (slice_get rows on_row) None
 
 -- two rows disagree at the output, and nothing was answered before
-record IsLeast (m : ℕ) (rows : List Row) (c : Clash) : Type 0 where
-  is_output : c.output < m
-  on : Row
-  off : Row
-  on_row : slice_get rows c.on_row ≡ Some on
-  off_row : slice_get rows c.off_row ≡ Some off
-  one : has_mark is_one c.output on ≡ true
-  zero : has_mark is_zero c.output off ≡ true
-  meet_is : meet on.cube off.cube ≡ true
+pub record IsLeast (m : ℕ) (rows : List Row) (c : Clash) : Type 0 where
+  pub is_output : c.output < m
+  pub rows_disagree : Disagree rows c
   no_output : (o : ℕ) → o < c.output → clash_at rows o ≡ None
   no_on : (i : ℕ) → i < c.on_row → on_answer rows c.output i ≡ None
-  no_off : (j : ℕ) → j < c.off_row → off_answer rows c.output c.on_row on j ≡ None
+  no_off : (j : ℕ) → j < c.off_row → off_answer rows c.output c.on_row rows_disagree.on j ≡ None
 
-least : (m : ℕ) (rows : List Row) (c : Clash) → least_clash m rows ≡ Some c → IsLeast m rows c
+pub least : (m : ℕ) (rows : List Row) (c : Clash) → least_clash m rows ≡ Some c → IsLeast m rows c
 unfolding off_answer on_answer
 least m rows c e =
     let outputs = first_answer m (clash_at rows) c e in
@@ -180,42 +175,46 @@ least m rows c e =
     let tests = and_parts (has_mark is_one outputs.at on.0 && has_mark is_zero outputs.at off.0) (meet on.0.cube off.0.cube) pair.0 in
     let marks = and_parts (has_mark is_one outputs.at on.0) (has_mark is_zero outputs.at off.0) tests.0 in
     let P : Clash → Type 0 = λ d. IsLeast m rows d in
-    subst P pair.1 (record {
-      is_output = outputs.below;
-      on = on.0;
-      off = off.0;
-      on_row = on.1;
-      off_row = off.1;
-      one = marks.0;
-      zero = marks.1;
-      meet_is = tests.1;
-      no_output = outputs.none;
-      no_on = ons.none;
-      no_off = offs.none;
-    })
+    let there : Disagree rows found = record { on = on.0; off = off.0; on_row = on.1; off_row = off.1; one = marks.0; zero = marks.1; meet_is = tests.1 } in
+    subst P pair.1 (record { is_output = outputs.below; rows_disagree = there; no_output = outputs.none; no_on = ons.none; no_off = offs.none })
 
--- ---- clashes are answered
+-- ---- where rows disagree there is an answer
 
-cell : (t : Table) (d : Clash) (h : IsClash t d) → clash d.output d.on_row d.off_row h.on h.off ≡ Some d
-cell t d h = rw (h.one, h.zero, meets h.on.cube h.off.cube h.point h.on_holds h.off_holds) refl
+cell : (rows : List Row) (d : Clash) (h : Disagree rows d) → clash d.output d.on_row d.off_row h.on h.off ≡ Some d
+cell rows d h = rw (h.one, h.zero, h.meet_is) refl
 
-not_off : (t : Table) (d : Clash) (h : IsClash t d) → off_answer t.rows d.output d.on_row h.on d.off_row ≡ None → ⊥
+not_off : (rows : List Row) (d : Clash) (h : Disagree rows d) → off_answer rows d.output d.on_row h.on d.off_row ≡ None → ⊥
 unfolding off_answer
-not_off t d h e = let some = cell t d h in let none : clash d.output d.on_row d.off_row h.on h.off ≡ None = rw h.off_row at e in absurd cc
+not_off rows d h e = let some = cell rows d h in let none : clash d.output d.on_row d.off_row h.on h.off ≡ None = rw h.off_row at e in absurd cc
 
-not_on : (t : Table) (d : Clash) (h : IsClash t d) → on_answer t.rows d.output d.on_row ≡ None → ⊥
+not_on : (rows : List Row) (d : Clash) (h : Disagree rows d) → on_answer rows d.output d.on_row ≡ None → ⊥
 unfolding off_answer on_answer
-not_on t d h e =
-    let none : clash_of t.rows d.output d.on_row h.on ≡ None = rw h.on_row at e in
-    not_off t d h (none_below (length t.rows) (off_answer t.rows d.output d.on_row h.on) none d.off_row (slice_get_within t.rows d.off_row h.off h.off_row))
+not_on rows d h e =
+    let none : clash_of rows d.output d.on_row h.on ≡ None = rw h.on_row at e in
+    not_off rows d h (none_below (length rows) (off_answer rows d.output d.on_row h.on) none d.off_row (slice_get_within rows d.off_row h.off h.off_row))
 
-not_output : (t : Table) (d : Clash) (h : IsClash t d) → clash_at t.rows d.output ≡ None → ⊥
+not_output : (rows : List Row) (d : Clash) (h : Disagree rows d) → clash_at rows d.output ≡ None → ⊥
 unfolding on_answer
-not_output t d h e =
-    not_on t d h (none_below (length t.rows) (on_answer t.rows d.output) e d.on_row (slice_get_within t.rows d.on_row h.on h.on_row))
+not_output rows d h e =
+    not_on rows d h (none_below (length rows) (on_answer rows d.output) e d.on_row (slice_get_within rows d.on_row h.on h.on_row))
 
-pub not_least : (t : Table) (d : Clash) → IsClash t d → least_clash (length t.outputs) t.rows ≡ None → ⊥
-not_least t d h e = not_output t d h (none_below (length t.outputs) (clash_at t.rows) e d.output h.is_output)
+pub not_least : (m : ℕ) (rows : List Row) (d : Clash) → Disagree rows d → d.output < m → least_clash m rows ≡ None → ⊥
+not_least m rows d h lt e = not_output rows d h (none_below m (clash_at rows) e d.output lt)
+
+same_off : (rows : List Row) (c d : Clash) (l h : Row) → slice_get rows c.on_row ≡ Some l → slice_get rows d.on_row ≡ Some h → d.output ≡ c.output → d.on_row ≡ c.on_row
+    → off_answer rows d.output d.on_row h d.off_row ≡ off_answer rows c.output c.on_row l d.off_row
+same_off rows c d l h least_there there o i =
+    let same_place : slice_get rows d.on_row ≡ slice_get rows c.on_row = ap (slice_get rows) i in
+    let same : h ≡ l = cc in
+    cc
+
+pub none_before : (m : ℕ) (rows : List Row) (c d : Clash) → IsLeast m rows c → Disagree rows d → IsBefore d c → ⊥
+none_before m rows c d l h before =
+    elim before [
+      | inl o ↦ not_output rows d h (l.no_output d.output o)
+      | inr (inl i) ↦ not_on rows d h (ap (λ o. on_answer rows o d.on_row) i.0 ∙ l.no_on d.on_row i.1)
+      | inr (inr j) ↦ not_off rows d h (same_off rows c d l.rows_disagree.on h.on l.rows_disagree.on_row h.on_row j.0 j.1 ∙ l.no_off d.off_row j.2)
+    ]
 
 -- ---- the laws
 
@@ -246,23 +245,21 @@ rows_clash t c on off h k lt on_row off_row ones zeros meets =
     }
 
 is_clash : (t : Table) (c : Clash) → IsCover t → zero_is_off t.kind ≡ true → IsLeast (length t.outputs) t.rows c → IsClash t c
-is_clash t c h k l = rows_clash t c l.on l.off h k l.is_output l.on_row l.off_row (one_there _ l.one) (zero_there _ l.zero) l.meet_is
+is_clash t c h k l =
+    let rows = l.rows_disagree in
+    rows_clash t c rows.on rows.off h k l.is_output rows.on_row rows.off_row (one_there _ rows.one) (zero_there _ rows.zero) rows.meet_is
 
-same_off : (t : Table) (c d : Clash) (l : IsLeast (length t.outputs) t.rows c) (h : IsClash t d) → d.output ≡ c.output → d.on_row ≡ c.on_row → off_answer t.rows d.output d.on_row h.on d.off_row ≡ off_answer t.rows c.output c.on_row l.on d.off_row
-same_off t c d l h o i =
-    let there = h.on_row in
-    let least_there = l.on_row in
-    let rows : slice_get t.rows d.on_row ≡ slice_get t.rows c.on_row = ap (slice_get t.rows) i in
-    let same : h.on ≡ l.on = cc in
-    cc
-
-none_before : (t : Table) (c d : Clash) → IsLeast (length t.outputs) t.rows c → IsClash t d → IsBefore d c → ⊥
-none_before t c d l h before =
-    elim before [
-      | inl o ↦ not_output t d h (l.no_output d.output o)
-      | inr (inl i) ↦ not_on t d h (ap (λ o. on_answer t.rows o d.on_row) i.0 ∙ l.no_on d.on_row i.1)
-      | inr (inr j) ↦ not_off t d h (same_off t c d l h j.0 j.1 ∙ l.no_off d.off_row j.2)
-    ]
+-- the rows of a clash disagree
+clash_rows : (t : Table) (c : Clash) → IsClash t c → Disagree t.rows c
+clash_rows t c h = record {
+  on = h.on;
+  off = h.off;
+  on_row = h.on_row;
+  off_row = h.off_row;
+  one = ap (λ o. option_map_or is_one o false) h.one;
+  zero = ap (λ o. option_map_or is_zero o false) h.zero;
+  meet_is = meets h.on.cube h.off.cube h.point h.on_holds h.off_holds;
+}
 
 pub found_is : (t : Table) (c : Clash) → IsCover t → first_clash t ≡ Some c → IsClash t c
 unfolding first_clash
@@ -272,11 +269,12 @@ found_is t c h e =
 
 pub none_is_before : (t : Table) (c d : Clash) → first_clash t ≡ Some c → IsClash t d → IsBefore d c → ⊥
 unfolding first_clash
-none_is_before t c d e = none_before t c d (least (length t.outputs) t.rows c (cond_is (zero_is_off t.kind) (least_clash (length t.outputs) t.rows) c e).1)
+none_is_before t c d e h =
+    none_before (length t.outputs) t.rows c d (least (length t.outputs) t.rows c (cond_is (zero_is_off t.kind) (least_clash (length t.outputs) t.rows) c e).1) (clash_rows t d h)
 
 pub none_is : (t : Table) (d : Clash) → first_clash t ≡ None → IsClash t d → ⊥
 unfolding first_clash
-none_is t d e h = not_least t d h (rw h.kind at e)
+none_is t d e h = not_least (length t.outputs) t.rows d (clash_rows t d h) h.is_output (rw h.kind at e)
 
 pub unmarked : (t : Table) → zero_is_off t.kind ≡ false → first_clash t ≡ None
 unfolding first_clash

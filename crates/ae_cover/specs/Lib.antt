@@ -1,3 +1,4 @@
 pub mod Clash
 pub mod Cover
 pub mod FirstClash
+pub mod LeastClash

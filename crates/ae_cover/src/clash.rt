@@ -1,19 +1,30 @@
 //! The first clash.
-ghost use Rattle.std.specs.Prelude.{◌≡◌, ◌<◌, ◌≤◌, ◌^◌, length, All};
+ghost use Rattle.std.specs.Prelude.{◌≡◌, ℕ, ◌+◌, ◌<◌, ◌≤◌, ◌^◌, ◌==◌, length, slice_get, slice_index, Some, All};
+ghost use Rattle.ae_base.specs.Mask as set;
 ghost use Rattle.ae_base.specs.Cube.{Product};
 ghost use Rattle.ae_cover.specs.Clash.{meet};
 ghost use Rattle.ae_cover.specs.FirstClash as spec;
+ghost use Rattle.ae_cover.specs.LeastClash.{IsLeastIn, InBlock, InRow, marked, ones_at, of_pair, is_before, lesser};
 ghost use Rattle.ae_cover.specs.Cover.{is_one, is_zero};
 
 use crate::cover::{Cover, PLA_ROWS};
 use crate::parts::{Clash, Kind, Mark, Row};
-use ae_base::Cube;
+use ae_base::{Cube, Mask, WIDTH};
+
+/// So many rows for ON are compared with each row for OFF at a time: the marks of a row are read once for so many pairs.
+const BLOCK: usize = 256;
+
+fn is_empty(m: Mask) -> bool
+    ensures { result ≡ (set.len m == 0) }
+{
+    m == Mask::empty()
+}
 
 #[tactic(auto, unfolding(crate::specs::Clash::meet))]
 fn meet(c: Cube, d: Cube) -> bool
     ensures { result ≡ meet c d }
 {
-    c.pos.both(d.neg).len() == 0 && c.neg.both(d.pos).len() == 0
+    is_empty(c.pos.both(d.neg)) && is_empty(c.neg.both(d.pos))
 }
 
 fn is_one(mark: Mark) -> bool
@@ -34,69 +45,157 @@ fn is_zero(mark: Mark) -> bool
     }
 }
 
-/// The clash of two rows at an output.
-fn clash(output: u32, on_row: u32, off_row: u32, on: &Row, off: &Row) -> Option<Clash>
-    requires on_marks { output < length on.now.outs }
-    requires off_marks { output < length off.now.outs }
-    ensures { result ≡ spec.clash output on_row off_row on.now off.now }
+/// The outputs below `limit` at which the row has `One`.
+fn ones(limit: u32, row: &Row) -> Mask
+    requires marks { limit ≤ length row.now.outs }
+    requires few { limit ≤ WIDTH }
+    ensures { result ≡ marked is_one limit row.now }
 {
-    let one = is_one(*on.outs.at(output as usize));
-    let zero = is_zero(*off.outs.at(output as usize));
-    let meets = meet(on.cube, off.cube);
-    if one && zero && meets {
-        Some(Clash {
-            output,
-            on_row,
-            off_row,
-        })
-    } else {
-        None
+    let mut found = Mask::empty();
+    for output in 0..limit {
+        if is_one(*row.outs.at(output as usize)) {
+            found = found.with(output);
+        }
+    }
+    found
+}
+
+/// The outputs below `limit` at which the row has `Zero`.
+fn zeros(limit: u32, row: &Row) -> Mask
+    requires marks { limit ≤ length row.now.outs }
+    requires few { limit ≤ WIDTH }
+    ensures { result ≡ marked is_zero limit row.now }
+{
+    let mut found = Mask::empty();
+    for output in 0..limit {
+        if is_zero(*row.outs.at(output as usize)) {
+            found = found.with(output);
+        }
+    }
+    found
+}
+
+/// The least clash of a row with `One` at the outputs `ones`, and a row with `Zero` at the outputs `zeros`.
+fn of_pair(ones: Mask, zeros: Mask, on: Cube, off: Cube, on_row: u32, off_row: u32) -> Option<Clash>
+    ensures { result ≡ of_pair ones zeros on off on_row off_row }
+{
+    match ones.both(zeros).least() {
+        None => None,
+        Some(output) => {
+            if meet(on, off) {
+                Some(Clash {
+                    output,
+                    on_row,
+                    off_row,
+                })
+            } else {
+                None
+            }
+        }
     }
 }
 
-/// The first clash of a row.
-fn clash_of(rows: &[Row], output: u32, on_row: u32, on: &Row) -> Option<Clash>
-    requires on_marks { output < length on.now.outs }
-    requires marks { All (λ row. output < length row.outs) rows.now }
-    requires few { length rows.now ≤ PLA_ROWS }
-    ensures { result ≡ spec.clash_of rows.now output on_row on.now }
+fn is_before(c: Clash, d: Clash) -> bool
+    ensures { result ≡ is_before c d }
 {
-    for (i, off) in rows.iter().enumerate() {
-        let found = clash(output, on_row, i as u32, on, off);
-        if found.is_some() {
-            return found;
-        }
-    }
-    None
+    c.output < d.output
+        || (c.output == d.output
+            && (c.on_row < d.on_row || (c.on_row == d.on_row && c.off_row < d.off_row)))
 }
 
-/// The first clash at an output.
-fn clash_at(rows: &[Row], output: u32) -> Option<Clash>
-    requires marks { All (λ row. output < length row.outs) rows.now }
-    requires few { length rows.now ≤ PLA_ROWS }
-    ensures { result ≡ spec.clash_at rows.now output }
+/// The one that is before the other, where there are two.
+fn lesser(best: Option<Clash>, found: Option<Clash>) -> Option<Clash>
+    ensures { result ≡ lesser best found }
 {
-    for (i, on) in rows.iter().enumerate() {
-        let found = clash_of(rows, output, i as u32, on);
-        if found.is_some() {
-            return found;
-        }
+    match (best, found) {
+        (None, _) => found,
+        (Some(_), None) => best,
+        (Some(c), Some(d)) => { if is_before(d, c) { found } else { best } }
     }
-    None
+}
+
+/// The least clash of the row for OFF at `off_row`, with `Zero` at the outputs `zeros`, and the rows for ON of a block.
+fn of_row(
+    rows: &[Row],
+    start: usize,
+    limit: u32,
+    ones: &[Mask],
+    zeros: Mask,
+    off_row: usize,
+) -> Option<Clash>
+    requires few { length rows.now ≤ PLA_ROWS }
+    requires block { start + length ones.now ≤ length rows.now }
+    requires off { off_row < length rows.now }
+    requires ones { (k : ℕ) → k < length ones.now → slice_index ones.now k ≡ ones_at rows.now limit (start + k) }
+    requires zeros { (off : Row) → slice_get rows.now off_row ≡ Some off → zeros ≡ marked is_zero limit off }
+    ensures { IsLeastIn rows.now (InRow start (start + length ones.now) limit off_row) result }
+{
+    let off = rows[off_row].cube;
+    let mut best = None;
+    for (k, outputs) in ones.iter().enumerate() {
+        let on_row = start + k;
+        let found = of_pair(
+            *outputs,
+            zeros,
+            rows[on_row].cube,
+            off,
+            on_row as u32,
+            off_row as u32,
+        );
+        best = lesser(best, found);
+    }
+    best
+}
+
+/// Writes for each row of a block at which outputs it has `One`.
+fn keep_ones(rows: &[Row], start: usize, limit: u32, kept: &mut [Mask])
+    requires block { start + length kept.old ≤ length rows.now }
+    requires marks { All (λ row. limit ≤ length row.outs) rows.now }
+    requires width { limit ≤ WIDTH }
+    ensures { (k : ℕ) → k < length kept.new → slice_index kept.new k ≡ ones_at rows.now limit (start + k) }
+{
+    for (k, outputs) in kept.iter_mut().enumerate() {
+        *outputs = ones(limit, &rows[start + k]);
+    }
+}
+
+/// The least clash of the rows for ON of a block.
+fn of_block(rows: &[Row], start: usize, limit: u32, kept: &mut [Mask]) -> Option<Clash>
+    requires few { length rows.now ≤ PLA_ROWS }
+    requires block { start + length kept.old ≤ length rows.now }
+    requires marks { All (λ row. limit ≤ length row.outs) rows.now }
+    requires width { limit ≤ WIDTH }
+    ensures { IsLeastIn rows.now (InBlock start (start + length kept.old) limit) result }
+{
+    keep_ones(rows, start, limit, kept);
+    let mut best = None;
+    for (off_row, off) in rows.iter().enumerate() {
+        let found = of_row(rows, start, limit, kept, zeros(limit, off), off_row);
+        best = lesser(best, found);
+    }
+    best
 }
 
 fn least_clash(outputs: u32, rows: &[Row]) -> Option<Clash>
     requires marks { All (λ row. length row.outs ≡ outputs) rows.now }
     requires few { length rows.now ≤ PLA_ROWS }
+    requires width { outputs ≤ WIDTH }
     ensures { result ≡ spec.least_clash outputs rows.now }
 {
-    for output in 0..outputs {
-        let found = clash_at(rows, output);
-        if found.is_some() {
-            return found;
+    let mut kept = [Mask::empty(); BLOCK];
+    let mut best = None;
+    let mut limit = outputs;
+    let mut start = 0;
+    while start < rows.len() && limit > 0 {
+        let count = BLOCK.min(rows.len() - start);
+        let found = of_block(rows, start, limit, &mut kept[..count]);
+        if let Some(clash) = found {
+            best = found;
+            limit = clash.output;
         }
+        start += count;
     }
-    None
+    best
 }
 
 impl Cover {

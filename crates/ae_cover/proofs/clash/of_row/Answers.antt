@@ -1,0 +1,27 @@
+use Rattle.std.proofs.Common.{◌≡◌, ℕ, ◌+◌, length, slice_get, Option, Some, refl, sym, subst, ◌∙◌, arith}
+use Rattle.std.proofs.lemmas.Option.{slice_get_read, get_or_from_slice_get}
+use Rattle.ae_cover.specs.declared.parts.Clash.{Clash}
+use Rattle.ae_cover.specs.LeastClash.{IsLeastIn, InRow, of_pair, ones_at}
+use Rattle.ae_cover.proofs.Least.{one_more}
+use Rattle.ae_cover.proofs.clash.of_row.Goals as goal
+
+pub loop-k-preserved : goal.loop-k-preserved
+loop-k-preserved c =
+    let rows = c.args.rows.now in
+    let place = c.args.start + c.loop-k.k in
+    let on = c.index-rows-on_row.result in
+    let off = c.index-rows-off_row.result in
+    let on_there : slice_get rows place ≡ Some on = slice_get_read rows (length rows) place on refl (omega arith) c.index-rows-on_row.is in
+    let off_there : slice_get rows c.args.off_row ≡ Some off = slice_get_read rows (length rows) c.args.off_row off refl c.requires.off c.index-rows-off_row.is in
+    let kept_there = slice_get_read c.args.ones.now (length c.args.ones.now) c.loop-k.k c.index-ones-k.result refl c.loop-k-test.true c.index-ones-k.is in
+    let with_one : c.index-ones-k.result ≡ ones_at rows c.args.limit place = sym (get_or_from_slice_get c.args.ones.now c.loop-k.k c.index-ones-k.result 0 kept_there) ∙ c.requires.ones c.loop-k.k c.loop-k-test.true in
+    let found_is : c.of_pair-found.result ≡ of_pair c.index-ones-k.result c.args.zeros on.cube off.cube place c.args.off_row = cc in
+    let P : Option Clash → Type 0 = IsLeastIn rows (InRow c.args.start (c.args.start + (c.loop-k.k + 1)) c.args.limit c.args.off_row) in
+    subst P (sym c.lesser-best.ensures)
+    (one_more rows c.args.start c.args.limit c.loop-k.k c.args.off_row c.loop-k.best c.of_pair-found.result c.index-ones-k.result c.args.zeros on off on_there off_there with_one (c.requires.zeros off off_there) found_is c.loop-k.invariant)
+
+pub returns : goal.returns
+returns c =
+    let P : ℕ → Type 0 = λ k. IsLeastIn c.args.rows.now (InRow c.args.start (c.args.start + k) c.args.limit c.args.off_row) c.loop-k.best in
+    let all : c.loop-k.k ≡ length c.args.ones.now = omega arith in
+    subst P all c.loop-k.invariant
