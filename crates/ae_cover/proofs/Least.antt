@@ -1,12 +1,13 @@
 -- The least clash among some of the pairs of rows.
-use Rattle.std.proofs.Common.{◌≡◌, ℕ, ◌+◌, ◌<◌, ◌≤◌, ◌⊎◌, Bool, true, false, List, length, Option, Some, None, refl, sym, ap, subst, ◌∙◌, inl, inr, eqb, ltb, eq-eqb, eqb-true, lt-ltb, ltb-true, arith}
+use Rattle.std.proofs.Common.{◌≡◌, ℕ, ◌+◌, ◌-◌, ◌<◌, ◌≤◌, ◌⊎◌, Bool, true, false, List, length, get_or, Option, Some, None, refl, sym, ap, subst, ◌∙◌, inl, inr, eqb, ltb, eq-eqb, eqb-true, lt-ltb, ltb-true, arith}
 use Rattle.std.specs.Prelude.{slice_get}
 use Rattle.std.specs.Option.{option_map_or}
 use Rattle.std.proofs.lemmas.Bool.{and_from, and_parts, cases_eq, cases_lt, cases_order, cond_both, false≢true, ne_eqb, or_cases, or_left, or_right}
 use Rattle.std.proofs.lemmas.Option.{slice_get_within}
-use Rattle.ae_base.specs.Mask.{Set, has, empty, len, both, least as least_of}
-use Rattle.ae_base.proofs.Sets.{same_set, has-both, has-empty, has-where_below}
+use Rattle.ae_base.specs.Mask.{Set, has, empty, len, both, either, least as least_of}
+use Rattle.ae_base.proofs.Sets.{same_set, has-both, has-either, has-empty, has-where_below}
 use Rattle.ae_base.proofs.Members.{len-zero, len-none, least-is, least-empty}
+use Rattle.ae_cover.specs.declared.parts.Mark.{Mark}
 use Rattle.ae_cover.specs.declared.parts.Row.{Row}
 use Rattle.ae_cover.specs.declared.parts.Clash.{Clash}
 use Rattle.ae_cover.specs.Cover.{has_mark, is_one, is_zero}
@@ -104,10 +105,12 @@ joined rows R Q S (Some c) (Some e) b f r q s =
 AtPair : ℕ → ℕ → ℕ → Clash → Type 0
 AtPair limit i j c = (c.output < limit) × (c.on_row ≡ i) × (c.off_row ≡ j)
 
+is_marked : (is_such : Mark → Bool) (limit : ℕ) (row : Row) (o : ℕ) → o < limit → has_mark is_such o row ≡ true → has (marked is_such limit row) o ≡ true
+is_marked is_such limit row o lt at = has-where_below limit (λ k. has_mark is_such k row) o ∙ and_from _ _ (lt-ltb o limit lt) at
+
 shared : (limit : ℕ) (on off : Row) (o : ℕ) → o < limit → has_mark is_one o on ≡ true → has_mark is_zero o off ≡ true → has (both (marked is_one limit on) (marked is_zero limit off)) o ≡ true
-shared limit on off o lt one zero =
-    has-both (marked is_one limit on) (marked is_zero limit off) o
-    ∙ and_from _ _ (has-where_below limit (λ k. has_mark is_one k on) o ∙ and_from _ _ (lt-ltb o limit lt) one) (has-where_below limit (λ k. has_mark is_zero k off) o ∙ and_from _ _ (lt-ltb o limit lt) zero)
+shared limit on off o lt one zero_there =
+    has-both (marked is_one limit on) (marked is_zero limit off) o ∙ and_from _ _ (is_marked is_one limit on o lt one) (is_marked is_zero limit off o lt zero_there)
 
 shared_is : (limit : ℕ) (on off : Row) (o : ℕ) → has (both (marked is_one limit on) (marked is_zero limit off)) o ≡ true → (o < limit) × (has_mark is_one o on ≡ true) × (has_mark is_zero o off ≡ true)
 shared_is limit on off o e =
@@ -158,6 +161,32 @@ pair_least rows limit i j on off on_row off_row = pair_by rows limit i j on off 
 
 pub no_pair : (rows : List Row) (start limit j : ℕ) → IsLeastIn rows (InRow start (start + 0) limit j) None
 no_pair rows start limit j = λ d g r. let h = r.0 in absurd (omega (arith, h.0, h.1))
+
+-- no row of the block has One where the row for OFF has Zero
+pub none_shared : (rows : List Row) (start limit j : ℕ) (ones : List Set) (any at_zero : Set) → ((k : ℕ) → k < length ones → get_or ones k 0 ≡ ones_at rows limit (start + k))
+    → ((k o : ℕ) → k < length ones → has (get_or ones k 0) o ≡ true → has any o ≡ true) → ((off : Row) → slice_get rows j ≡ Some off → at_zero ≡ marked is_zero limit off) → len (both any at_zero) ≡ 0
+    → IsLeastIn rows (InRow start (start + length ones) limit j) None
+none_shared rows start limit j ones any at_zero ones_are any_is zeros_are none = λ d g r.
+    let h = r.0 in
+    let k = d.on_row - start in
+    let lt : k < length ones = omega (arith, h.0, h.1) in
+    let place : start + k ≡ d.on_row = omega (arith, h.0) in
+    let on_there : slice_get rows (start + k) ≡ Some g.on = ap (slice_get rows) place ∙ g.on_row in
+    let off_there : slice_get rows j ≡ Some g.off = ap (slice_get rows) (sym r.1) ∙ g.off_row in
+    let kept : get_or ones k 0 ≡ marked is_one limit g.on = ones_are k lt ∙ ap (λ (o : Option Row). option_map_or (marked is_one limit) o 0) on_there in
+    let one : has (get_or ones k 0) d.output ≡ true = ap (λ s. has s d.output) kept ∙ is_marked is_one limit g.on d.output h.2 g.one in
+    let off_one : has at_zero d.output ≡ true = ap (λ s. has s d.output) (zeros_are g.off off_there) ∙ is_marked is_zero limit g.off d.output h.2 g.zero in
+    false≢true (sym (len-zero (both any at_zero) none d.output) ∙ (has-both any at_zero d.output ∙ and_from _ _ (any_is k d.output lt one) off_one))
+
+-- the members of one more set
+pub union_more : (sets : List Set) (i : ℕ) (s all : Set) → get_or sets i 0 ≡ s → ((k o : ℕ) → k < i → has (get_or sets k 0) o ≡ true → has all o ≡ true) → (k o : ℕ) → k < i + 1 → has (get_or sets k 0) o ≡ true → has (either all s) o ≡ true
+union_more sets i s all is before k o lt there =
+    elim (cases_lt k i) [
+      | inl early ↦ has-either all s o ∙ or_left _ _ (before k o early there)
+      | inr late ↦
+          let last : k ≡ i = omega arith in
+          has-either all s o ∙ or_right _ _ (ap (λ t. has t o) (sym (ap (λ n. get_or sets n 0) last ∙ is)) ∙ there)
+    ]
 
 pub one_more : (rows : List Row) (start limit k j : ℕ) (best found : Option Clash) (with_one with_zero : Set) (on off : Row) → slice_get rows (start + k) ≡ Some on → slice_get rows j ≡ Some off → with_one ≡ ones_at rows limit (start + k)
     → with_zero ≡ marked is_zero limit off → found ≡ of_pair with_one with_zero on.cube off.cube (start + k) j → IsLeastIn rows (InRow start (start + k) limit j) best → IsLeastIn rows (InRow start (start + (k + 1)) limit j) (lesser best found)

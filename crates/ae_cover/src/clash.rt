@@ -1,5 +1,5 @@
 //! The first clash.
-ghost use Rattle.std.specs.Prelude.{◌≡◌, ℕ, ◌+◌, ◌<◌, ◌≤◌, ◌^◌, ◌==◌, length, slice_get, slice_index, Some, All};
+ghost use Rattle.std.specs.Prelude.{◌≡◌, ℕ, ◌+◌, ◌<◌, ◌≤◌, ◌^◌, ◌==◌, length, slice_get, slice_index, Some, All, true};
 ghost use Rattle.ae_base.specs.Mask as set;
 ghost use Rattle.ae_base.specs.Cube.{Product};
 ghost use Rattle.ae_cover.specs.Clash.{meet};
@@ -114,12 +114,24 @@ fn lesser(best: Option<Clash>, found: Option<Clash>) -> Option<Clash>
     }
 }
 
-/// The least clash of the row for OFF at `off_row`, with `Zero` at the outputs `zeros`, and the rows for ON of a block.
+/// The members of all the sets.
+fn union(sets: &[Mask]) -> Mask
+    ensures { (k o : ℕ) → k < length sets.now → set.has (slice_index sets.now k) o ≡ true → set.has result o ≡ true }
+{
+    let mut all = Mask::empty();
+    for s in sets {
+        all = all.or(*s);
+    }
+    all
+}
+
+/// The least clash of the row for OFF at `off_row`, with `Zero` at the outputs `zeros`, and the rows for ON of a block. All outputs at which these have `One` are in `any`.
 fn of_row(
     rows: &[Row],
     start: usize,
     limit: u32,
     ones: &[Mask],
+    any: Mask,
     zeros: Mask,
     off_row: usize,
 ) -> Option<Clash>
@@ -127,9 +139,13 @@ fn of_row(
     requires block { start + length ones.now ≤ length rows.now }
     requires off { off_row < length rows.now }
     requires ones { (k : ℕ) → k < length ones.now → slice_index ones.now k ≡ ones_at rows.now limit (start + k) }
+    requires any { (k o : ℕ) → k < length ones.now → set.has (slice_index ones.now k) o ≡ true → set.has any o ≡ true }
     requires zeros { (off : Row) → slice_get rows.now off_row ≡ Some off → zeros ≡ marked is_zero limit off }
     ensures { IsLeastIn rows.now (InRow start (start + length ones.now) limit off_row) result }
 {
+    if is_empty(any.both(zeros)) {
+        return None;
+    }
     let off = rows[off_row].cube;
     let mut best = None;
     for (k, outputs) in ones.iter().enumerate() {
@@ -168,9 +184,10 @@ fn of_block(rows: &[Row], start: usize, limit: u32, kept: &mut [Mask]) -> Option
     ensures { IsLeastIn rows.now (InBlock start (start + length kept.old) limit) result }
 {
     keep_ones(rows, start, limit, kept);
+    let any = union(kept);
     let mut best = None;
     for (off_row, off) in rows.iter().enumerate() {
-        let found = of_row(rows, start, limit, kept, zeros(limit, off), off_row);
+        let found = of_row(rows, start, limit, kept, any, zeros(limit, off), off_row);
         best = lesser(best, found);
     }
     best

@@ -1,8 +1,9 @@
-use Rattle.std.proofs.Common.{◌≡◌, ℕ, ◌+◌, length, slice_get, Option, Some, refl, sym, subst, ◌∙◌, arith}
+use Rattle.std.proofs.Common.{◌≡◌, ℕ, ◌+◌, length, slice_get, Option, Some, refl, sym, subst, ◌∙◌, arith, ap, eqb-true}
 use Rattle.std.proofs.lemmas.Option.{slice_get_read, get_or_from_slice_get}
+use Rattle.ae_base.specs.Mask.{len, both}
 use Rattle.ae_cover.specs.declared.parts.Clash.{Clash}
 use Rattle.ae_cover.specs.LeastClash.{IsLeastIn, InRow, of_pair, ones_at}
-use Rattle.ae_cover.proofs.Least.{one_more}
+use Rattle.ae_cover.proofs.Least.{none_shared, one_more}
 use Rattle.ae_cover.proofs.clash.of_row.Goals as goal
 
 pub loop-k-preserved : goal.loop-k-preserved
@@ -25,3 +26,8 @@ returns c =
     let P : ℕ → Type 0 = λ k. IsLeastIn c.args.rows.now (InRow c.args.start (c.args.start + k) c.args.limit c.args.off_row) c.loop-k.best in
     let all : c.loop-k.k ≡ length c.args.ones.now = omega arith in
     subst P all c.loop-k.invariant
+
+pub returns-then-is_empty : goal.returns-then-is_empty
+returns-then-is_empty c =
+    let none : len (both c.args.any c.args.zeros) ≡ 0 = ap len (sym c.both.ensures) ∙ eqb-true (len c.both.result) 0 (sym c.is_empty.ensures ∙ c.if-is_empty.true) in
+    none_shared c.args.rows.now c.args.start c.args.limit c.args.off_row c.args.ones.now c.args.any c.args.zeros c.requires.ones c.requires.any c.requires.zeros none
