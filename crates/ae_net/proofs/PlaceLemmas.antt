@@ -5,6 +5,7 @@ use Rattle.std.specs.List.{flat_map, list_any, range_with_len}
 use Rattle.std.proofs.lemmas.List.Concat.{flat_map-append}
 use Rattle.std.proofs.lemmas.List.FromFn.{map-range_with_len_more, length-map-range_with_len, get_or-map-range_with_len, fill_by_all}
 use Rattle.std.proofs.lemmas.List.Elements.{filter-append}
+use Rattle.std.proofs.Math.Bool.{or_assoc}
 use Rattle.std.proofs.Math.Seq.{take-append_seam}
 use Rattle.std.proofs.lemmas.List.{map-append, get_or-replicate, length-replicate}
 use Rattle.ae_base.proofs.Written.{range_more}
@@ -53,10 +54,6 @@ stems_marked n marks e =
     rw long
     (ap (map (λ s. Stem s)) (filter_agree_within (mark_at marks) (is_read n) 0 (signals n)
     (λ s l k. ap (λ m. mark_at m s) e ∙ get_or-map-range_with_len (is_read n) 0 (signals n) s s false (omega arith) (omega arith))))
-
-or_assoc : (a b c : Bool) → ((a || b) || c) ≡ (a || (b || c))
-or_assoc true b c = refl
-or_assoc false b c = refl
 
 -- the pins' signals, and then the outputs
 pub marks_read : (n : Network) (a b c : List Bool) → Marks (is_read_by n.gates) a b → Marks (λ s. list_any (λ o. eqb o s) n.outputs) b c → Marks (is_read n) a c

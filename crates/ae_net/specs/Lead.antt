@@ -1,5 +1,5 @@
 -- The number of underscores of inner names as a function: `lead` meets `IsLead`, and is the only number that does.
-use Rattle.std.specs.Prelude.{ℕ, zero, suc, if◌then◌else◌, List, [], ◌∷◌, ◌++◌, length, map, max, ◌≤◌}
+use Rattle.std.specs.Prelude.{ℕ, zero, suc, if◌then◌else◌, List, [], ◌∷◌, ◌++◌, map, max, ◌≤◌}
 use Rattle.ae_net.specs.Names.{Names, underscores, is_taken}
 
 -- the least number from k on that is not taken, where one of the next `more` is free or the number after them is

@@ -1,5 +1,5 @@
 -- The names of a source, and inner names.
-use Rattle.std.specs.Prelude.{◌≡◌, ℕ, zero, suc, ◌<◌, ◌≤◌, ◌==◌, Bool, true, false, if◌then◌else◌, List, [], ◌∷◌, ◌++◌, length, map, All, replicate, max}
+use Rattle.std.specs.Prelude.{◌≡◌, ℕ, suc, ◌<◌, ◌≤◌, ◌==◌, Bool, true, false, if◌then◌else◌, List, [], ◌∷◌, ◌++◌, length, All, replicate}
 use Rattle.std.specs.List.{list_any}
 use Rattle.ae_base.specs.declared.limits.TheConstants.{SOURCE_LINES, SOURCE_NAME_BYTES}
 use Rattle.ae_base.specs.Name.{is_name}

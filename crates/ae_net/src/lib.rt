@@ -14,5 +14,5 @@ pub use laws::{fault_laws, lead_law, one_run};
 pub use names::{NetNames, lead, letter_name, numbered_name};
 pub use net::{Fault, Gate, Net, Place, Sig};
 pub use pins::Pins;
-pub use places::{faults, is_place};
+pub use places::{fault_count, faults, is_place};
 pub use run::{Scratch, answer, scratch_for};

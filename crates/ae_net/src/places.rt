@@ -1,5 +1,5 @@
 //! The places of a network, and its faults.
-ghost use Rattle.std.specs.Prelude.{◌≡◌, ◌↔◌, ◌++◌, ◌==◌, ◌≤◌, ◌<◌, ◌^◌, All, filter, map, length, [], if◌then◌else◌, slice_get, Some, IsTrue, IfOk, OnOk};
+ghost use Rattle.std.specs.Prelude.{◌≡◌, ◌↔◌, ◌++◌, ◌==◌, ◌≤◌, ◌<◌, ◌^◌, All, filter, map, length, count_by, [], if◌then◌else◌, slice_get, Some, IsTrue, IfOk, OnOk};
 ghost use Rattle.std.specs.List.{list_any, flat_map, range_with_len};
 ghost use Rattle.ae_base.specs.declared.limits.TheConstants.{PINS};
 ghost use Rattle.ae_net.specs.Faults as spec;
@@ -177,4 +177,44 @@ pub fn faults(alloc: Global, net: &Net) -> Result<Vec<Fault>, Memory>
     push_pins(net, &mut list)?;
     push_ports(net, &mut list)?;
     Ok(list)
+}
+
+/// The number of the marks that are set.
+fn marked(marks: &[bool]) -> usize
+    ensures { result ≡ count_by (λ mark. mark) marks.now }
+{
+    marks.iter().filter(|mark| **mark).count()
+}
+
+/// The number of the stems of the signals that are read.
+#[tactic(auto, using(crate::proofs::CountLemmas::stems_counted, crate::proofs::CountLemmas::few_stems))]
+fn stem_count(alloc: Global, net: &Net) -> Result<u64, Memory>
+    ensures stems { IfOk result (λ n. n ≡ length (spec.stems net.now)) }
+    ensures few { IfOk result (λ n. n < 2 ^ 32) }
+{
+    let marks = read_signals(alloc, net)?;
+    Ok(marked(marks.as_slice()) as u64)
+}
+
+/// The number of the pins of all gates.
+fn pin_count(net: &Net) -> u64
+    ensures pins { result ≡ length (spec.pins net.now) }
+    ensures few { result < 2 ^ 32 }
+{
+    let mut sum = 0;
+    for i in 0..net.gates().len() {
+        sum += net.gate(i).pins.len() as u64;
+    }
+    sum
+}
+
+/// The number of the faults of the network, without their list. The time is linear in the size of the network.
+#[tactic(auto, using(crate::proofs::CountLemmas::all_counted))]
+pub fn fault_count(alloc: Global, net: &Net) -> Result<u64, Memory>
+    ensures { IfOk result (λ n. n ≡ length (spec.fault_list net.now)) }
+{
+    let ports = net.outputs().len() as u64;
+    let pins = pin_count(net);
+    let stems = stem_count(alloc, net)?;
+    Ok(2 * (stems + pins + ports))
 }
