@@ -1,3 +1,4 @@
 pub mod Even
 pub mod Lists
+pub mod Union
 pub mod UsedInputs

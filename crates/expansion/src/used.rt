@@ -1,5 +1,5 @@
 //! The inputs that an expansion uses.
-ghost use Rattle.std.specs.Prelude.{◌≡◌};
+ghost use Rattle.std.specs.Prelude.{◌≡◌, ◌||◌, ℕ};
 ghost use Rattle.std.specs.List.{list_any};
 ghost use Rattle.ae_base.specs.Mask.{has};
 ghost use Rattle.expansion.specs.Terms as spec;
@@ -23,16 +23,24 @@ pub fn is_used(e: &Expansion, j: u32) -> bool
         .any(|terms| some_holds(terms.as_slice(), j))
 }
 
-/// The inputs that some term of some output holds. It takes no memory.
-#[tactic(auto, unfolding(crate::specs::Terms::used_inputs))]
+/// The set, with the inputs that some of the terms holds.
+fn with_terms(held: Mask, terms: &[Term]) -> Mask
+    ensures { (j : ℕ) → has result j ≡ (has held j || list_any (λ t. has t j) terms.now) }
+{
+    let mut all = held;
+    for term in terms {
+        all = all.or(*term);
+    }
+    all
+}
+
+/// The inputs that some term of some output holds, in one pass over the terms. It takes no memory.
 pub fn used_inputs(e: &Expansion) -> Mask
     ensures { result ≡ spec.used_inputs e.now }
 {
     let mut used = Mask::empty();
-    for j in 0..e.inputs() {
-        if is_used(e, j) {
-            used = used.with(j);
-        }
+    for terms in e.lists() {
+        used = with_terms(used, terms.as_slice());
     }
     used
 }

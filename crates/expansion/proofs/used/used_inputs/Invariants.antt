@@ -1,7 +1,7 @@
-use Rattle.std.proofs.Common.{◌≡◌}
-use Rattle.ae_base.specs.Mask.{where_below}
-use Rattle.expansion.specs.Terms.{is_used}
+use Rattle.std.proofs.Common.{◌≡◌, ℕ, take}
+use Rattle.std.specs.List.{list_any}
+use Rattle.ae_base.specs.Mask.{has}
 use Rattle.expansion.proofs.used.used_inputs.Given as goal
 
-abbrev pub invariant-loop-j : goal.invariant-loop-j
-invariant-loop-j l = l.used ≡ where_below l.j (is_used l.e)
+abbrev pub invariant-loop-terms : goal.invariant-loop-terms
+invariant-loop-terms l = (j : ℕ) → has l.used j ≡ list_any (λ ts. list_any (λ t. has t j) ts) (take l.terms-index l.e.outs)
