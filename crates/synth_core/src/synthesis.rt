@@ -24,7 +24,7 @@ use crate::made::{Made, Summary};
 use crate::settings::{Settings, SourceKind, polarity_of};
 use ae_base::{Memory, Name, Point, Polarity, Seq, copies};
 use ae_cover::Cover;
-use ae_net::{Net, NetNames, answer, faults, scratch_for};
+use ae_net::{Net, NetNames, answer, fault_count, scratch_for};
 use blif_write::blif_text;
 use cascade::reddy;
 use expansion::{Expansion, pairs};
@@ -123,7 +123,7 @@ fn summary(
     requires polarity { file.now.polarity ≡ e.now.polarity }
     ensures { IfOk result (λ summary. AreReddyNumbers (source_of cover.now) e.now net.now file.now summary) }
 {
-    let faults = faults(alloc, net)?;
+    let faults = fault_count(alloc, net)?;
     Ok(Summary {
         form: Form::Reddy,
         inputs: e.inputs(),
@@ -132,7 +132,7 @@ fn summary(
         terms: pairs(e),
         cubes: 0,
         gates: net.gates().len() as u64,
-        faults: faults.len() as u64,
+        faults,
         vectors: file.vectors.len() as u64,
         unchanged: 0,
     })
