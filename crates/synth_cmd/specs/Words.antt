@@ -7,7 +7,7 @@ use Rattle.synth_cmd.specs.declared.words.Command.TheVariants.{Refused, Synth}
 
 abbrev pub command_of : Command → Asked
 command_of Refused = asked_refused
-command_of (Synth settings source net vectors) = asked_synth settings source.now net.now vectors.now
+command_of (Synth settings names) = asked_synth settings names.source.now names.net.now names.vectors.now
 
 -- the names of a command's files differ
 pub record ApartNames (source net vectors : List ℕ) : Type 0 where

@@ -7,7 +7,7 @@ ghost use Rattle.synth_cmd.specs.Outside.{CountsAmong, outside};
 
 use crate::job::{Stop, synthesise_files};
 use crate::tell::{finish, refuse, tell, tell_write_fault, want_memory};
-use crate::words::{Command, read_command};
+use crate::words::{Command, FileNames, read_command};
 use crate::{DONE, WORDS};
 use ae_outside::{Files, Sink, file_laws};
 use std::alloc::Global;
@@ -19,21 +19,24 @@ fn synth_work<F: Files, K: Sink>(
     files: &mut F,
     report: &mut K,
     settings: &Settings,
-    source: &str,
-    net: &str,
-    vectors: &str,
+    names: &FileNames<'_>,
 ) -> u8
-    requires { net.now ≢ vectors.now }
-    ensures ending { Ending settings.now (HoldsText (F.held files.old) source.now) (source.now ∷ []) (net.now ∷ vectors.now ∷ [])
+    requires { names.now.net.now ≢ names.now.vectors.now }
+    ensures ending { Ending settings.now (HoldsText (F.held files.old) names.now.source.now) (names.now.source.now ∷ []) (names.now.net.now ∷ names.now.vectors.now ∷ [])
         (outside F.held F.read_faults F.write_faults K.taken K.faults files.old report.old)
         (outside F.held F.read_faults F.write_faults K.taken K.faults files.new report.new)
         result }
-    ensures headline { result ≡ DONE → Tested settings.now (Holds (F.held files.old) source.now) net.now vectors.now (F.held files.new) }
-    ensures reads { CountsAmong (source.now ∷ []) (F.read_faults files.old) (F.read_faults files.new) }
-    ensures writes { CountsAmong (net.now ∷ vectors.now ∷ []) (F.write_faults files.old) (F.write_faults files.new) }
+    ensures headline { result ≡ DONE → Tested settings.now (Holds (F.held files.old) names.now.source.now) names.now.net.now names.now.vectors.now (F.held files.new) }
+    ensures reads { CountsAmong (names.now.source.now ∷ []) (F.read_faults files.old) (F.read_faults files.new) }
+    ensures writes { CountsAmong (names.now.net.now ∷ names.now.vectors.now ∷ []) (F.write_faults files.old) (F.write_faults files.new) }
     ensures faults { K.faults report.old ≤ K.faults report.new }
 {
     file_laws();
+    let FileNames {
+        source,
+        net,
+        vectors,
+    } = *names;
     match synthesise_files(alloc, files, settings, source, net, vectors) {
         Ok(made) => finish(alloc, report, made.summary),
         Err(Stop::Refused(refusal)) => refuse(alloc, report, refusal, source),
@@ -49,19 +52,17 @@ fn synth_command<F: Files, K: Sink>(
     files: &mut F,
     report: &mut K,
     settings: &Settings,
-    source: &str,
-    net: &str,
-    vectors: &str,
+    names: &FileNames<'_>,
 ) -> u8
-    requires { net.now ≢ vectors.now }
-    ensures ends { SynthEnds settings.now (HoldsText (F.held files.old) source.now) (source.now ∷ []) (net.now ∷ vectors.now ∷ [])
+    requires { names.now.net.now ≢ names.now.vectors.now }
+    ensures ends { SynthEnds settings.now (HoldsText (F.held files.old) names.now.source.now) (names.now.source.now ∷ []) (names.now.net.now ∷ names.now.vectors.now ∷ [])
         (outside F.held F.read_faults F.write_faults K.taken K.faults files.old report.old)
         (outside F.held F.read_faults F.write_faults K.taken K.faults files.new report.new)
         result }
-    ensures headline { result ≡ DONE → Tested settings.now (Holds (F.held files.old) source.now) net.now vectors.now (F.held files.new) }
+    ensures headline { result ≡ DONE → Tested settings.now (Holds (F.held files.old) names.now.source.now) names.now.net.now names.now.vectors.now (F.held files.new) }
 {
     one_answer_law();
-    synth_work(alloc, files, report, settings, source, net, vectors)
+    synth_work(alloc, files, report, settings, names)
 }
 
 /// Words that ask for nothing.
@@ -92,11 +93,8 @@ pub fn run<F: Files, K: Sink>(alloc: Global, words: &[String], files: &mut F, re
 {
     match read_command(words) {
         Command::Refused => refuse_words(files, report),
-        Command::Synth {
-            settings,
-            source,
-            net,
-            vectors,
-        } => synth_command(alloc, files, report, &settings, source, net, vectors),
+        Command::Synth { settings, names } => {
+            synth_command(alloc, files, report, &settings, &names)
+        }
     }
 }

@@ -13,15 +13,21 @@ const USUAL: Settings = Settings {
     polarity: Choice::Positive,
 };
 
+/// The names of the files of a synthesis: the source, and where the network and its vectors are written.
+#[derive(Clone, Copy)]
+pub struct FileNames<'a> {
+    pub source: &'a str,
+    pub net: &'a str,
+    pub vectors: &'a str,
+}
+
 /// A command with what it asks for and the names of its files.
 #[derive(Clone, Copy)]
 pub enum Command<'a> {
     Refused,
     Synth {
         settings: Settings,
-        source: &'a str,
-        net: &'a str,
-        vectors: &'a str,
+        names: FileNames<'a>,
     },
 }
 
@@ -38,9 +44,11 @@ pub fn read_command(words: &[String]) -> Command<'_>
                 && net.as_str() != vectors.as_str() => {
             Command::Synth {
                 settings: USUAL,
-                source: source.as_str(),
-                net: net.as_str(),
-                vectors: vectors.as_str(),
+                names: FileNames {
+                    source: source.as_str(),
+                    net: net.as_str(),
+                    vectors: vectors.as_str(),
+                },
             }
         }
         _ => Command::Refused,

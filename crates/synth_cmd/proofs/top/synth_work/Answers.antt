@@ -12,20 +12,20 @@ pub returns-in-Err-Refused-clause-ending : goal.returns-in-Err-Refused-clause-en
 returns-in-Err-Refused-clause-ending g c =
     let e = c.in-Err-Refused.ensures in
     let is = ap Err c.in-Err-Refused.field-0-is in
-    ends_refused _ _ _ _ _ _ _ c.args.source.now c.in-Err-Refused.refusal
-    (is_first c.args.source.now [], e.refused c.in-Err-Refused.refusal is, e.refused_stays c.in-Err-Refused.refusal is) c.refuse.ensures.told
+    ends_refused _ _ _ _ _ _ _ c.args.names.now.source.now c.in-Err-Refused.refusal
+    (is_first c.args.names.now.source.now [], e.refused c.in-Err-Refused.refusal is, e.refused_stays c.in-Err-Refused.refusal is) c.refuse.ensures.told
 
 pub returns-in-Err-NetFault-clause-ending : goal.returns-in-Err-NetFault-clause-ending
 returns-in-Err-NetFault-clause-ending g c =
     let e = c.in-Err-NetFault.ensures in
     let is = ap Err c.in-Err-NetFault.field-0-is in
-    ends_failed _ _ _ _ _ _ _ c.args.net.now (is_first c.args.net.now (c.args.vectors.now ∷ [])) (e.net_fault is) (e.net_stops is) c.tell_write_fault.ensures.told
+    ends_failed _ _ _ _ _ _ _ c.args.names.now.net.now (is_first c.args.names.now.net.now (c.args.names.now.vectors.now ∷ [])) (e.net_fault is) (e.net_stops is) c.tell_write_fault.ensures.told
 
 pub returns-in-Err-VectorsFault-clause-ending : goal.returns-in-Err-VectorsFault-clause-ending
 returns-in-Err-VectorsFault-clause-ending g c =
     let e = c.in-Err-VectorsFault.ensures in
     let is = ap Err c.in-Err-VectorsFault.field-0-is in
-    ends_failed _ _ _ _ _ _ _ c.args.vectors.now (is_second c.args.net.now c.args.vectors.now []) (e.vectors_fault is) (e.vectors_stop is) c.tell_write_fault-in-Err-VectorsFault.ensures.told
+    ends_failed _ _ _ _ _ _ _ c.args.names.now.vectors.now (is_second c.args.names.now.net.now c.args.names.now.vectors.now []) (e.vectors_fault is) (e.vectors_stop is) c.tell_write_fault-in-Err-VectorsFault.ensures.told
 
 pub returns-in-Err-Memory-clause-ending : goal.returns-in-Err-Memory-clause-ending
 returns-in-Err-Memory-clause-ending g c =
