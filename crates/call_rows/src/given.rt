@@ -100,7 +100,7 @@ pub fn cover_of(alloc: Global, text: &[u8]) -> Result<Cover, PlaErr> {
 
 /// The names of a cover.
 pub fn names_of(alloc: Global, cover: Cover) -> Result<NetNames, Memory> {
-    let model = Name::from_bytes(alloc, b"andexor")?.unwrap();
+    let model = Name::known(alloc, b"andexor")?;
     Ok(NetNames {
         model,
         inputs: cover.inputs,

@@ -1,7 +1,10 @@
 //! The calls of `ae_base`: names, sets, cubes, lists and pieces of text.
 
 use crate::given::set;
-use ae_base::{Cube, Mask, Memory, Name, Polarity, Seq, WIDTH, push_bits, push_names, push_word};
+use ae_base::{
+    Cube, Mask, Memory, Name, Polarity, Seq, WIDTH, copies, is_name, is_source_name, push_bits,
+    push_names, push_new, push_word,
+};
 use std::alloc::Global;
 use std::cmp::Ordering;
 use std::test::Fail;
@@ -32,6 +35,9 @@ static WORDS: [Word; 4] = [
 ];
 
 fn is_as_said(alloc: Global, word: &Word) -> Result<bool, Memory> {
+    if is_name(word.bytes) != word.is_name {
+        return Ok(false);
+    }
     match Name::from_bytes(alloc, word.bytes)? {
         Some(name) => Ok(word.is_name && name.bytes() == word.bytes && name.copy(alloc)? == name),
         None => Ok(!word.is_name),
@@ -47,10 +53,24 @@ fn words_are_as_said(alloc: Global) -> Result<bool, Memory> {
     Ok(true)
 }
 
+/// A name of 256 bytes is none of a source.
+fn long_names_are_as_said() -> bool {
+    let long = [b'a'; 256];
+    is_name(&long) && !is_source_name(&long) && is_source_name(&long[1..])
+}
+
 #[test]
 fn names(rt: HostRuntime) -> Result<(), Fail> {
     let same = words_are_as_said(rt.alloc())?;
     assert!(rt; same);
+    assert!(rt; long_names_are_as_said());
+    Ok(())
+}
+
+#[test]
+fn want_of_memory(rt: HostRuntime) -> Result<(), Fail> {
+    let text = format!(in rt.alloc(); "{}", Memory)?;
+    assert!(rt; text.as_str() == "want of memory");
     Ok(())
 }
 
@@ -69,6 +89,18 @@ fn has_its_members() -> bool {
         && all.without(1).least() == Some(WIDTH - 1)
         && Mask::empty().least() == None
         && Mask::first(WIDTH).len() == WIDTH
+        && !all.is_empty()
+        && Mask::empty().is_empty()
+}
+
+/// The members in order, and 1 once more where the list has it.
+fn lists_its_members(alloc: Global) -> Result<bool, Memory> {
+    let mut list = Vec::new(alloc);
+    for j in outer().members() {
+        push_new(&mut list, j)?;
+        push_new(&mut list, 1)?;
+    }
+    Ok(list.as_slice() == [1, WIDTH - 1].as_slice())
 }
 
 fn meets_other_sets() -> bool {
@@ -84,9 +116,12 @@ fn meets_other_sets() -> bool {
 }
 
 #[test]
-fn sets(rt: HostRuntime) {
+fn sets(rt: HostRuntime) -> Result<(), Fail> {
+    let listed = lists_its_members(rt.alloc())?;
+    assert!(rt; listed);
     assert!(rt; has_its_members());
     assert!(rt; meets_other_sets());
+    Ok(())
 }
 
 #[tactic(auto, using(ae_base::proofs::Sets::set_members), unfolding(ae_base::specs::Cube::whole))]
@@ -100,6 +135,8 @@ fn cubes_are_as_said() -> bool {
     whole.holds(Mask::empty())
         && plain.holds(Mask::first(2))
         && !complemented.holds(Mask::first(2))
+        && plain.meets(whole)
+        && !plain.meets(complemented)
         && plain.distance(complemented) == 1
         && plain.literal_text(0) == b'1'
         && whole.cmp_text(complemented) == Ordering::Less
@@ -140,21 +177,30 @@ fn lists_are_as_said(alloc: Global) -> Result<bool, Memory> {
     )
 }
 
+/// The numbers that are in one of the four terms.
+fn four_are_lent(alloc: Global) -> Result<bool, Memory> {
+    let list = four_terms(alloc)?;
+    let mut all = Mask::empty();
+    for term in &list {
+        all = all.or(*term);
+    }
+    Ok(all == set(&[0, 1, 2, 5]))
+}
+
 #[test]
 fn lists(rt: HostRuntime) -> Result<(), Fail> {
     let alloc = rt.alloc();
     let sorted = four_are_sorted(alloc)?;
     let same = lists_are_as_said(alloc)?;
-    assert!(rt; sorted && same);
+    let lent = four_are_lent(alloc)?;
+    assert!(rt; sorted && same && lent);
     Ok(())
 }
 
 fn one_name(alloc: Global) -> Result<Seq<Name>, Memory> {
     let mut names = Seq::new(alloc);
-    if let Some(name) = Name::from_bytes(alloc, b"f")? {
-        names.push(name)?;
-    }
-    Ok(names)
+    names.push(Name::known(alloc, b"f")?)?;
+    copies(alloc, names.as_slice())
 }
 
 fn pieces(alloc: Global) -> Result<Vec<u8>, Memory> {
