@@ -2,6 +2,7 @@
 
 use ae_base::Memory;
 use std::fmt;
+use thiserror::Error;
 
 /// Which limits a text is to keep.
 #[derive(Clone, Copy, Debug, PartialEq, Eq)]
@@ -87,10 +88,16 @@ impl fmt::Display for BlifFault {
     }
 }
 
-/// The first fault, with its line from 1 on, or want of memory.
-#[derive(Clone, Copy, Debug, PartialEq, Eq)]
+impl std::error::Error for BlifFault {}
+
+/// Why `read_blif` gives no network.
+#[derive(Clone, Copy, Debug, PartialEq, Eq, Drop, Error)]
 pub enum BlifErr {
+    /// The first fault, with the number of its line from 1 on.
+    #[error("line {line}: {what}")]
     At { line: u32, what: BlifFault },
+    /// Memory is wanting.
+    #[error("want of memory")]
     Memory,
 }
 

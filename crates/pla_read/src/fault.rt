@@ -2,6 +2,7 @@
 
 use ae_base::Memory;
 use std::fmt;
+use thiserror::Error;
 
 /// What is wrong with a line, or with the whole text.
 #[derive(Clone, Copy, Debug, PartialEq, Eq)]
@@ -65,13 +66,17 @@ impl fmt::Display for PlaFault {
     }
 }
 
+impl std::error::Error for PlaFault {}
+
 /// Why `read_pla` gives no cover.
-#[derive(Clone, Copy, Debug, PartialEq, Eq)]
+#[derive(Clone, Copy, Debug, PartialEq, Eq, Drop, Error)]
 pub enum PlaErr {
     /// The first fault, with the number of its line from 1 on. A fault of the whole text has the number of the last
     /// line that is read: that of `.e` or `.end`, else that of the last line of the text, 0 where there is none.
+    #[error("line {line}: {what}")]
     At { line: u32, what: PlaFault },
     /// Memory is wanting.
+    #[error("want of memory")]
     Memory,
 }
 
