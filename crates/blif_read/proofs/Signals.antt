@@ -9,7 +9,7 @@ use Rattle.blif_read.specs.Words.{is_among}
 use Rattle.ae_net.specs.Named.{place_of}
 use Rattle.blif_read.specs.Says.{some_unknown}
 use Rattle.blif_read.specs.Build.{signal_in}
-use Rattle.blif_read.specs.Reads.{texts}
+use Rattle.ae_lex.specs.Slices.{texts}
 
 -- one word that has no signal
 pub one_unknown : (known : List (List ℕ)) (words : List (Bor (List ℕ))) (i : ℕ) (d : Bor (List ℕ)) → i < length words → signal_in known (get_or words i d).now ≡ None → some_unknown known (texts words) ≡ true

@@ -7,7 +7,7 @@ use Rattle.std.proofs.lemmas.List.Folds.{list_all_at, concat-append}
 use Rattle.blif_read.specs.Statement.{gate_name, pin_names}
 use Rattle.blif_read.specs.declared.fault.NetLimits.{NetLimits}
 use Rattle.blif_read.specs.Words.{is_name_under}
-use Rattle.blif_read.specs.Reads.{texts}
+use Rattle.ae_lex.specs.Slices.{texts}
 
 -- the last word is no name
 pub last_is_no_name : (limits : NetLimits) (ws : List (List ℕ)) → 0 < length ws → is_name_under limits (gate_name ws) ≡ false → list_all (is_name_under limits) ws ≡ false

@@ -7,6 +7,5 @@ pub mod Says
 pub mod Gives
 pub mod Limits
 pub mod Step
-pub mod Reads
 pub mod Build
 pub mod Names

@@ -10,8 +10,8 @@ use Rattle.blif_read.specs.declared.fault.BlifErr.{BlifErr}
 use Rattle.blif_read.specs.declared.fault.BlifErr.TheVariants as errors
 use Rattle.blif_read.specs.declared.seen.OpenCover.{OpenCover}
 use Rattle.blif_read.specs.declared.seen.Seen.{Seen}
-use Rattle.blif_read.specs.declared.line_err.LineErr.{LineErr}
-use Rattle.blif_read.specs.declared.line_err.LineErr.TheVariants as line
+use Rattle.ae_lex.specs.declared.line_err.LineErr.{LineErr}
+use Rattle.ae_lex.specs.declared.line_err.LineErr.TheVariants as line
 use Rattle.blif_read.specs.Words.{is_name_under}
 use Rattle.blif_read.specs.Statement.{Said, said, gate_name, row_end, is_row}
 use Rattle.blif_read.specs.Statement.Said.{Model, Inputs, Outputs, Names, End, Unsupported, Unknown, Row}
@@ -87,13 +87,13 @@ with_line b Unknown = b
 with_line b (Row r) = record b { cover = option_map (with_row_end r) b.cover }
 
 -- a fault is answered, or none is there; want of memory says nothing
-abbrev pub GivesFault : {X : Type 0} → Option BlifFault → Result X LineErr → Type 0
+abbrev pub GivesFault : {X : Type 0} → Option BlifFault → Result X (LineErr BlifFault) → Type 0
 GivesFault found (Ok x) = found ≡ None
 GivesFault found (Err (line.Fault f)) = found ≡ Some f
 GivesFault found (Err line.Memory) = Unit {0}
 
 -- a line is read, or its first fault is answered
-abbrev pub Takes : {X : Type 0} → Option BlifFault → Seen → Result X LineErr → Seen → Type 0
+abbrev pub Takes : {X : Type 0} → Option BlifFault → Seen → Result X (LineErr BlifFault) → Seen → Type 0
 Takes found next (Ok x) new = (found ≡ None) × (new ≡ next)
 Takes found next (Err (line.Fault f)) new = found ≡ Some f
 Takes found next (Err line.Memory) new = Unit {0}

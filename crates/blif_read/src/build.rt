@@ -6,14 +6,13 @@ ghost use Rattle.ae_lex.specs.Words.{cut_line};
 ghost use Rattle.blif_read.specs.Statement as statement;
 ghost use Rattle.blif_read.specs.Says as says;
 ghost use Rattle.blif_read.specs.Build as spec;
-ghost use Rattle.blif_read.specs.Reads.{texts};
+ghost use Rattle.ae_lex.specs.Slices.{texts};
 
 use crate::draft::Draft;
 use crate::head::Head;
-use crate::read::words_of;
 use crate::statement::{head_of, joined, row_end};
 use ae_base::{Cube, Mask, Memory, Name, PINS, Seq};
-use ae_lex::Line;
+use ae_lex::{Line, words_of};
 use ae_net::{Gate, Pins};
 use std::alloc::Global;
 

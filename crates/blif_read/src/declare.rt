@@ -3,13 +3,13 @@ ghost use Rattle.std.specs.Prelude.{◌≡◌, ◌++◌, ◌∷◌, [], OnOk};
 ghost use Rattle.blif_read.specs.Statement.{gate_name};
 ghost use Rattle.blif_read.specs.Faults as faults;
 ghost use Rattle.blif_read.specs.Step.{GivesFault};
-ghost use Rattle.blif_read.specs.Reads.{texts};
+ghost use Rattle.ae_lex.specs.Slices.{texts};
 
 use crate::fault::{BlifFault, NetLimits};
-use crate::line_err::LineErr;
 use crate::statement::{are_names, most_lines, read_name};
 use crate::table::NameTable;
 use ae_base::{GATES, PINS};
+use ae_lex::LineErr;
 use std::alloc::Global;
 
 /// Declares an input.
@@ -20,7 +20,7 @@ fn add_input(
     driven: &NameTable,
     inputs: &mut NameTable,
     word: &[u8],
-) -> Result<(), LineErr>
+) -> Result<(), LineErr<BlifFault>>
     ensures fault { GivesFault (faults.input_fault limits outputs.now driven.now inputs.old word.now) result }
     ensures inputs { OnOk result (inputs.new ≡ inputs.old ++ word.now ∷ []) }
 {
@@ -51,7 +51,7 @@ pub fn add_inputs(
     driven: &NameTable,
     inputs: &mut NameTable,
     words: &[&[u8]],
-) -> Result<(), LineErr>
+) -> Result<(), LineErr<BlifFault>>
     ensures fault { GivesFault (faults.word_fault (faults.input_fault limits outputs.now driven.now) inputs.old (texts words.now)) result }
     ensures inputs { OnOk result (inputs.new ≡ inputs.old ++ texts words.now) }
 {
@@ -68,7 +68,7 @@ fn add_output(
     inputs: &NameTable,
     outputs: &mut NameTable,
     word: &[u8],
-) -> Result<(), LineErr>
+) -> Result<(), LineErr<BlifFault>>
     ensures fault { GivesFault (faults.output_fault limits inputs.now outputs.old word.now) result }
     ensures outputs { OnOk result (outputs.new ≡ outputs.old ++ word.now ∷ []) }
 {
@@ -95,7 +95,7 @@ pub fn add_outputs(
     inputs: &NameTable,
     outputs: &mut NameTable,
     words: &[&[u8]],
-) -> Result<(), LineErr>
+) -> Result<(), LineErr<BlifFault>>
     ensures fault { GivesFault (faults.word_fault (faults.output_fault limits inputs.now) outputs.old (texts words.now)) result }
     ensures outputs { OnOk result (outputs.new ≡ outputs.old ++ texts words.now) }
 {
@@ -113,7 +113,7 @@ pub fn add_gate(
     inputs: &NameTable,
     driven: &mut NameTable,
     words: &[&[u8]],
-) -> Result<(), LineErr>
+) -> Result<(), LineErr<BlifFault>>
     ensures fault { GivesFault (faults.names_fault limits inputs.now driven.old (texts words.now)) result }
     ensures driven { OnOk result (driven.new ≡ driven.old ++ gate_name (texts words.now) ∷ []) }
 {

@@ -6,15 +6,14 @@ ghost use Rattle.ae_lex.specs.Words.{cut_line};
 ghost use Rattle.blif_read.specs.Statement as statement;
 ghost use Rattle.blif_read.specs.Step.{IsFaultAt};
 ghost use Rattle.blif_read.specs.Build as spec;
-ghost use Rattle.blif_read.specs.Reads.{texts};
+ghost use Rattle.ae_lex.specs.Slices.{texts};
 
 use crate::fault::{BlifErr, BlifFault};
 use crate::head::Head;
-use crate::read::words_of;
 use crate::statement::head_of;
 use crate::table::NameTable;
 use ae_base::{Memory, Name, Seq};
-use ae_lex::Line;
+use ae_lex::{Line, words_of};
 use std::alloc::Global;
 
 /// A gate before all are placed: the place of its `.names` among the lines, and the signals of its pins in file order.

@@ -7,7 +7,6 @@ mod draft;
 mod fault;
 mod head;
 mod laws;
-mod line_err;
 mod net;
 mod order;
 mod read;

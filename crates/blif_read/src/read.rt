@@ -2,32 +2,18 @@
 ghost use Rattle.std.specs.Prelude.{◌≡◌, ◌≤◌, [], length, map, All, IfOk};
 ghost use Rattle.ae_lex.specs.Lines.{IsInside, lines_of};
 ghost use Rattle.ae_lex.specs.declared.text.Style.TheVariants.{Blif};
-ghost use Rattle.ae_lex.specs.Words.{cut, cut_line};
+ghost use Rattle.ae_lex.specs.Words.{cut_line};
 ghost use Rattle.blif_read.specs.Step.{seen_by, TakesLine, Reads};
 ghost use Rattle.blif_read.specs.Says.{blif_says};
 ghost use Rattle.blif_read.specs.Gives.{Gives};
-ghost use Rattle.blif_read.specs.Reads.{texts};
 
 use crate::fault::{BlifErr, NetLimits};
-use crate::line_err::LineErr;
 use crate::net::net_said;
 use crate::seen::Seen;
-use ae_base::{Memory, TEXT_BYTES};
-use ae_lex::{Line, LineList, Style, lines};
+use ae_base::TEXT_BYTES;
+use ae_lex::{Line, LineErr, LineList, Style, lines, words_of};
 use ae_net::Net;
 use std::alloc::Global;
-
-/// The words of a line.
-pub fn words_of<'a>(alloc: Global, bytes: &'a [u8], line: &Line) -> Result<Vec<&'a [u8]>, Memory>
-    requires { All (IsInside bytes.now) line.now.words }
-    ensures { IfOk result (λ words. texts words.items ≡ map (cut bytes.now) line.now.words) }
-{
-    let mut words = Vec::new(alloc);
-    for span in line.words.as_slice() {
-        words.push(&bytes[span.start as usize..span.end as usize])?;
-    }
-    Ok(words)
-}
 
 /// Reads one more line.
 fn read_line(

@@ -3,15 +3,15 @@ ghost use Rattle.std.specs.Prelude.{◌≡◌, ℕ, List, []};
 ghost use Rattle.blif_read.specs.Statement as statement;
 ghost use Rattle.blif_read.specs.Faults.{fault_after_end};
 ghost use Rattle.blif_read.specs.Step.{seen_by, fault_in, line_fault_in, with_line, Takes};
-ghost use Rattle.blif_read.specs.Reads.{texts};
+ghost use Rattle.ae_lex.specs.Slices.{texts};
 
 use crate::declare::{add_gate, add_inputs, add_outputs};
 use crate::fault::{BlifFault, NetLimits};
 use crate::head::Head;
-use crate::line_err::LineErr;
 use crate::statement::{head_of, is_row, joined, read_name, row_end};
 use crate::table::NameTable;
 use ae_base::Name;
+use ae_lex::LineErr;
 use std::alloc::Global;
 
 /// Of the cover that is open: the number of its pins, and the last character of its first row.
@@ -55,7 +55,7 @@ impl Seen {
         alloc: Global,
         limits: NetLimits,
         words: &[&[u8]],
-    ) -> Result<(), LineErr>
+    ) -> Result<(), LineErr<BlifFault>>
         ensures { Takes (fault_in limits self.old (statement.Said.Model (texts words.now))) (with_line self.old (statement.Said.Model (texts words.now))) result self.new }
     {
         if self.has_model {
@@ -80,7 +80,7 @@ impl Seen {
         alloc: Global,
         limits: NetLimits,
         words: &[&[u8]],
-    ) -> Result<(), LineErr>
+    ) -> Result<(), LineErr<BlifFault>>
         ensures { Takes (fault_in limits self.old (statement.Said.Inputs (texts words.now))) (with_line self.old (statement.Said.Inputs (texts words.now))) result self.new }
     {
         add_inputs(
@@ -100,7 +100,7 @@ impl Seen {
         alloc: Global,
         limits: NetLimits,
         words: &[&[u8]],
-    ) -> Result<(), LineErr>
+    ) -> Result<(), LineErr<BlifFault>>
         ensures { Takes (fault_in limits self.old (statement.Said.Outputs (texts words.now))) (with_line self.old (statement.Said.Outputs (texts words.now))) result self.new }
     {
         add_outputs(alloc, limits, &self.inputs, &mut self.outputs, words)?;
@@ -113,7 +113,7 @@ impl Seen {
         alloc: Global,
         limits: NetLimits,
         words: &[&[u8]],
-    ) -> Result<(), LineErr>
+    ) -> Result<(), LineErr<BlifFault>>
         ensures { Takes (fault_in limits self.old (statement.Said.Names (texts words.now))) (with_line self.old (statement.Said.Names (texts words.now))) result self.new }
     {
         add_gate(alloc, limits, &self.inputs, &mut self.driven, words)?;
@@ -124,7 +124,7 @@ impl Seen {
         Ok(())
     }
 
-    fn read_row(&mut self, chars: &[u8]) -> Result<(), LineErr>
+    fn read_row(&mut self, chars: &[u8]) -> Result<(), LineErr<BlifFault>>
         ensures { (limits : NetLimits) → Takes (fault_in limits self.old (statement.Said.Row chars.now)) (with_line self.old (statement.Said.Row chars.now)) result self.new }
     {
         let Some(cover) = self.cover else {
@@ -145,7 +145,7 @@ impl Seen {
         Ok(())
     }
 
-    fn read_after_end(&mut self, head: Head) -> Result<(), LineErr>
+    fn read_after_end(&mut self, head: Head) -> Result<(), LineErr<BlifFault>>
         ensures { (first : List ℕ) (words : List (List ℕ)) → Takes (fault_after_end (statement.said_by head first words)) (with_line self.old (statement.said_by head first words)) result self.new }
     {
         match head {
@@ -166,7 +166,7 @@ impl Seen {
         head: Head,
         first: &[u8],
         words: &[&[u8]],
-    ) -> Result<(), LineErr>
+    ) -> Result<(), LineErr<BlifFault>>
         ensures { Takes (fault_in limits self.old (statement.said_by head first.now (texts words.now))) (with_line self.old (statement.said_by head first.now (texts words.now))) result self.new }
     {
         match head {
@@ -196,7 +196,7 @@ impl Seen {
         head: Head,
         first: &[u8],
         words: &[&[u8]],
-    ) -> Result<(), LineErr>
+    ) -> Result<(), LineErr<BlifFault>>
         ensures { Takes (line_fault_in limits self.old (statement.said_by head first.now (texts words.now))) (with_line self.old (statement.said_by head first.now (texts words.now))) result self.new }
     {
         if self.ended {
@@ -207,7 +207,12 @@ impl Seen {
     }
 
     /// Reads one more line. After a fault nothing is to be read from the value.
-    pub fn read(&mut self, alloc: Global, limits: NetLimits, words: &[&[u8]]) -> Result<(), LineErr>
+    pub fn read(
+        &mut self,
+        alloc: Global,
+        limits: NetLimits,
+        words: &[&[u8]],
+    ) -> Result<(), LineErr<BlifFault>>
         ensures { Takes (line_fault_in limits self.old (statement.said (texts words.now))) (with_line self.old (statement.said (texts words.now))) result self.new }
     {
         match words {

@@ -4,7 +4,7 @@ ghost use Rattle.std.specs.List.{list_all, concat};
 ghost use Rattle.ae_base.specs.Name.{is_source_name};
 ghost use Rattle.blif_read.specs.Words as words;
 ghost use Rattle.blif_read.specs.Statement as spec;
-ghost use Rattle.blif_read.specs.Reads.{texts};
+ghost use Rattle.ae_lex.specs.Slices.{texts};
 
 use crate::fault::NetLimits;
 use crate::head::Head;

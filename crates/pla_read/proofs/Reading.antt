@@ -8,8 +8,8 @@ use Rattle.ae_lex.specs.declared.text.Line.{Line}
 use Rattle.pla_read.specs.Words.{Word}
 use Rattle.pla_read.specs.Pla.{Seen, ends, last_read, faults, first_fault, seen}
 use Rattle.pla_read.specs.Step.{read_of, words_of, Takes}
-use Rattle.pla_read.specs.declared.fault.LineErr.{LineErr}
-use Rattle.pla_read.specs.declared.fault.LineErr.TheVariants as err
+use Rattle.ae_lex.specs.declared.line_err.LineErr.{LineErr}
+use Rattle.ae_lex.specs.declared.line_err.LineErr.TheVariants as err
 use Rattle.pla_read.specs.declared.fault.PlaFault.{PlaFault}
 
 -- the words of the first k lines, and the other lines
@@ -52,5 +52,5 @@ pub at_fault : (last : ℕ) (all : List WordLine) (done : List (List Word)) (lin
 at_fault last all done line left f at goes e = sym at.fault ∙ ap (first_fault done) (read_more line left goes) ∙ rw e refl
 
 -- the fault that is answered is the first of the line's
-pub fault_is : (conditions : List (Bool × PlaFault)) (next new : Seen) (e : LineErr) (f : PlaFault) → e ≡ err.Fault f → Takes {X = Unit {0}} conditions next (Err e) new → first_of conditions ≡ Some f
-fault_is conditions next new e f is h = let at : Takes {X = Unit {0}} conditions next (Err (err.Fault f)) new = subst (λ (e : LineErr). Takes {X = Unit {0}} conditions next (Err e) new) is h in at
+pub fault_is : (conditions : List (Bool × PlaFault)) (next new : Seen) (e : LineErr PlaFault) (f : PlaFault) → e ≡ err.Fault f → Takes {X = Unit {0}} conditions next (Err e) new → first_of conditions ≡ Some f
+fault_is conditions next new e f is h = let at : Takes {X = Unit {0}} conditions next (Err (err.Fault f)) new = subst (λ (e : LineErr PlaFault). Takes {X = Unit {0}} conditions next (Err e) new) is h in at

@@ -1,20 +1,15 @@
 -- For private contracts alone: what reading one more line does.
 use Rattle.std.specs.Prelude.{◌≡◌, ℕ, Bool, if◌then◌else◌, List, [], ◌∷◌, ◌++◌, map, drop, codes, Some, None, Result, Ok, Err, unwrap_or}
 use Rattle.std.specs.List.{before_first}
-use Rattle.std.specs.Borrow.{Bor}
 use Rattle.ae_lex.specs.First.{first_of}
 use Rattle.ae_lex.specs.Words.{WordLine}
 use Rattle.pla_read.specs.Words.{Word, heads, is_row, number, kind, joined, row_of}
 use Rattle.pla_read.specs.Pla.{Seen, first_fault, ends, last_read, seen}
 use Rattle.pla_read.specs.declared.fault.PlaFault.{PlaFault}
-use Rattle.pla_read.specs.declared.fault.LineErr.{LineErr}
-use Rattle.pla_read.specs.declared.fault.LineErr.TheVariants as line
+use Rattle.ae_lex.specs.declared.line_err.LineErr.{LineErr}
+use Rattle.ae_lex.specs.declared.line_err.LineErr.TheVariants as line
 use Rattle.pla_read.specs.declared.fault.PlaErr.{PlaErr}
 use Rattle.pla_read.specs.declared.fault.PlaErr.TheVariants as errors
-
--- the words of a line, as slices
-abbrev pub texts : List (Bor Word) → List Word
-texts words = map (λ w. w.now) words
 
 -- what is seen with one more row of these characters
 abbrev pub with_row : Seen → List ℕ → Seen
@@ -32,7 +27,7 @@ with_line seen line =
     else if is_row line then with_row seen (joined line) else seen
 
 -- a line is read whose faults are these, or its first fault is answered
-abbrev pub Takes : {X : Type 0} → List (Bool × PlaFault) → Seen → Result X LineErr → Seen → Type 0
+abbrev pub Takes : {X : Type 0} → List (Bool × PlaFault) → Seen → Result X (LineErr PlaFault) → Seen → Type 0
 Takes faults next (Ok u) new = (first_of faults ≡ None) × (new ≡ next)
 Takes faults next (Err (line.Fault fault)) new = first_of faults ≡ Some fault
 Takes faults next (Err line.Memory) new = Unit {0}

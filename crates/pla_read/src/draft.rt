@@ -1,15 +1,17 @@
 //! The cover so far: what the lines that were read say.
 ghost use Rattle.std.specs.Prelude.{◌≡◌, [], ◌∷◌, length, not, codes, ◌==◌, slice_index};
+ghost use Rattle.ae_lex.specs.Slices.{texts};
 ghost use Rattle.pla_read.specs.Pla as spec;
-ghost use Rattle.pla_read.specs.Step.{texts, with_line, with_row, Takes};
+ghost use Rattle.pla_read.specs.Step.{with_line, with_row, Takes};
 
-use crate::fault::{LineErr, PlaFault};
+use crate::fault::PlaFault;
 use crate::words::{
     are_inputs, are_outputs, has_twins, is_unsupported, join, read_kind, read_names, read_number,
     row_of,
 };
 use ae_base::{Name, SOURCE_LINES, Seq};
 use ae_cover::{Kind, PLA_ROWS, Row};
+use ae_lex::LineErr;
 use std::alloc::Global;
 use std::marker::Model;
 
@@ -59,7 +61,7 @@ impl Draft {
 
     /// The number of inputs.
     #[tactic(auto, unfolding(crate::specs::Pla::faults, crate::specs::Step::with_line))]
-    fn read_inputs(&mut self, words: &[&[u8]]) -> Result<(), LineErr>
+    fn read_inputs(&mut self, words: &[&[u8]]) -> Result<(), LineErr<PlaFault>>
         ensures { Takes (spec.faults self.old (codes ".i" ∷ texts words.now)) (with_line self.old (codes ".i" ∷ texts words.now)) result self.new }
     {
         if self.inputs.is_some() || self.has_rows() {
@@ -77,7 +79,7 @@ impl Draft {
 
     /// The number of outputs.
     #[tactic(auto, unfolding(crate::specs::Pla::faults, crate::specs::Step::with_line))]
-    fn read_outputs(&mut self, words: &[&[u8]]) -> Result<(), LineErr>
+    fn read_outputs(&mut self, words: &[&[u8]]) -> Result<(), LineErr<PlaFault>>
         ensures { Takes (spec.faults self.old (codes ".o" ∷ texts words.now)) (with_line self.old (codes ".o" ∷ texts words.now)) result self.new }
     {
         if self.outputs.is_some() || self.has_rows() {
@@ -95,7 +97,7 @@ impl Draft {
 
     /// The kind.
     #[tactic(auto, unfolding(crate::specs::Pla::faults, crate::specs::Step::with_line))]
-    fn read_kind(&mut self, words: &[&[u8]]) -> Result<(), LineErr>
+    fn read_kind(&mut self, words: &[&[u8]]) -> Result<(), LineErr<PlaFault>>
         ensures { Takes (spec.faults self.old (codes ".type" ∷ texts words.now)) (with_line self.old (codes ".type" ∷ texts words.now)) result self.new }
     {
         if self.kind.is_some() || self.has_rows() {
@@ -110,7 +112,7 @@ impl Draft {
 
     /// The names of the inputs.
     #[tactic(auto, unfolding(crate::specs::Pla::faults, crate::specs::Step::with_line))]
-    fn read_input_names(&mut self, alloc: Global, words: &[&[u8]]) -> Result<(), LineErr>
+    fn read_input_names(&mut self, alloc: Global, words: &[&[u8]]) -> Result<(), LineErr<PlaFault>>
         ensures { Takes (spec.faults self.old (codes ".ilb" ∷ texts words.now)) (with_line self.old (codes ".ilb" ∷ texts words.now)) result self.new }
     {
         if self.input_names.is_some() || self.has_rows() {
@@ -131,7 +133,7 @@ impl Draft {
 
     /// The names of the outputs.
     #[tactic(auto, unfolding(crate::specs::Pla::faults, crate::specs::Step::with_line))]
-    fn read_output_names(&mut self, alloc: Global, words: &[&[u8]]) -> Result<(), LineErr>
+    fn read_output_names(&mut self, alloc: Global, words: &[&[u8]]) -> Result<(), LineErr<PlaFault>>
         ensures { Takes (spec.faults self.old (codes ".ob" ∷ texts words.now)) (with_line self.old (codes ".ob" ∷ texts words.now)) result self.new }
     {
         if self.output_names.is_some() || self.has_rows() {
@@ -151,7 +153,7 @@ impl Draft {
     }
 
     /// The characters of a row.
-    fn read_row(&mut self, alloc: Global, chars: &[u8]) -> Result<(), LineErr>
+    fn read_row(&mut self, alloc: Global, chars: &[u8]) -> Result<(), LineErr<PlaFault>>
         ensures { Takes (spec.row_faults self.old chars.now) (with_row self.old chars.now) result self.new }
     {
         let Some(n) = self.inputs else {
@@ -176,7 +178,7 @@ impl Draft {
 
     /// Reads the words of one more line. After an error the draft is of no further use.
     #[tactic(auto, unfolding(crate::specs::Pla::faults, crate::specs::Step::with_line))]
-    pub fn read(&mut self, alloc: Global, words: &[&[u8]]) -> Result<(), LineErr>
+    pub fn read(&mut self, alloc: Global, words: &[&[u8]]) -> Result<(), LineErr<PlaFault>>
         ensures { Takes (spec.faults self.old (texts words.now)) (with_line self.old (texts words.now)) result self.new }
     {
         match words {
@@ -190,7 +192,12 @@ impl Draft {
 
     /// A header and the words after it.
     #[tactic(auto, unfolding(crate::specs::Pla::faults, crate::specs::Step::with_line))]
-    fn read_header(&mut self, alloc: Global, header: &[u8], args: &[&[u8]]) -> Result<(), LineErr>
+    fn read_header(
+        &mut self,
+        alloc: Global,
+        header: &[u8],
+        args: &[&[u8]],
+    ) -> Result<(), LineErr<PlaFault>>
         requires { slice_index header.now 0 ≡ 46 }
         ensures { Takes (spec.faults self.old (header.now ∷ texts args.now)) (with_line self.old (header.now ∷ texts args.now)) result self.new }
     {

@@ -90,21 +90,3 @@ impl From<Memory> for PlaErr {
         PlaErr::Memory
     }
 }
-
-/// Why a line is not read.
-#[derive(Clone, Copy, Debug, PartialEq, Eq)]
-pub enum LineErr {
-    Fault(PlaFault),
-    Memory,
-}
-
-impl From<Memory> for LineErr {
-    ghost use Rattle.std.specs.Prelude.{◌≡◌};
-    ghost use Rattle.pla_read.specs.declared.fault.LineErr.TheVariants.{Memory};
-
-    ghost from_gives = { λ _ e. e ≡ Memory };
-
-    fn from(_want: Memory) -> LineErr {
-        LineErr::Memory
-    }
-}

@@ -2,33 +2,21 @@
 ghost use Rattle.std.specs.Prelude.{◌≡◌, ◌≤◌, length, map, All, IfOk};
 ghost use Rattle.ae_lex.specs.First.{first_of};
 ghost use Rattle.ae_lex.specs.Lines.{IsInside};
-ghost use Rattle.ae_lex.specs.Words.{cut, cut_line};
+ghost use Rattle.ae_lex.specs.Words.{cut_line};
 ghost use Rattle.ae_cover.specs.Clash.{has_clash};
 ghost use Rattle.ae_cover.specs.Cover.{IsCover};
 ghost use Rattle.pla_read.specs.Pla as spec;
 ghost use Rattle.pla_read.specs.Reads.{Gives};
-ghost use Rattle.pla_read.specs.Step.{texts, Reads};
+ghost use Rattle.pla_read.specs.Step.{Reads};
 
 use crate::draft::Draft;
-use crate::fault::{LineErr, PlaErr, PlaFault};
+use crate::fault::{PlaErr, PlaFault};
 use crate::names::names_or;
 use crate::words::{is_end, share};
-use ae_base::{Memory, TEXT_BYTES};
+use ae_base::TEXT_BYTES;
 use ae_cover::{Cover, Kind, clash_laws};
-use ae_lex::{Line, Style, lines, words_law};
+use ae_lex::{Line, LineErr, Style, lines, words_law, words_of};
 use std::alloc::Global;
-
-/// The words of a line.
-fn words_of<'a>(alloc: Global, bytes: &'a [u8], line: &Line) -> Result<Vec<&'a [u8]>, Memory>
-    requires { All (IsInside bytes.now) line.now.words }
-    ensures { IfOk result (λ words. texts words.items ≡ map (cut bytes.now) line.now.words) }
-{
-    let mut words = Vec::new(alloc);
-    for span in line.words.as_slice() {
-        words.push(&bytes[span.start as usize..span.end as usize])?;
-    }
-    Ok(words)
-}
 
 /// Reads the lines of a text with so many lines up to an end. It answers what they say, and the number of the last line
 /// that was read.

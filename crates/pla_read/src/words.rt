@@ -4,8 +4,8 @@ ghost use Rattle.std.specs.List.{list_any, list_all};
 ghost use Rattle.std.specs.Str.{bytes_eq};
 ghost use Rattle.ae_base.specs.Name.{is_source_name};
 ghost use Rattle.ae_cover.specs.Cover.{IsRow};
+ghost use Rattle.ae_lex.specs.Slices.{texts};
 ghost use Rattle.pla_read.specs.Words as spec;
-ghost use Rattle.pla_read.specs.Step.{texts};
 
 use ae_base::{Cube, Mask, Memory, Name, SOURCE_LINES, SOURCE_NAME_BYTES, Seq};
 use ae_cover::{Kind, Mark, Row};

@@ -1,6 +1,6 @@
 use Rattle.std.proofs.Common.{◌≡◌, ◌++◌, take, drop}
 use Rattle.blif_read.specs.Faults as faults
-use Rattle.blif_read.specs.Reads.{texts}
+use Rattle.ae_lex.specs.Slices.{texts}
 use Rattle.blif_read.proofs.declare.add_outputs.Given as goal
 
 abbrev pub invariant-loop-word : goal.invariant-loop-word

@@ -1,7 +1,7 @@
 use Rattle.std.proofs.Common.{◌≡◌, ◌++◌, false, map, take}
 use Rattle.ae_net.specs.Named.{place_of}
 use Rattle.blif_read.specs.Says.{some_unknown}
-use Rattle.blif_read.specs.Reads.{texts}
+use Rattle.ae_lex.specs.Slices.{texts}
 use Rattle.blif_read.proofs.draft.signals_of.Given as goal
 
 abbrev pub invariant-loop-word : goal.invariant-loop-word

@@ -1,6 +1,6 @@
 use Rattle.std.proofs.Common.{◌≡◌, ◌++◌, take}
 use Rattle.std.specs.List.{concat}
-use Rattle.blif_read.specs.Reads.{texts}
+use Rattle.ae_lex.specs.Slices.{texts}
 use Rattle.blif_read.proofs.statement.joined.Given as goal
 
 abbrev pub invariant-loop-word : goal.invariant-loop-word

@@ -4,7 +4,8 @@ use Rattle.ae_lex.specs.Words.{cut_line}
 use Rattle.pla_read.specs.declared.fault.PlaFault.{PlaFault}
 use Rattle.pla_read.specs.Words.{is_end}
 use Rattle.pla_read.specs.Pla.{Seen, seen, ends, faults}
-use Rattle.pla_read.specs.Step.{texts, with_line}
+use Rattle.ae_lex.specs.Slices.{texts}
+use Rattle.pla_read.specs.Step.{with_line}
 use Rattle.pla_read.proofs.Steps.{seen_push}
 use Rattle.pla_read.proofs.Reading.{before, rest, before_more, rest_more, IsAt, at_fault, fault_is, at_more}
 use Rattle.pla_read.proofs.read.read_lines.Goals as goal

@@ -4,7 +4,7 @@ use Rattle.std.proofs.lemmas.List.Folds.{list_all-map, list_all_at}
 use Rattle.std.proofs.lemmas.List.Sums.{AllPass-from_list_all}
 use Rattle.std.specs.Borrow.{Bor}
 use Rattle.ae_base.specs.Name.{is_source_name}
-use Rattle.pla_read.specs.Step.{texts}
+use Rattle.ae_lex.specs.Slices.{texts}
 use Rattle.pla_read.proofs.Rows.{none_is}
 use Rattle.pla_read.proofs.words.each_name.Goals as goal
 

@@ -2,7 +2,7 @@ use Rattle.std.proofs.Common.{◌≡◌, ℕ, List, ◌∷◌, subst, ◌∙◌}
 use Rattle.std.specs.List.{concat}
 use Rattle.blif_read.specs.Statement.Said.{Row}
 use Rattle.blif_read.specs.Step.{fault_in, with_line, Takes}
-use Rattle.blif_read.specs.Reads.{texts}
+use Rattle.ae_lex.specs.Slices.{texts}
 use Rattle.blif_read.proofs.seen.Seen.read_before_end.Goals as goal
 
 pub returns-in_ok-chars-in-Row : goal.returns-in_ok-chars-in-Row

@@ -1,7 +1,7 @@
 use Rattle.std.proofs.Common.{◌≡◌, map, take}
+use Rattle.ae_lex.specs.Slices.{texts}
 use Rattle.ae_lex.specs.Words.{cut}
-use Rattle.blif_read.specs.Reads.{texts}
-use Rattle.blif_read.proofs.read.words_of.Given as goal
+use Rattle.ae_lex.proofs.slices.words_of.Given as goal
 
 abbrev pub invariant-loop-span : goal.invariant-loop-span
 invariant-loop-span l = texts l.words.items ≡ map (cut l.bytes) (take l.span-index l.line.words)
