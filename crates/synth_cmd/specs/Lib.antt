@@ -4,5 +4,6 @@ pub mod Headline
 pub mod Lines
 pub mod Outcome
 pub mod Outside
+pub mod Stops
 pub mod Telling
 pub mod Words

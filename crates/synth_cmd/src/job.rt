@@ -3,41 +3,18 @@ ghost use Rattle.std.specs.Prelude.{◌≡◌, ◌⊎◌, ℕ, List, [], ◌∷�
 ghost use Rattle.ae_outside.specs.Counts.{CountsAt, RoseAt};
 ghost use Rattle.ae_outside.specs.Files.{written, IsWrittenInPart};
 ghost use Rattle.synth_core.specs.Made.{texts_of};
-ghost use Rattle.synth_cmd.specs.declared.job.SourceErr.TheVariants as source_err;
-ghost use Rattle.synth_cmd.specs.declared.job.Stop.TheVariants as stop;
+ghost use Rattle.synth_cmd.specs.declared.stop.SourceErr.TheVariants as source_err;
+ghost use Rattle.synth_cmd.specs.declared.stop.Stop.TheVariants as stop;
 ghost use Rattle.synth_cmd.specs.Outcome.{Cause, HoldsText, IsMadeOf};
 ghost use Rattle.synth_cmd.specs.Outside.{CountsAmong};
 ghost use Rattle.synth_cmd.specs.Telling.{StopsMade, WritesMade};
 
+use crate::stop::{SourceErr, Stop, TextsErr};
 use crate::tell::Refusal;
 use ae_base::TEXT_BYTES;
-use ae_outside::{Files, ReadErr, WriteErr, read_whole, write_whole};
+use ae_outside::{Files, WriteErr, read_whole, write_whole};
 use std::alloc::Global;
-use synth_core::{Made, Settings, SynthErr, TextFault, synthesise};
-
-/// Why a source gives no network.
-#[derive(Clone, Copy, Debug, PartialEq, Eq)]
-pub enum SourceErr {
-    Refused(Refusal),
-    Memory,
-}
-
-/// Why texts are not written whole.
-#[derive(Clone, Copy, Debug, PartialEq, Eq)]
-pub enum TextsErr {
-    NetFault,
-    VectorsFault,
-    Memory,
-}
-
-/// Why a synthesis stops.
-#[derive(Clone, Copy, Debug, PartialEq, Eq)]
-pub enum Stop {
-    Refused(Refusal),
-    NetFault,
-    VectorsFault,
-    Memory,
-}
+use synth_core::{Made, Settings, synthesise};
 
 /// Reads the source.
 fn read_source<F: Files>(alloc: Global, files: &mut F, source: &str) -> Result<Vec<u8>, SourceErr>
@@ -47,12 +24,7 @@ fn read_source<F: Files>(alloc: Global, files: &mut F, source: &str) -> Result<V
     ensures reads { CountsAt source.now (F.read_faults files.old) (F.read_faults files.new) }
     ensures writes { F.write_faults files.new ≡ F.write_faults files.old }
 {
-    match read_whole(alloc, files, source, TEXT_BYTES as u64) {
-        Ok(bytes) => Ok(bytes),
-        Err(ReadErr::Fault) => Err(SourceErr::Refused(Refusal::ReadFault)),
-        Err(ReadErr::TooLong) => Err(SourceErr::Refused(Refusal::TooLong)),
-        Err(ReadErr::Memory) => Err(SourceErr::Memory),
-    }
+    Ok(read_whole(alloc, files, source, TEXT_BYTES as u64)?)
 }
 
 /// Reads the source and synthesises it.
@@ -69,21 +41,8 @@ fn make<F: Files>(
     ensures reads { CountsAt source.now (F.read_faults files.old) (F.read_faults files.new) }
     ensures writes { F.write_faults files.new ≡ F.write_faults files.old }
 {
-    let bytes = match read_source(alloc, files, source) {
-        Ok(bytes) => bytes,
-        Err(err) => return Err(err),
-    };
-    match synthesise(alloc, &bytes, settings) {
-        Ok(made) => Ok(made),
-        Err(SynthErr::Pla { line, what }) => {
-            let what = TextFault::Pla(what);
-            Err(SourceErr::Refused(Refusal::Text { line, what }))
-        }
-        Err(SynthErr::TooManyTerms { output }) => {
-            Err(SourceErr::Refused(Refusal::TooManyTerms { output }))
-        }
-        Err(SynthErr::Memory) => Err(SourceErr::Memory),
-    }
+    let bytes = read_source(alloc, files, source)?;
+    Ok(synthesise(alloc, &bytes, settings)?)
 }
 
 /// Writes the network's text, and then that of the vectors.
@@ -140,15 +99,7 @@ pub fn synthesise_files<F: Files>(
     ensures reads { CountsAt source.now (F.read_faults files.old) (F.read_faults files.new) }
     ensures writes { CountsAmong (net.now ∷ vectors.now ∷ []) (F.write_faults files.old) (F.write_faults files.new) }
 {
-    let made = match make(alloc, files, settings, source) {
-        Ok(made) => made,
-        Err(SourceErr::Refused(refusal)) => return Err(Stop::Refused(refusal)),
-        Err(SourceErr::Memory) => return Err(Stop::Memory),
-    };
-    match write_texts(files, net, vectors, &made) {
-        Ok(()) => Ok(made),
-        Err(TextsErr::NetFault) => Err(Stop::NetFault),
-        Err(TextsErr::VectorsFault) => Err(Stop::VectorsFault),
-        Err(TextsErr::Memory) => Err(Stop::Memory),
-    }
+    let made = make(alloc, files, settings, source)?;
+    write_texts(files, net, vectors, &made)?;
+    Ok(made)
 }

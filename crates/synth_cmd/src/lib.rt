@@ -5,6 +5,7 @@ mod job;
 mod laws;
 mod lines;
 mod report;
+mod stop;
 mod tell;
 mod top;
 mod words;

@@ -5,7 +5,8 @@ ghost use Rattle.synth_cmd.specs.Headline.{HasHeadline, Holds, Tested};
 ghost use Rattle.synth_cmd.specs.Outcome.{Ending, Ends, HoldsText, SynthEnds, WordsEnd};
 ghost use Rattle.synth_cmd.specs.Outside.{CountsAmong, outside};
 
-use crate::job::{Stop, synthesise_files};
+use crate::job::synthesise_files;
+use crate::stop::Stop;
 use crate::tell::{finish, refuse, tell, tell_write_fault, want_memory};
 use crate::words::{Command, FileNames, read_command};
 use crate::{DONE, WORDS};

@@ -1,15 +1,15 @@
-use Rattle.std.proofs.Common.{◌≡◌, ap, subst, Err}
-use Rattle.synth_core.specs.Asked.{HasTooMany}
-use Rattle.synth_cmd.specs.declared.tell.Refusal.TheVariants.{TooManyTerms}
-use Rattle.synth_cmd.specs.Outcome.{Cause, HoldsText}
+use Rattle.std.proofs.Common.{ap, sym, Err, subst}
+use Rattle.synth_cmd.specs.Outcome.{HoldsText}
+use Rattle.synth_cmd.specs.Stops.{of_synth}
+use Rattle.synth_cmd.specs.declared.stop.SourceErr.TheVariants as source_err
+use Rattle.synth_cmd.proofs.Stopped.{answered, synth_cause}
 use Rattle.synth_cmd.proofs.job.make.Goals as goal
 
-pub returns-in-Err-TooManyTerms-clause-refused : goal.returns-in-Err-TooManyTerms-clause-refused
-returns-in-Err-TooManyTerms-clause-refused g c r is =
-    let output = c.in-Err-TooManyTerms.output in
-    let same : TooManyTerms output ≡ r = cc in
-    subst (Cause c.args.settings.now (HoldsText (g.F.Files.held c.args.files.now) c.args.source.now) (g.F.Files.held c.args.files.now) (g.F.Files.read_faults c.args.files.now) (g.F.Files.read_faults c.read_source.new.files) c.args.source.now) same (
-      c.in-Ok.bytes.items,
-      c.in-Ok.ensures.held,
-      subst (λ bytes. HasTooMany c.args.settings.now bytes output) c.deref.ensures.value (c.in-Err-TooManyTerms.ensures.too_many output (ap Err c.in-Err-TooManyTerms.field-0-is)),
-    )
+pub returns-in_err-synthesise-clause-refused : goal.returns-in_err-synthesise-clause-refused
+returns-in_err-synthesise-clause-refused g c r is =
+    let from = c.from_residual-in_err-synthesise in
+    let was = subst (HoldsText (g.F.Files.held c.args.files.now) c.args.source.now) (sym c.deref.ensures.value) c.in_ok-bytes.ensures.held in
+    synth_cause c.args.settings.now _ _ _ _ _ c.deref.result.now _ r was
+    (λ line what e. c.in_err-synthesise.ensures.refused line what (ap Err e))
+    (λ output e. c.in_err-synthesise.ensures.too_many output (ap Err e))
+    (answered from.result of_synth _ (source_err.Refused r) from.ensures.1 is)
