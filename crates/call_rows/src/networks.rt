@@ -3,8 +3,8 @@
 use crate::given::{Table, are_names, cover_of, is_gate, names_of, net_of, set};
 use ae_base::{Memory, Name};
 use ae_net::{
-    Fault, Gate, Net, Pins, Place, and_gate, answer, buffer, exor, faults, inverter, is_place,
-    lead, letter_name, numbered_name, scratch_for,
+    Fault, Gate, Net, Pins, Place, and_gate, answer, buffer, exor, fault_count, faults, inverter,
+    is_place, lead, letter_name, numbered_name, scratch_for,
 };
 use blif_read::BlifErr;
 use pla_read::PlaErr;
@@ -125,7 +125,8 @@ fn tells_places(net: &Net) -> bool {
 fn lists_faults(alloc: Global) -> Result<bool, BlifErr> {
     let net = net_of(alloc, CASCADE)?;
     let found = faults(alloc, &net)?;
-    Ok(found.as_slice() == FAULTS.as_slice() && tells_places(&net))
+    let count = fault_count(alloc, &net)?;
+    Ok(found.as_slice() == FAULTS.as_slice() && count == 20 && tells_places(&net))
 }
 
 #[test]
