@@ -159,9 +159,6 @@ pair_least rows limit i j on off on_row off_row = pair_by rows limit i j on off 
 
 -- ---- a row for OFF
 
-pub no_pair : (rows : List Row) (start limit j : ℕ) → IsLeastIn rows (InRow start (start + 0) limit j) None
-no_pair rows start limit j = λ d g r. let h = r.0 in absurd (omega (arith, h.0, h.1))
-
 -- no row of the block has One where the row for OFF has Zero
 pub none_shared : (rows : List Row) (start limit j : ℕ) (ones : List Set) (any at_zero : Set) → ((k : ℕ) → k < length ones → get_or ones k 0 ≡ ones_at rows limit (start + k))
     → ((k o : ℕ) → k < length ones → has (get_or ones k 0) o ≡ true → has any o ≡ true) → ((off : Row) → slice_get rows j ≡ Some off → at_zero ≡ marked is_zero limit off) → len (both any at_zero) ≡ 0
@@ -206,9 +203,6 @@ one_more rows start limit k j best found with_one with_zero on off on_row off_ro
 abbrev pub InRows : ℕ → ℕ → ℕ → ℕ → Clash → Type 0
 InRows start stop limit n c = InBlock start stop limit c × (c.off_row < n)
 
-pub no_row : (rows : List Row) (start stop limit : ℕ) → IsLeastIn rows (InRows start stop limit 0) None
-no_row rows start stop limit = λ d g r. absurd (omega (arith, r.1))
-
 pub row_more : (rows : List Row) (start stop limit n : ℕ) (best found : Option Clash) → IsLeastIn rows (InRow start stop limit n) found → IsLeastIn rows (InRows start stop limit n) best → IsLeastIn rows (InRows start stop limit (n + 1)) (lesser best found)
 row_more rows start stop limit n best found f b =
     joined rows (InRows start stop limit n) (InRow start stop limit n) (InRows start stop limit (n + 1)) best found b f
@@ -231,9 +225,6 @@ all_rows rows start stop limit r l =
 pub record IsBest (m : ℕ) (rows : List Row) (start limit : ℕ) (best : Option Clash) : Type 0 where
   pub least_so_far : IsLeastIn rows (InBlock 0 start m) best
   pub limit_is : limit ≡ option_map_or (λ c. c.output) best m
-
-pub nothing_yet : (m : ℕ) (rows : List Row) → IsBest m rows 0 m None
-nothing_yet m rows = record { least_so_far = λ d g r. absurd (omega (arith, r.1)); limit_is = refl }
 
 -- a block has a clash below the limit
 pub block_found : (m : ℕ) (rows : List Row) (start stop limit : ℕ) (best : Option Clash) (c : Clash) → start ≤ stop → limit ≤ m → IsBest m rows start limit best → IsLeastIn rows (InBlock start stop limit) (Some c) → IsBest m rows stop c.output (Some c)

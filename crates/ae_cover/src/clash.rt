@@ -175,7 +175,7 @@ fn keep_ones(rows: &[Row], start: usize, limit: u32, kept: &mut [Mask])
     }
 }
 
-/// The least clash of the rows for ON of a block.
+/// The least clash of the rows for ON of a block. There are as many of them as masks in `kept`, which are written over.
 fn of_block(rows: &[Row], start: usize, limit: u32, kept: &mut [Mask]) -> Option<Clash>
     requires few { length rows.now ≤ PLA_ROWS }
     requires block { start + length kept.old ≤ length rows.now }
@@ -193,6 +193,7 @@ fn of_block(rows: &[Row], start: usize, limit: u32, kept: &mut [Mask]) -> Option
     best
 }
 
+/// The least clash, found block after block. Once there is one, later rows for ON matter only at outputs below it.
 fn least_clash(outputs: u32, rows: &[Row]) -> Option<Clash>
     requires marks { All (λ row. length row.outs ≡ outputs) rows.now }
     requires few { length rows.now ≤ PLA_ROWS }
