@@ -201,22 +201,15 @@ impl Draft {
         requires { slice_index header.now 0 ≡ 46 }
         ensures { Takes (spec.faults self.old (header.now ∷ texts args.now)) (with_line self.old (header.now ∷ texts args.now)) result self.new }
     {
-        if header == b".i".as_slice() {
-            self.read_inputs(args)
-        } else if header == b".o".as_slice() {
-            self.read_outputs(args)
-        } else if header == b".ilb".as_slice() {
-            self.read_input_names(alloc, args)
-        } else if header == b".ob".as_slice() {
-            self.read_output_names(alloc, args)
-        } else if header == b".type".as_slice() {
-            self.read_kind(args)
-        } else if header == b".p".as_slice() {
-            Ok(())
-        } else if is_unsupported(header) {
-            Err(LineErr::Fault(PlaFault::Unsupported))
-        } else {
-            Err(LineErr::Fault(PlaFault::Unknown))
+        match header {
+            b".i" => self.read_inputs(args),
+            b".o" => self.read_outputs(args),
+            b".ilb" => self.read_input_names(alloc, args),
+            b".ob" => self.read_output_names(alloc, args),
+            b".type" => self.read_kind(args),
+            b".p" => Ok(()),
+            _ if is_unsupported(header) => Err(LineErr::Fault(PlaFault::Unsupported)),
+            _ => Err(LineErr::Fault(PlaFault::Unknown)),
         }
     }
 }

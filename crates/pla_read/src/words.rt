@@ -31,7 +31,7 @@ pub fn is_end(words: &[&[u8]]) -> bool
     ensures { result ≡ spec.is_end (texts words.now) }
 {
     match words {
-        [word, ..] => *word == b".e".as_slice() || *word == b".end".as_slice(),
+        [b".e", ..] | [b".end", ..] => true,
         _ => false,
     }
 }
@@ -89,16 +89,12 @@ pub fn read_kind(words: &[&[u8]]) -> Option<Kind>
 fn kind_of(word: &[u8]) -> Option<Kind>
     ensures { result ≡ spec.kind_at word.now }
 {
-    if word == b"f".as_slice() {
-        Some(Kind::F)
-    } else if word == b"fd".as_slice() {
-        Some(Kind::Fd)
-    } else if word == b"fr".as_slice() {
-        Some(Kind::Fr)
-    } else if word == b"fdr".as_slice() {
-        Some(Kind::Fdr)
-    } else {
-        None
+    match word {
+        b"f" => Some(Kind::F),
+        b"fd" => Some(Kind::Fd),
+        b"fr" => Some(Kind::Fr),
+        b"fdr" => Some(Kind::Fdr),
+        _ => None,
     }
 }
 
