@@ -3,9 +3,9 @@
 use crate::given::{
     Function, Table, are_gates, are_names, are_sets, cover_of, expansion_of, names_of, set,
 };
-use ae_base::Memory;
+use ae_base::{Memory, push_new};
 use ae_net::Net;
-use cascade::{first_vectors, literals_high, push_new, reddy};
+use cascade::{first_vectors, literals_high, reddy};
 use pla_read::PlaErr;
 use std::alloc::Global;
 use std::test::Fail;

@@ -1,6 +1,6 @@
 -- Steps of the loops that build the network.
-use Rattle.std.proofs.Common.{◌≡◌, ℕ, zero, suc, ◌+◌, ◌-◌, ◌<◌, ◌≤◌, Bool, true, cond, inl, inr, List, [], ◌∷◌, ◌++◌, length, map, get_or, drop, refl, sym, ap, ◌∙◌, arith, append-nil, append_assoc, length-append}
-use Rattle.std.specs.Prelude.{filter, All, slice_index}
+use Rattle.std.proofs.Common.{◌≡◌, ℕ, zero, suc, ◌+◌, ◌<◌, ◌≤◌, Bool, true, cond, inl, inr, List, [], ◌∷◌, ◌++◌, length, map, get_or, drop, refl, sym, ap, ◌∙◌, arith, append-nil, append_assoc, length-append}
+use Rattle.std.specs.Prelude.{filter, All}
 use Rattle.std.specs.List.{range_with_len}
 use Rattle.std.specs.Fmt.{decimal}
 use Rattle.std.proofs.lemmas.Bool.{cases_Bool}
@@ -29,8 +29,7 @@ use Rattle.ae_net.specs.declared.net.Gate.{Gate}
 use Rattle.cascade.specs.Reddy.{gates_for, place_of}
 use Rattle.ae_base.specs.declared.limits.TheConstants.{NET_LINES, PINS, GATES}
 use Rattle.cascade.specs.declared.limits.TheConstants.{REDDY_TERMS}
-use Rattle.ae_base.specs.Mask.{Set, has, first, inside, members}
-pub use Rattle.ae_base.proofs.Members.{members-filter as members_below_n}
+use Rattle.ae_base.specs.Mask.{Set, first, inside, members}
 use Rattle.ae_base.proofs.Written.{range_more}
 use Rattle.ae_net.specs.Names.{inner}
 
@@ -60,23 +59,6 @@ place_found xs x i l e h =
 
 pub place_on : (xs : List ℕ) (x i : ℕ) → i < length xs → (get_or xs i x ≡ x → ⊥) → place_of xs x ≡ i + place_of (drop i xs) x → place_of xs x ≡ i + 1 + place_of (drop (i + 1) xs) x
 place_on xs x i l ne h = omega (arith, h, place_more xs x i l ne)
-
-kept_append : (p : ℕ → Bool) (a m n : ℕ) → filter p (range_with_len a (m + n)) ≡ filter p (range_with_len a m) ++ filter p (range_with_len (a + m) n)
-kept_append p a zero n = let z : 0 + n ≡ n = omega arith in let y : a + 0 ≡ a = omega arith in rw (z, y) refl
-kept_append p a (suc m) n =
-    let z : suc m + n ≡ suc (m + n) = omega arith in let y : a + suc m ≡ a + 1 + m = omega arith in
-    rw (z, y) (elim (cases_Bool (p a)) [ inl e ↦ rw e (ap (λ l. a ∷ l) (kept_append p (a + 1) m n)) | inr e ↦ rw e (kept_append p (a + 1) m n) ])
-
-pub first_found : (n j : ℕ) (t : Set) → inside t (first n) ≡ true → j < n → filter (has t) (range_with_len 0 j) ≡ [] → has t j ≡ true → j ≡ slice_index (members t) 0
-first_found n j t below l none here =
-    let z : n ≡ j + suc (n - j - 1) = omega arith in
-    let y : 0 + j ≡ j = omega arith in
-    let whole : members t ≡ j ∷ filter (has t) (range_with_len (j + 1) (n - j - 1)) =
-    members_below_n n t below ∙ ap (λ m. filter (has t) (range_with_len 0 m)) z ∙ kept_append (has t) 0 j (suc (n - j - 1)) ∙ rw (none, y, here) refl in
-    sym (ap (λ (ms : List ℕ). slice_index ms 0) whole)
-
-pub first_none : (n : ℕ) (t : Set) → inside t (first n) ≡ true → filter (has t) (range_with_len 0 n) ≡ [] → 0 ≡ slice_index (members t) 0
-first_none n t below none = sym (ap (λ ms. slice_index ms 0) (members_below_n n t below ∙ none))
 
 pub few_pins : (n : ℕ) (t : Set) (f : ℕ → ℕ) → inside t (first n) ≡ true → n ≤ NET_LINES → length (map f (members t)) ≤ PINS
 few_pins n t f below few = omega (arith, length-map (members t) f, length-members n t below)

@@ -12,4 +12,4 @@ mod vectors;
 pub use build::reddy;
 pub use laws::reddy_law;
 pub use limits::REDDY_TERMS;
-pub use vectors::{first_vectors, literals_high, push_new};
+pub use vectors::{first_vectors, literals_high};

@@ -16,27 +16,14 @@ use ae_net::{Gate, Pins, and_gate, buffer, exor, inverter, letter_name, numbered
 use expansion::Expansion;
 use std::alloc::Global;
 
-/// Adds the literal of the input, where the term holds it.
-fn push_literal(plan: &Plan, e: &Expansion, t: Term, j: u32, pins: &mut Pins) -> Result<(), Memory>
-    requires { IsPlan plan.now e.now }
-    ensures { OnOk result (pins.new ≡ (if has t j then pins.old ++ spec.literal_signal e.now j ∷ [] else pins.old)) }
-{
-    if t.has(j) {
-        pins.push(literal_signal(plan, e, j))?;
-    }
-    Ok(())
-}
-
 /// The signals of the literals of a term.
-#[tactic(auto, using(crate::proofs::CodeLemmas::map_kept_more, crate::proofs::CodeLemmas::members_below_n))]
 fn pins_of(alloc: Global, plan: &Plan, e: &Expansion, t: Term) -> Result<Pins, Memory>
-    requires plan { IsPlan plan.now e.now }
-    requires below { inside t (first e.now.polarity.n) ≡ true }
+    requires { IsPlan plan.now e.now }
     ensures { IfOk result (λ pins. pins ≡ map (spec.literal_signal e.now) (members t)) }
 {
     let mut pins = Pins::new(alloc);
-    for j in 0..e.inputs() {
-        push_literal(plan, e, t, j, &mut pins)?;
+    for j in t.members() {
+        pins.push(literal_signal(plan, e, j))?;
     }
     Ok(pins)
 }

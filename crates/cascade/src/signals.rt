@@ -62,18 +62,12 @@ pub fn literal_signal(plan: &Plan, e: &Expansion, j: u32) -> u32
     }
 }
 
-/// The first member of a term over n inputs, or 0.
-#[tactic(auto, using(crate::proofs::CodeLemmas::filter_range_more, crate::proofs::CodeLemmas::first_found, crate::proofs::CodeLemmas::first_none))]
-fn first_member(t: Term, n: u32) -> u32
-    requires { inside t (first n) ≡ true }
+/// The first member of a term, or 0.
+#[tactic(auto, unfolding(ae_base::specs::Mask::least))]
+fn first_member(t: Term) -> u32
     ensures { result ≡ slice_index (members t) 0 }
 {
-    for j in 0..n {
-        if t.has(j) {
-            return j;
-        }
-    }
-    0
+    t.least().unwrap_or(0)
 }
 
 /// Whether the term has two or more members.
@@ -93,7 +87,7 @@ pub fn term_signal(plan: &Plan, e: &Expansion, t: Term) -> u32
     if is_wide(t) {
         e.inputs() + 1 + (plan.ands + place_of_term(&plan.wide, t) as u32)
     } else {
-        literal_signal(plan, e, first_member(t, e.inputs()))
+        literal_signal(plan, e, first_member(t))
     }
 }
 

@@ -4,7 +4,7 @@ ghost use Rattle.std.specs.List.{list_any};
 ghost use Rattle.expansion.specs.Terms.{used_inputs};
 ghost use Rattle.cascade.specs.FirstVectors as spec;
 
-use ae_base::{Mask, Memory, Point};
+use ae_base::{Memory, Point, push_new};
 use expansion::{Expansion, used_inputs};
 use std::alloc::Global;
 
@@ -22,23 +22,6 @@ fn literals_low(e: &Expansion) -> Point
     ensures { result ≡ spec.literals_at e.now.polarity (used_inputs e.now) false }
 {
     used_inputs(e).xor(literals_high(e))
-}
-
-/// Whether the list has the vector.
-fn is_listed(list: &[Point], vector: Point) -> bool
-    ensures { result ≡ list_any (λ x. x == vector) list.now }
-{
-    list.iter().any(|x| *x == vector)
-}
-
-/// Adds a vector at the end, where the list has it not yet.
-pub fn push_new(list: &mut Vec<Point>, vector: Point) -> Result<(), Memory>
-    ensures { OnOk result (list.new.items ≡ (if list_any (λ x. x == vector) list.old.items then list.old.items else list.old.items ++ vector ∷ [])) }
-{
-    if !is_listed(list.as_slice(), vector) {
-        list.push(vector)?;
-    }
-    Ok(())
 }
 
 /// The first four vectors of the Reddy form, of which one that is equal to an earlier one is left out: control 0 and all literals 0,

@@ -11,8 +11,7 @@ ghost use Rattle.input_tests.specs.Whole.{cascade_tests, new_ones, vector_bound}
 
 use crate::laws::input_law;
 use crate::vectors::input_vectors;
-use ae_base::{Memory, Point, WIDTH};
-use cascade::push_new;
+use ae_base::{Memory, Point, WIDTH, push_new};
 use expansion::Expansion;
 use std::alloc::Global;
 use universal_tests::universal;

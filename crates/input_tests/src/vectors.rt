@@ -19,8 +19,8 @@ ghost use Rattle.input_tests.specs.Whole.{new_ones};
 ghost use Rattle.universal_tests.specs.Universal.{universal_vectors};
 
 use crate::laws::input_law;
-use ae_base::{Mask, Memory, Point, Term};
-use cascade::{literals_high, push_new};
+use ae_base::{Mask, Memory, Point, Term, push_new};
+use cascade::literals_high;
 use expansion::{Expansion, used_inputs};
 use std::alloc::Global;
 

@@ -16,8 +16,8 @@ ghost use Rattle.universal_tests.specs.Sites.{DetectsAllBut};
 ghost use Rattle.universal_tests.specs.Universal as spec;
 
 use crate::laws::universal_law;
-use ae_base::{Mask, Memory, Point};
-use cascade::{first_vectors, literals_high, push_new};
+use ae_base::{Mask, Memory, Point, push_new};
+use cascade::{first_vectors, literals_high};
 use expansion::{Expansion, used_inputs};
 use std::alloc::Global;
 
