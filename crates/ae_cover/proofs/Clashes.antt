@@ -1,25 +1,21 @@
 -- The first clash is a clash, and none is before it.
-use Rattle.std.proofs.Common.{◌≡◌, ℕ, zero, suc, ◌<◌, ◌⊎◌, Bool, true, false, ◌&&◌, cond, List, length, get_or, Option, Some, None, refl, sym, ap, ap₂, subst, ◌∙◌, inl, inr, eqb, eq-eqb, eqb-true, lt-ltb, arith}
+use Rattle.std.proofs.Common.{◌≡◌, ℕ, zero, suc, ◌<◌, ◌⊎◌, Bool, true, false, ◌&&◌, cond, List, length, get_or, Option, Some, None, refl, sym, ap, ap₂, subst, ◌∙◌, inl, inr, arith}
 use Rattle.std.specs.Prelude.{slice_get, is_some, zip, All}
 use Rattle.std.specs.List.{list_any}
 use Rattle.std.specs.Option.{option_or, option_map_or}
-use Rattle.std.proofs.lemmas.Bool.{and_from, and_parts, cases_eq, cases_Bool, false≢true, or_cases as bool_or_cases, or_from, or_left, or_right}
+use Rattle.std.proofs.lemmas.Bool.{and_from, and_parts, cases_eq, false≢true}
 use Rattle.std.proofs.lemmas.Option.{cond_some, slice_get_within, get_or_from_slice_get, slice_get_read}
 use Rattle.std.proofs.lemmas.List.Folds.{Any-from_list_any, list_any_at}
 use Rattle.std.proofs.lemmas.Slice.Zip.{get_or-zip, length-zip}
 use Rattle.std.proofs.lemmas.List.Elements.{All-get_or}
-use Rattle.ae_base.specs.Mask.{Set, has, len, both, either, first}
-use Rattle.ae_base.specs.Cube.{Product, IsProduct, holds}
-use Rattle.ae_base.specs.Terms.{IsPoint}
-use Rattle.ae_base.proofs.Sets.{has-both, has-either, has-inside, has-first}
-use Rattle.ae_base.proofs.Members.{len-zero, len-none}
-use Rattle.ae_base.proofs.Products.{holds-has, has-holds}
+use Rattle.ae_base.specs.Cube.{meet}
+use Rattle.ae_base.proofs.Meets.{common, left_holds, right_holds, common_is_point, meets}
 use Rattle.ae_cover.specs.declared.parts.Mark.{Mark}
 use Rattle.ae_cover.specs.declared.parts.Mark.TheVariants.{One, Zero, Dash, Void}
 use Rattle.ae_cover.specs.declared.parts.Row.{Row}
 use Rattle.ae_cover.specs.declared.parts.Clash.{Clash}
 use Rattle.ae_cover.specs.Cover.{Table, IsRow, IsCover, is_one, is_zero, has_mark}
-use Rattle.ae_cover.specs.Clash.{IsClash, zero_is_off, meet, disagree, has_clash}
+use Rattle.ae_cover.specs.Clash.{IsClash, zero_is_off, disagree, has_clash}
 use Rattle.ae_cover.specs.LeastClash.{Disagree}
 use Rattle.ae_cover.specs.FirstClash.{IsBefore, first_below, clash, clash_of, clash_at, least_clash, first_clash}
 
@@ -64,65 +60,6 @@ first_answer (suc n) f x e =
 mapped : {X Y : Type 0} (g : X → Option Y) (o : Option X) (y : Y) → option_map_or g o None ≡ Some y → (x : X) × (o ≡ Some x) × (g x ≡ Some y)
 mapped g None y e = absurd cc
 mapped g (Some x) y e = (x, refl, e)
-
--- ---- a common point of two cubes
-
-no_left : (a b : Bool) → (a && b) ≡ false → b ≡ true → a ≡ false
-no_left true b h e = absurd (false≢true (sym h ∙ e))
-no_left false b h e = refl
-
-no_right : (a b : Bool) → (a && b) ≡ false → a ≡ true → b ≡ false
-no_right true b h e = h
-no_right false b h e = absurd (false≢true e)
-
-none_both : (a b : Bool) → (a ≡ true → b ≡ true → ⊥) → (a && b) ≡ false
-none_both true true h = absurd (h refl refl)
-none_both true false h = refl
-none_both false b h = refl
-
--- an input with a complemented literal has no plain one
-not_plain : (c : Product) (j : ℕ) → IsProduct c → has c.neg j ≡ true → has c.pos j ≡ false
-not_plain c j p h = elim (cases_Bool (has c.pos j)) [ inl e ↦ absurd (false≢true (sym (p j e) ∙ h)) | inr e ↦ e ]
-
--- the point at which the inputs with a plain literal in one of the two are 1, and no others
-pub common : Product → Product → Set
-common c d = either c.pos d.pos
-
-pub left_holds : (c d : Product) → IsProduct c → meet c d ≡ true → holds c (common c d) ≡ true
-unfolding meet common
-left_holds c d p h =
-    let parts = and_parts (eqb (len (both c.pos d.neg)) 0) _ h in
-    let apart : (j : ℕ) → has (both c.neg d.pos) j ≡ false = len-zero (both c.neg d.pos) (eqb-true _ _ parts.1) in
-    has-holds c (common c d) (
-      λ j e. has-either c.pos d.pos j ∙ or_left _ _ e,
-      λ j e. has-either c.pos d.pos j ∙ or_from _ _ (not_plain c j p e) (no_right _ _ (sym (has-both c.neg d.pos j) ∙ apart j) e),
-    )
-
-pub right_holds : (c d : Product) → IsProduct d → meet c d ≡ true → holds d (common c d) ≡ true
-unfolding meet common
-right_holds c d p h =
-    let parts = and_parts (eqb (len (both c.pos d.neg)) 0) _ h in
-    let apart : (j : ℕ) → has (both c.pos d.neg) j ≡ false = len-zero (both c.pos d.neg) (eqb-true _ _ parts.0) in
-    has-holds d (common c d) (
-      λ j e. has-either c.pos d.pos j ∙ or_right _ _ e,
-      λ j e. has-either c.pos d.pos j ∙ or_from _ _ (no_left _ _ (sym (has-both c.pos d.neg j) ∙ apart j) e) (not_plain d j p e),
-    )
-
-pub common_is_point : (n : ℕ) (c d : Product) → ((j : ℕ) → has c.pos j ≡ true → j < n) → ((j : ℕ) → has d.pos j ≡ true → j < n) → IsPoint n (common c d)
-unfolding common
-common_is_point n c d hc hd =
-    has-inside (common c d) (first n) (λ j e.
-    has-first n j
-    ∙ lt-ltb j n (elim (bool_or_cases (has c.pos j) (has d.pos j) (sym (has-either c.pos d.pos j) ∙ e)) [ inl a ↦ hc j a | inr b ↦ hd j b ]))
-
-pub meets : (c d : Product) (x : Set) → holds c x ≡ true → holds d x ≡ true → meet c d ≡ true
-unfolding meet
-meets c d x hc hd =
-    let left = holds-has c x hc in
-    let right = holds-has d x hd in
-    and_from _ _
-    (eq-eqb _ _ (len-none (both c.pos d.neg) (λ j. has-both c.pos d.neg j ∙ none_both _ _ (λ a b. false≢true (sym (right.1 j b) ∙ left.0 j a)))))
-    (eq-eqb _ _ (len-none (both c.neg d.pos) (λ j. has-both c.neg d.pos j ∙ none_both _ _ (λ a b. false≢true (sym (left.1 j a) ∙ right.0 j b)))))
 
 -- ---- marks
 

@@ -2,27 +2,19 @@
 use Rattle.std.proofs.Common.{◌≡◌, ℕ, ◌+◌, ◌-◌, ◌<◌, ◌≤◌, ◌⊎◌, Bool, true, false, List, length, get_or, Option, Some, None, refl, sym, ap, subst, ◌∙◌, inl, inr, eqb, ltb, eq-eqb, eqb-true, lt-ltb, ltb-true, arith}
 use Rattle.std.specs.Prelude.{slice_get}
 use Rattle.std.specs.Option.{option_map_or}
-use Rattle.std.proofs.lemmas.Bool.{and_from, and_parts, cases_eq, cases_lt, cases_order, cond_both, false≢true, ne_eqb, or_cases, or_left, or_right}
+use Rattle.std.proofs.lemmas.Bool.{and_from, and_parts, cases_lt, cases_order, cond_both, false≢true, or_cases, or_left, or_right}
 use Rattle.std.proofs.lemmas.Option.{slice_get_within}
-use Rattle.ae_base.specs.Mask.{Set, has, empty, len, both, either, least as least_of}
-use Rattle.ae_base.proofs.Sets.{same_set, has-both, has-either, has-empty, has-where_below}
-use Rattle.ae_base.proofs.Members.{len-zero, len-none, least-is, least-empty}
+use Rattle.ae_base.specs.Mask.{Set, has, len, both, either, least as least_of}
+use Rattle.ae_base.proofs.Sets.{has-both, has-either, has-where_below}
+use Rattle.ae_base.proofs.Members.{len-zero, least-is, least-empty}
 use Rattle.ae_cover.specs.declared.parts.Mark.{Mark}
 use Rattle.ae_cover.specs.declared.parts.Row.{Row}
 use Rattle.ae_cover.specs.declared.parts.Clash.{Clash}
 use Rattle.ae_cover.specs.Cover.{has_mark, is_one, is_zero}
-use Rattle.ae_cover.specs.Clash.{meet}
+use Rattle.ae_base.specs.Cube.{meet}
 use Rattle.ae_cover.specs.FirstClash.{IsBefore, least_clash}
 use Rattle.ae_cover.specs.LeastClash.{Disagree, IsLeastIn, InBlock, InRow, marked, ones_at, at_output, of_pair, is_before, lesser}
 use Rattle.ae_cover.proofs.Clashes.{least, not_least, none_before}
-
--- a set is empty where it has no member
-pub empty_test : (s : Set) → eqb s empty ≡ eqb (len s) 0
-empty_test s =
-    elim (cases_eq s empty) [
-      | inl e ↦ eq-eqb s empty e ∙ sym (eq-eqb (len s) 0 (len-none s (λ k. ap (λ t. has t k) e ∙ has-empty k)))
-      | inr ne ↦ ne_eqb s empty ne ∙ sym (ne_eqb (len s) 0 (λ e. ne (same_set s empty (λ k. len-zero s e k ∙ sym (has-empty k)))))
-    ]
 
 -- ---- the order of clashes
 

@@ -1,8 +1,8 @@
 -- Clashes of a cover.
-use Rattle.std.specs.Prelude.{◌≡◌, ◌<◌, Bool, true, false, ◌&&◌, ◌==◌, length, slice_get, Some, zip}
+use Rattle.std.specs.Prelude.{◌≡◌, ◌<◌, Bool, true, false, ◌&&◌, length, slice_get, Some, zip}
 use Rattle.std.specs.List.{list_any}
-use Rattle.ae_base.specs.Mask.{Set, len, both}
-use Rattle.ae_base.specs.Cube.{Product, holds}
+use Rattle.ae_base.specs.Mask.{Set}
+use Rattle.ae_base.specs.Cube.{holds, meet}
 use Rattle.ae_base.specs.Terms.{IsPoint}
 use Rattle.ae_cover.specs.declared.parts.Kind.{Kind}
 use Rattle.ae_cover.specs.declared.parts.Kind.TheVariants.{F, Fd, Fr, Fdr}
@@ -34,10 +34,6 @@ pub record IsClash (t : Table) (c : Clash) : Type 0 where
   pub off_holds : holds off.cube point ≡ true
 
 -- ---- whether there is a clash
-
--- some point is in both cubes
-unfoldable pub meet : Product → Product → Bool
-meet c d = len (both c.pos d.neg) == 0 && len (both c.neg d.pos) == 0
 
 -- some point is in both rows, and for some output the one has One and the other Zero
 abbrev pub disagree : Row → Row → Bool

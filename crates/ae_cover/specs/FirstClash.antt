@@ -4,7 +4,8 @@ use Rattle.std.specs.Option.{option_or, option_map_or}
 use Rattle.ae_cover.specs.declared.parts.Row.{Row}
 use Rattle.ae_cover.specs.declared.parts.Clash.{Clash}
 use Rattle.ae_cover.specs.Cover.{Table, has_mark, is_one, is_zero}
-use Rattle.ae_cover.specs.Clash.{zero_is_off, meet}
+use Rattle.ae_base.specs.Cube.{meet}
+use Rattle.ae_cover.specs.Clash.{zero_is_off}
 
 -- by the output, then by the row with One, then by the row with Zero
 abbrev pub IsBefore : Clash → Clash → Type 0

@@ -7,7 +7,7 @@ use Rattle.ae_cover.specs.declared.parts.Mark.{Mark}
 use Rattle.ae_cover.specs.declared.parts.Row.{Row}
 use Rattle.ae_cover.specs.declared.parts.Clash.{Clash}
 use Rattle.ae_cover.specs.Cover.{has_mark, is_one, is_zero}
-use Rattle.ae_cover.specs.Clash.{meet}
+use Rattle.ae_base.specs.Cube.{meet}
 use Rattle.ae_cover.specs.FirstClash.{IsBefore}
 
 -- the row for ON and that for OFF disagree at the output

@@ -1,8 +1,6 @@
 //! The first clash.
 ghost use Rattle.std.specs.Prelude.{◌≡◌, ℕ, ◌+◌, ◌<◌, ◌≤◌, ◌^◌, ◌==◌, length, slice_get, slice_index, Some, All, true};
 ghost use Rattle.ae_base.specs.Mask as set;
-ghost use Rattle.ae_base.specs.Cube.{Product};
-ghost use Rattle.ae_cover.specs.Clash.{meet};
 ghost use Rattle.ae_cover.specs.FirstClash as spec;
 ghost use Rattle.ae_cover.specs.LeastClash.{IsLeastIn, InBlock, InRow, marked, ones_at, of_pair, is_before, lesser};
 ghost use Rattle.ae_cover.specs.Cover.{is_one, is_zero};
@@ -13,19 +11,6 @@ use ae_base::{Cube, Mask, WIDTH};
 
 /// So many rows for ON are compared with each row for OFF at a time: the marks of a row are read once for so many pairs.
 const BLOCK: usize = 256;
-
-fn is_empty(m: Mask) -> bool
-    ensures { result ≡ (set.len m == 0) }
-{
-    m == Mask::empty()
-}
-
-#[tactic(auto, unfolding(crate::specs::Clash::meet))]
-fn meet(c: Cube, d: Cube) -> bool
-    ensures { result ≡ meet c d }
-{
-    is_empty(c.pos.both(d.neg)) && is_empty(c.neg.both(d.pos))
-}
 
 fn is_one(mark: Mark) -> bool
     ensures { result ≡ is_one mark }
@@ -82,7 +67,7 @@ fn of_pair(ones: Mask, zeros: Mask, on: Cube, off: Cube, on_row: u32, off_row: u
     match ones.both(zeros).least() {
         None => None,
         Some(output) => {
-            if meet(on, off) {
+            if on.meets(off) {
                 Some(Clash {
                     output,
                     on_row,
@@ -143,7 +128,7 @@ fn of_row(
     requires zeros { (off : Row) → slice_get rows.now off_row ≡ Some off → zeros ≡ marked is_zero limit off }
     ensures { IsLeastIn rows.now (InRow start (start + length ones.now) limit off_row) result }
 {
-    if is_empty(any.both(zeros)) {
+    if any.both(zeros).is_empty() {
         return None;
     }
     let off = rows[off_row].cube;

@@ -3,7 +3,8 @@ use Rattle.std.proofs.Common.{◌≡◌, codes, refl}
 use Rattle.std.specs.Prelude.{Err}
 use Rattle.ae_lex.specs.Words.{word_lines, last_line}
 use Rattle.ae_base.specs.Mask.{len, members, both, with, empty}
-use Rattle.ae_cover.specs.Clash.{meet, has_clash}
+use Rattle.ae_base.specs.Cube.{meet}
+use Rattle.ae_cover.specs.Clash.{has_clash}
 use Rattle.pla_read.specs.declared.fault.PlaFault.TheVariants.{NoI, BadWidth, Clash}
 use Rattle.pla_read.specs.Words.{value, is_number, are_names, row_of}
 use Rattle.pla_read.specs.Pla.{seen, faults, table_of, pla_says}

@@ -29,5 +29,5 @@ returns c =
 
 pub returns-then-is_empty : goal.returns-then-is_empty
 returns-then-is_empty c =
-    let none : len (both c.args.any c.args.zeros) ≡ 0 = ap len (sym c.both.ensures) ∙ eqb-true (len c.both.result) 0 (sym c.is_empty.ensures ∙ c.if-is_empty.true) in
+    let none : len (both c.args.any c.args.zeros) ≡ 0 = ap len (sym c.both.ensures) ∙ eqb-true (len c.both.result) 0 (sym c.is_empty.ensures.len ∙ c.if-is_empty.true) in
     none_shared c.args.rows.now c.args.start c.args.limit c.args.off_row c.args.ones.now c.args.any c.args.zeros c.requires.ones c.requires.any c.requires.zeros none
