@@ -39,9 +39,6 @@ filter_range_more p k =
 
 -- ---- steps of the loops
 
-pub map_kept_more : {X : Type 0} (f : ℕ → X) (p : ℕ → Bool) (k : ℕ) → map f (filter p (range_with_len 0 (k + 1))) ≡ cond (p k) (map f (filter p (range_with_len 0 k)) ++ f k ∷ []) (map f (filter p (range_with_len 0 k)))
-map_kept_more f p k = ap (map f) (filter_range_more p k) ∙ elim (cases_Bool (p k)) [ inl e ↦ rw e (map-append f (filter p (range_with_len 0 k)) (k ∷ [])) | inr e ↦ rw e refl ]
-
 -- the gates of the elements that are left
 pub gates_for_more : (gate : ℕ → ℕ → Gate) (c : ℕ) (xs : List ℕ) (i : ℕ) (now all : List Gate) → i < length xs → now ++ gates_for gate (c + i) (drop i xs) ≡ all → (now ++ gate (c + i) (get_or xs i 0) ∷ []) ++ gates_for gate (c + (i + 1)) (drop (i + 1) xs) ≡ all
 gates_for_more gate c xs i now all l h =

@@ -1,8 +1,6 @@
 //! The universal vectors of the Reddy form.
-ghost use Rattle.std.specs.Prelude.{◌≡◌, ◌<◌, ◌≤◌, ◌+◌, ◌==◌, ◌++◌, ◌∷◌, [], if◌then◌else◌, length, All, IfOk, OnOk};
-ghost use Rattle.std.specs.List.{list_any};
+ghost use Rattle.std.specs.Prelude.{◌≡◌, ◌<◌, ◌≤◌, ◌+◌, length, All, IfOk};
 ghost use Rattle.ae_base.specs.declared.limits.TheConstants.{WIDTH};
-ghost use Rattle.ae_base.specs.Mask.{empty, has, with, xor};
 ghost use Rattle.ae_base.specs.Source.{Source};
 ghost use Rattle.ae_base.specs.Terms.{IsPoint};
 ghost use Rattle.ae_net.specs.Valid.{IsDistinct};
@@ -20,17 +18,6 @@ use ae_base::{Mask, Memory, Point, push_new};
 use cascade::{first_vectors, literals_high};
 use expansion::{Expansion, used_inputs};
 use std::alloc::Global;
-
-/// Adds the vector that differs from this one at input j alone, where the input is used and the list has the vector not yet.
-fn push_turned(list: &mut Vec<Point>, used: Mask, high: Point, j: u32) -> Result<(), Memory>
-    requires { j < WIDTH }
-    ensures { OnOk result (let vector = xor high (with empty j) in list.new.items ≡ (if has used j then (if list_any (λ x. x == vector) list.old.items then list.old.items else list.old.items ++ vector ∷ []) else list.old.items)) }
-{
-    if used.has(j) {
-        push_new(list, high.xor(Mask::empty().with(j)))?;
-    }
-    Ok(())
-}
 
 /// The universal vectors of the Reddy form, each once: control 0 and all literals 0, control 0 and all literals 1, control 1 and all
 /// literals 0, control 1 and all literals 1, and then for each used input in order control 0, its literal 0 and all others 1. The control
@@ -56,8 +43,8 @@ pub fn universal(alloc: Global, e: &Expansion) -> Result<Vec<Point>, Memory>
     let used = used_inputs(e);
     let high = literals_high(e);
     let mut list = first_vectors(alloc, e)?;
-    for j in 0..e.inputs() {
-        push_turned(&mut list, used, high, j)?;
+    for j in used.members() {
+        push_new(&mut list, high.xor(Mask::empty().with(j)))?;
     }
     universal_law();
     Ok(list)
