@@ -12,7 +12,7 @@ use Rattle.std.proofs.Math.Bool.{or_assoc}
 use Rattle.ae_base.specs.Mask.{Set, differ, has, empty, with, first, inside, either, xor, members}
 use Rattle.ae_base.specs.Cube.{Signs}
 use Rattle.ae_base.specs.Terms.{IsPoint, exor_of}
-use Rattle.ae_base.proofs.Members.{members-filter, members-has}
+use Rattle.ae_base.proofs.Members.{members-has}
 use Rattle.ae_base.proofs.Sets.{has-xor, has-either, inside-below, inside-from, inside-above}
 use Rattle.ae_base.proofs.Truth.{differ-assoc, differ-false}
 use Rattle.ae_net.specs.Valid.{IsDistinct}
@@ -22,7 +22,6 @@ use Rattle.expansion.specs.Terms.{Terms, IsTerms, used_inputs}
 use Rattle.expansion.proofs.Even.{has-even}
 use Rattle.expansion.proofs.Lists.{odd_count}
 use Rattle.cascade.specs.FirstVectors.{literals_at, without_repeats}
-use Rattle.cascade.proofs.CodeLemmas.{filter_range_more}
 use Rattle.cascade.proofs.Found.{stands_inside}
 use Rattle.cascade.proofs.GatesValid.{each_member}
 use Rattle.cascade.proofs.Lists.{any_flat}
@@ -41,11 +40,11 @@ add_all xs (y ∷ ys) = ap without_repeats (sym (append_assoc xs (y ∷ []) ys))
 abbrev pub pair_of : Terms → ℕ → List Set
 pair_of e j = pair_at e.polarity (used_inputs e) j (first_term e j)
 
--- those of the even inputs below j
-unfoldable pub so_far : Terms → ℕ → List Set
-so_far e j = without_repeats (flat_map (pair_of e) (filter (has (even_inputs e)) (range_with_len 0 j)))
+-- those of these inputs, each once
+unfoldable pub so_far : Terms → List ℕ → List Set
+so_far e js = without_repeats (flat_map (pair_of e) js)
 
-pub none_so_far : (e : Terms) → [] ≡ so_far e 0
+pub none_so_far : (e : Terms) → [] ≡ so_far e []
 unfolding so_far
 none_so_far e = refl
 
@@ -53,22 +52,18 @@ flat_last : (f : ℕ → List Set) (xs : List ℕ) (y : ℕ) → flat_map f (xs 
 flat_last f [] y = append-nil (f y)
 flat_last f (x ∷ xs) y = ap (λ zs. f x ++ zs) (flat_last f xs y) ∙ sym (append_assoc (f x) (flat_map f xs) (f y))
 
-pub one_more : (e : Terms) (j : ℕ) (now new : List Set) → has (even_inputs e) j ≡ true → new ≡ all_added (pair_of e j) now → now ≡ so_far e j → new ≡ so_far e (j + 1)
+pub one_more : (e : Terms) (js : List ℕ) (j : ℕ) (now new : List Set) → new ≡ all_added (pair_of e j) now → now ≡ so_far e js → new ≡ so_far e (js ++ j ∷ [])
 unfolding so_far
-one_more e j now new even is so =
-    is ∙ ap (all_added (pair_of e j)) so ∙ sym (add_all (flat_map (pair_of e) (filter (has (even_inputs e)) (range_with_len 0 j))) (pair_of e j))
-    ∙ ap without_repeats (sym (flat_last (pair_of e) (filter (has (even_inputs e)) (range_with_len 0 j)) j) ∙ ap (flat_map (pair_of e)) (sym (filter_range_more (has (even_inputs e)) j ∙ rw even refl)))
-
-pub no_more : (e : Terms) (j : ℕ) → has (even_inputs e) j ≡ false → so_far e j ≡ so_far e (j + 1)
-unfolding so_far
-no_more e j odd = ap (λ js. without_repeats (flat_map (pair_of e) js)) (sym (filter_range_more (has (even_inputs e)) j ∙ rw odd refl))
+one_more e js j now new is so =
+    is ∙ ap (all_added (pair_of e j)) so ∙ sym (add_all (flat_map (pair_of e) js) (pair_of e j))
+    ∙ ap without_repeats (sym (flat_last (pair_of e) js j))
 
 pub even_below : (e : Terms) → inside (even_inputs e) (first e.polarity.n) ≡ true
 even_below e = inside-from e.polarity.n (even_inputs e) (λ k l. has-even e k ∙ rw (le-ltb k e.polarity.n l) refl)
 
-pub all_so_far : (e : Terms) → so_far e e.polarity.n ≡ input_vectors_of e
+pub all_so_far : (e : Terms) → so_far e (members (even_inputs e)) ≡ input_vectors_of e
 unfolding so_far input_vectors_of
-all_so_far e = ap (λ js. without_repeats (flat_map (pair_of e) js)) (sym (members-filter e.polarity.n (even_inputs e) (even_below e)))
+all_so_far e = refl
 
 pub pairs_distinct : (e : Terms) → IsDistinct (input_vectors_of e)
 unfolding input_vectors_of

@@ -10,7 +10,7 @@ ghost use Rattle.cascade.specs.FirstVectors.{literals_at};
 ghost use Rattle.cascade.specs.Reddy.{reddy_net};
 ghost use Rattle.cascade.specs.Shows.{CanBuild};
 ghost use Rattle.expansion.specs.Even.{is_odd, even_inputs};
-ghost use Rattle.expansion.specs.Terms.{used_inputs};
+ghost use Rattle.expansion.specs.Terms.{IsTerms, used_inputs};
 ghost use Rattle.input_tests.specs.Added.{all_added};
 ghost use Rattle.input_tests.specs.Complete.{DetectsAll};
 ghost use Rattle.input_tests.specs.Inputs as spec;
@@ -56,7 +56,8 @@ fn odd_in(terms: &[Term]) -> Mask
 
 /// The inputs that the expansion of some output holds an odd number of times.
 fn odd_inputs(e: &Expansion) -> Mask
-    ensures { (j : ℕ) → has result j ≡ is_odd e.now j }
+    ensures odd { (j : ℕ) → has result j ≡ is_odd e.now j }
+    ensures valid { IsTerms e.now }
 {
     let mut odd = Mask::empty();
     for terms in e.lists() {
@@ -67,7 +68,8 @@ fn odd_inputs(e: &Expansion) -> Mask
 
 /// The used inputs that no output's expansion holds an odd number of times.
 fn even_inputs(e: &Expansion) -> Mask
-    ensures { result ≡ even_inputs e.now }
+    ensures even { result ≡ even_inputs e.now }
+    ensures valid { IsTerms e.now }
 {
     let used = used_inputs(e);
     used.xor(used.both(odd_inputs(e)))
@@ -106,10 +108,8 @@ pub fn input_vectors(alloc: Global, e: &Expansion) -> Result<Vec<Point>, Memory>
     let even = even_inputs(e);
     let low = used_inputs(e).xor(literals_high(e));
     let mut list = Vec::new(alloc);
-    for j in 0..e.inputs() {
-        if even.has(j) {
-            push_pair(&mut list, e, low, j)?;
-        }
+    for j in even.members() {
+        push_pair(&mut list, e, low, j)?;
     }
     input_law();
     Ok(list)
