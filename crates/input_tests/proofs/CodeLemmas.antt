@@ -1,7 +1,7 @@
 -- The vectors of even inputs as the code adds them.
 use Rattle.std.proofs.Common.{◌≡◌, ℕ, suc, ◌+◌, ◌%◌, ◌<◌, ◌≤◌, Bool, true, false, ◌||◌, List, [], ◌∷◌, ◌++◌, length, get_or, drop, refl, sym, ap, ap₂, ◌∙◌, arith, eqb, ne_eqb, append-nil, append_assoc}
-use Rattle.std.specs.Prelude.{All, count_by, filter, Option, Some, None}
-use Rattle.std.specs.List.{find, flat_map, list_any, range_with_len, AllByRecursion}
+use Rattle.std.specs.Prelude.{All, count_by, Option, Some, None}
+use Rattle.std.specs.List.{find, flat_map, list_any, AllByRecursion}
 use Rattle.std.specs.Option.{option_or}
 use Rattle.std.proofs.Math.Seq.{drop-cons}
 use Rattle.std.proofs.lemmas.List.{drop_all}

@@ -1,7 +1,6 @@
 use Rattle.std.proofs.Common.{◌≡◌, [], ◌∷◌, ◌++◌, sym, ap, ◌∙◌, append-nil, append_assoc}
 use Rattle.ae_base.specs.Mask.{members}
 use Rattle.cascade.proofs.VectorLemmas.{all_low}
-use Rattle.expansion.specs.Even.{even_inputs}
 use Rattle.input_tests.specs.Inputs.{input_vectors_of}
 use Rattle.input_tests.specs.Whole.{cascade_tests}
 use Rattle.input_tests.proofs.Whole.{two_each}
