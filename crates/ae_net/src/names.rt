@@ -56,16 +56,6 @@ impl NetNames {
     }
 }
 
-/// The name of these bytes, which are one.
-#[tactic(auto, using(ae_base::proofs::Names::found_some, ae_base::proofs::Names::found_is))]
-fn name_of(alloc: Global, bytes: &[u8]) -> Result<Name, Memory>
-    requires { is_name bytes.now ≡ true }
-    ensures { IfOk result (λ name. name ≡ bytes.now) }
-{
-    let found = Name::from_bytes(alloc, bytes)?;
-    Ok(found.unwrap())
-}
-
 /// `k` underscores, and then a letter.
 #[tactic(auto, unfolding(crate::specs::Names::inner))]
 fn inner_bytes(alloc: Global, k: u32, letter: u8) -> Result<Vec<u8>, Memory>
@@ -84,7 +74,7 @@ pub fn letter_name(alloc: Global, k: u32, letter: u8) -> Result<Name, Memory>
     ensures { IfOk result (λ name. name ≡ spec.inner k (letter ∷ [])) }
 {
     let bytes = inner_bytes(alloc, k, letter)?;
-    name_of(alloc, bytes.as_slice())
+    Name::known(alloc, bytes.as_slice())
 }
 
 /// The inner name that has this letter and this number, in decimal digits, after `k` underscores.
@@ -96,7 +86,7 @@ pub fn numbered_name(alloc: Global, k: u32, letter: u8, number: usize) -> Result
     let mut bytes = inner_bytes(alloc, k, letter)?;
     let digits = format!(in alloc; "{number}")?;
     bytes.extend_from_slice(digits.as_bytes())?;
-    name_of(alloc, bytes.as_slice())
+    Name::known(alloc, bytes.as_slice())
 }
 
 /// The number of underscores that a name begins with.

@@ -16,7 +16,7 @@ use crate::draft::{Draft, check_outputs, draft_gates, signal_of};
 use crate::fault::{BlifErr, BlifFault};
 use crate::order::{first_unplaced, needs_of, ranks_of};
 use crate::seen::Seen;
-use ae_base::{Memory, Name, Seq};
+use ae_base::{Memory, Name, Seq, copies};
 use ae_lex::Line;
 use ae_net::{Gate, Net};
 use blif_place::order_of;
@@ -113,17 +113,6 @@ fn ports_of(alloc: Global, seen: &Seen, ranks: &[Option<u32>]) -> Result<Seq<u32
     Ok(ports)
 }
 
-/// Other names of the same bytes.
-fn copies(alloc: Global, names: &[Name]) -> Result<Seq<Name>, Memory>
-    ensures { IfOk result (λ copies. copies ≡ names.now) }
-{
-    let mut copies = Seq::new(alloc);
-    for name in names {
-        copies.push(name.copy(alloc)?)?;
-    }
-    Ok(copies)
-}
-
 /// The name of the model, which is `unnamed` where none is given.
 fn model_of(alloc: Global, seen: &Seen) -> Result<Name, Memory>
     ensures named { IfOk result (λ name. is_name name ≡ true) }
@@ -147,10 +136,7 @@ fn unnamed(alloc: Global) -> Result<Name, Memory>
     ensures named { IfOk result (λ name. is_name name ≡ true) }
     ensures name { IfOk result (λ name. name ≡ codes "unnamed") }
 {
-    match Name::from_bytes(alloc, b"unnamed")? {
-        Some(name) => Ok(name),
-        None => unreachable!(),
-    }
+    Name::known(alloc, b"unnamed")
 }
 
 /// The network of gates in an order that places all.
