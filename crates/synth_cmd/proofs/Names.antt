@@ -1,5 +1,5 @@
 -- The names of a command, as lists.
-use Rattle.std.proofs.Common.{◌≡◌, ◌∙◌, ℕ, suc, zero, List, [], ◌∷◌, sym, refl, arith}
+use Rattle.std.proofs.Common.{◌≡◌, ℕ, suc, zero, List, [], ◌∷◌, sym, refl, arith}
 use Rattle.std.specs.Prelude.{Contains}
 use Rattle.ae_outside.specs.Counts.{Tally, CountsAt}
 use Rattle.synth_cmd.specs.Outside.{CountsAmong}

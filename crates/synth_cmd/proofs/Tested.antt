@@ -1,5 +1,5 @@
 -- After both texts are written NET and VEC hold them, so the headline stands.
-use Rattle.std.proofs.Common.{◌≢◌, ◌∷◌, [], ◌∙◌, ℕ, List, Option, Some, None, sym, subst}
+use Rattle.std.proofs.Common.{◌≢◌, ◌∷◌, [], ℕ, List, Option, sym, subst}
 use Rattle.ae_outside.specs.Files.{Shelf, written}
 use Rattle.synth_core.specs.Made.{Texts}
 use Rattle.synth_core.specs.declared.settings.Settings.{Settings}

@@ -1,5 +1,5 @@
 -- What is answered of the bytes of a source, from what is answered of its cover.
-use Rattle.std.proofs.Common.{◌≡◌, ◌≤◌, ◌⊎◌, inl, inr, ℕ, Bool, List, length, refl, sym, ap, ap₂, ◌∙◌, subst}
+use Rattle.std.proofs.Common.{◌≡◌, ◌≤◌, ◌⊎◌, inl, inr, ℕ, Bool, List, length, refl, sym, ap, ◌∙◌, subst}
 use Rattle.std.specs.Prelude.{Result, Ok, Err, IfOk, IsOk, IsErrOf}
 use Rattle.ae_base.specs.Mask.{Set}
 use Rattle.ae_base.specs.Cube.{Signs}
