@@ -7,3 +7,4 @@ pub mod Exists
 pub mod Uses
 pub mod CubeSteps
 pub mod Counting
+pub mod Shown

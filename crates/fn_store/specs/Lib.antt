@@ -1,3 +1,4 @@
 pub mod Davio
 pub mod Cubes
+pub mod Functions
 pub mod Scratch

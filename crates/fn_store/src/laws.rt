@@ -5,6 +5,8 @@ ghost use Rattle.ae_base.specs.Mask.{Set, has, first, inside};
 ghost use Rattle.ae_base.specs.Cube.{Signs};
 ghost use Rattle.ae_base.specs.Terms.{IsPoint, IsInOrder, value};
 ghost use Rattle.fn_store.specs.Davio.{IsExpansion, DependsOn};
+ghost use Rattle.fn_store.specs.Functions.{Functions, Shows, Keeps, AgreeAt};
+ghost use Rattle.fn_store.specs.declared.store.FnRef.{FnRef};
 
 /// Each truth function has one expansion at each polarity. Its terms are over the inputs. The EXOR of the products of its terms is the
 /// function, and no other list in term order without repeats has that EXOR. The function depends on exactly the inputs that its terms
@@ -19,4 +21,14 @@ pub fn expansion_law()
     ensures few { (p : Signs) (f : Set → Bool) (ts : List Set) → IsExpansion p f ts → length ts ≤ 2 ^ p.n }
     ensures used { (p : Signs) (f : Set → Bool) (ts : List Set) (j : ℕ) → IsExpansion p f ts → j < p.n → list_any (λ t. has t j) ts ≡ true → DependsOn p.n f j }
     ensures unused { (p : Signs) (f : Set → Bool) (ts : List Set) (j : ℕ) → IsExpansion p f ts → j < p.n → DependsOn p.n f j → list_any (λ t. has t j) ts ≡ true }
+{}
+
+/// A store keeps its functions where nothing changes, and through two steps that each keep them. In a store that is kept a reference shows what it did. A reference that shows a function
+/// shows each function that agrees with it at every point, and no other.
+pub fn store_laws()
+    ensures itself { (s : Functions) → Keeps s s }
+    ensures through { (s t u : Functions) → Keeps s t → Keeps t u → Keeps s u }
+    ensures kept { (s t : Functions) → Keeps s t → (r : FnRef) (f : Set → Bool) → Shows s r f → Shows t r f }
+    ensures agree { (s : Functions) (r : FnRef) (f g : Set → Bool) → AgreeAt s.polarity.n f g → Shows s r f → Shows s r g }
+    ensures one { (s : Functions) (r : FnRef) (f g : Set → Bool) → Shows s r f → Shows s r g → AgreeAt s.polarity.n f g }
 {}

@@ -3,8 +3,10 @@
 
 mod cubes;
 mod laws;
+mod store;
 mod terms;
 
 pub use cubes::cubes_expansion;
-pub use laws::expansion_law;
+pub use laws::{expansion_law, store_laws};
+pub use store::{FnRef, FnStore, TermsErr};
 pub use terms::{LIST_TERMS, exor, times_literal};
