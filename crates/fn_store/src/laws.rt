@@ -23,8 +23,8 @@ pub fn expansion_law()
     ensures unused { (p : Signs) (f : Set → Bool) (ts : List Set) (j : ℕ) → IsExpansion p f ts → j < p.n → DependsOn p.n f j → list_any (λ t. has t j) ts ≡ true }
 {}
 
-/// A store keeps its functions where nothing changes, and through two steps that each keep them. In a store that is kept a reference shows what it did. A reference that shows a function
-/// shows each function that agrees with it at every point, and no other.
+/// What does not change is kept, and what is kept through two steps is kept. In a store that is kept a reference shows what it did. A
+/// reference that shows a function shows each function that agrees with it at every point, and no other.
 pub fn store_laws()
     ensures itself { (s : Functions) → Keeps s s }
     ensures through { (s t u : Functions) → Keeps s t → Keeps t u → Keeps s u }

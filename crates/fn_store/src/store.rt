@@ -6,6 +6,7 @@ ghost use Rattle.fn_store.specs.declared.store.TermsErr.TheVariants as terms_err
 ghost use Rattle.fn_store.specs.Functions.{Functions, IsLive, Shows, Keeps, AgreeAt, IsLeastPoint, AllShow};
 
 use ae_base::{Memory, Point, Polarity, Term};
+use std::alloc::AllocError;
 use thiserror::Error;
 
 /// The name of a function of one store.
@@ -26,10 +27,10 @@ pub enum TermsErr {
     Memory,
 }
 
-impl From<Memory> for TermsErr {
+impl From<AllocError> for TermsErr {
     ghost from_gives = { λ _ r. r ≡ terms_err.Memory };
 
-    fn from(_: Memory) -> Self {
+    fn from(_: AllocError) -> Self {
         TermsErr::Memory
     }
 }
