@@ -1,3 +1,4 @@
 pub mod Even
 pub mod Functions
+pub mod Stores
 pub mod Terms

@@ -1,5 +1,5 @@
 -- Expansions of the outputs at one polarity, as contracts see them (Sasao, "Switching Theory for Logic Synthesis").
-use Rattle.std.specs.Prelude.{◌≡◌, ℕ, ◌<◌, Bool, true, List, length, All}
+use Rattle.std.specs.Prelude.{◌≡◌, ℕ, suc, ◌<◌, ◌≤◌, Bool, true, List, length, take, All}
 use Rattle.std.specs.List.{list_any, sum_by}
 use Rattle.ae_base.specs.Mask.{Set, has, inside, first, where_below}
 use Rattle.ae_base.specs.Cube.{Signs, IsSigns}
@@ -22,6 +22,12 @@ pub record IsTerms (e : Terms) : Type 0 where
   pub order : All IsInOrder e.outs
   pub few_lists : length e.outs < LISTS
   pub few_terms : cost e < TERMS
+
+-- The running sum of the lengths passes the limit at this list, and at none before it.
+pub record PassesAt (limit : ℕ) (lists : List (List Set)) (place : ℕ) : Type 0 where
+  pub is_place : place < length lists
+  pub before : sum_by length (take place lists) ≤ limit
+  pub past : limit < sum_by length (take (suc place) lists)
 
 -- some term of some output holds the input
 abbrev pub is_used : Terms → ℕ → Bool

@@ -2,11 +2,13 @@
 #![tactic(auto)]
 
 mod expansion;
+mod functions;
 mod laws;
 mod limits;
 mod used;
 
 pub use expansion::{Expansion, pairs};
-pub use laws::even_law;
+pub use functions::{ExpandErr, expand};
+pub use laws::{even_law, expanded_law};
 pub use limits::{LISTS, TERMS};
 pub use used::{is_used, used_inputs};
