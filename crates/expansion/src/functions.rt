@@ -49,7 +49,7 @@ pub fn expand<S: FnStore>(
 {
     expansion_law();
     let polarity = store.polarity();
-    let _ = &polarity.n;
+    let _ = &polarity.n; // opened here, since its invariant is part of the expansion's
     let mut outs = Seq::new(alloc);
     let mut left = limit;
     for r in refs {

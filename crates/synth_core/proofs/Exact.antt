@@ -7,11 +7,11 @@ use Rattle.ae_base.specs.Source.{Source}
 use Rattle.ae_cover.specs.Cover.{Table, source_of}
 use Rattle.cascade.specs.declared.limits.TheConstants.{REDDY_TERMS}
 use Rattle.expansion.specs.Functions.{AreExpansions}
-use Rattle.expansion.specs.Terms.{Terms, cost}
+use Rattle.expansion.specs.Terms.{Terms, PassesAt, cost}
 use Rattle.fn_store.specs.Davio.{IsExpansion}
 use Rattle.pla_read.specs.declared.fault.PlaFault.{PlaFault}
 use Rattle.pla_read.specs.Pla.{pla_says}
-use Rattle.synth_core.specs.Asked.{IsExpanded, IsWithin, PassesAt, HasTooMany, polarity_of, terms_limit}
+use Rattle.synth_core.specs.Asked.{IsExpanded, IsWithin, HasTooMany, polarity_of, terms_limit}
 use Rattle.synth_core.specs.Made.{IsMade, IsSynthesised, Texts, texts_of}
 use Rattle.synth_core.specs.Says.{source_says}
 use Rattle.synth_core.specs.Steps.{IsMadeOf, TooMany}

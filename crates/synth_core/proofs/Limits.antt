@@ -9,9 +9,9 @@ use Rattle.ae_base.specs.Mask.{Set}
 use Rattle.ae_base.specs.Cube.{Signs}
 use Rattle.ae_base.specs.Source.{Source, on_set}
 use Rattle.fn_store.specs.Davio.{IsExpansion}
-use Rattle.expansion.specs.Terms.{Terms}
+use Rattle.expansion.specs.Terms.{Terms, PassesAt}
 use Rattle.expansion.specs.Functions.{AreExpansions}
-use Rattle.synth_core.specs.Asked.{IsExpanded, IsWithin, PassesAt, HasTooMany, polarity_of, terms_limit}
+use Rattle.synth_core.specs.Asked.{IsExpanded, IsWithin, HasTooMany, polarity_of, terms_limit}
 use Rattle.synth_core.specs.declared.settings.Settings.{Settings}
 
 -- ---- one source, one list of expansions

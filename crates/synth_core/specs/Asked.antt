@@ -1,12 +1,11 @@
 -- What a synthesis is asked for, and which sources have too many terms for it.
-use Rattle.std.specs.Prelude.{◌≡◌, ℕ, suc, ◌<◌, ◌≤◌, Ok, List, length, take}
-use Rattle.std.specs.List.{sum_by}
-use Rattle.ae_base.specs.Mask.{Set, first}
+use Rattle.std.specs.Prelude.{◌≡◌, ℕ, ◌≤◌, Ok, List, length}
+use Rattle.ae_base.specs.Mask.{first}
 use Rattle.ae_base.specs.Cube.{Signs}
 use Rattle.ae_base.specs.Source.{Source}
 use Rattle.cascade.specs.declared.limits.TheConstants.{REDDY_TERMS}
 use Rattle.expansion.specs.Functions.{AreExpansions}
-use Rattle.expansion.specs.Terms.{Terms, cost}
+use Rattle.expansion.specs.Terms.{Terms, PassesAt, cost}
 use Rattle.synth_core.specs.Says.{source_says}
 use Rattle.synth_core.specs.declared.settings.Choice.{Choice}
 use Rattle.synth_core.specs.declared.settings.Choice.TheVariants.{Positive}
@@ -37,12 +36,6 @@ pub record IsWithin (settings : Settings) (bytes : List ℕ) : Type 0 where
   pub expansions : Terms
   pub expanded : IsExpanded settings bytes source expansions
   pub within : cost expansions ≤ terms_limit settings.form
-
--- The running sum of the lengths passes the limit at this list, and at none before it.
-pub record PassesAt (limit : ℕ) (lists : List (List Set)) (place : ℕ) : Type 0 where
-  pub is_place : place < length lists
-  pub before : sum_by length (take place lists) ≤ limit
-  pub past : limit < sum_by length (take (suc place) lists)
 
 -- The bytes say a source whose expansions have too many terms for the form, first at this output.
 pub record HasTooMany (settings : Settings) (bytes : List ℕ) (output : ℕ) : Type 0 where

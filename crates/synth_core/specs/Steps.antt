@@ -11,9 +11,8 @@ use Rattle.ae_cover.specs.Cover.{Table, IsCover, has_mark, is_one}
 use Rattle.cascade.specs.declared.limits.TheConstants.{REDDY_TERMS}
 use Rattle.cascade.specs.Reddy.{reddy_net}
 use Rattle.expansion.specs.Functions.{AreExpansions}
-use Rattle.expansion.specs.Terms.{Terms, IsTerms, cost}
+use Rattle.expansion.specs.Terms.{Terms, IsTerms, PassesAt, cost}
 use Rattle.input_tests.specs.Whole.{cascade_tests}
-use Rattle.synth_core.specs.Asked.{PassesAt}
 use Rattle.synth_core.specs.declared.error.SynthErr.{SynthErr}
 use Rattle.synth_core.specs.declared.error.SynthErr.TheVariants as err
 use Rattle.synth_core.specs.declared.made.Summary.{Summary}
