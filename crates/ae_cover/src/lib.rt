@@ -7,5 +7,5 @@ mod laws;
 mod parts;
 
 pub use cover::{Cover, PLA_ROWS};
-pub use laws::clash_laws;
+pub use laws::{clash_laws, on_law};
 pub use parts::{Clash, Kind, Mark, Row};
