@@ -1,0 +1,194 @@
+-- Cubes with an input at a value: which function they have, and which inputs they read.
+use Rattle.std.proofs.Common.{◌≡◌, ◌≢◌, ℕ, ◌+◌, ◌<◌, ◌≤◌, Bool, true, false, not, ◌&&◌, ◌||◌, ◌⊎◌, cond, inl, inr, List, [], ◌∷◌, map, take, length, get_or, refl, sym, ap, ap₂, ◌∙◌, arith, eq-eqb, ne_eqb, None, Some}
+use Rattle.std.specs.Prelude.{filter}
+use Rattle.std.specs.List.{AllByRecursion}
+use Rattle.std.proofs.lemmas.Bool.{cases_eq, cases_lt, cases_Bool, false≢true, and_parts, and_from, or_parts, not-true}
+use Rattle.std.proofs.lemmas.List.Elements.{recursion_from_All, All-from_recursion}
+use Rattle.std.proofs.lemmas.List.Folds.{list_any_more}
+use Rattle.ae_base.specs.Mask.{Set, has, first, without, either, least}
+use Rattle.ae_base.specs.Cube.{Signs, Product, IsOver, EachHolds, holds, is_free}
+use Rattle.ae_base.proofs.Sets.{has-either, has-without, inside-has, has-inside, inside-below}
+use Rattle.ae_base.proofs.Members.{least-is, least-empty}
+use Rattle.ae_base.proofs.Products.{holds-has, has-holds}
+use Rattle.ae_base.proofs.Truth.{same_truth}
+use Rattle.fn_store.specs.Davio.{put, low, high}
+use Rattle.fn_store.specs.Cubes.{some_holds}
+use Rattle.fn_store.proofs.Coefficients.{put-same, put-other}
+use Rattle.net_fn.specs.Cofactor.{allows, rest, cofactor, is_read, AreFrom}
+
+-- ---- one cube
+
+without-other : (s : Set) (j k : ℕ) → (k ≢ j) → has (without s j) k ≡ has s k
+without-other s j k ne = has-without s j k ∙ rw (ne_eqb k j ne) refl
+
+without-same : (s : Set) (j : ℕ) → has (without s j) j ≡ false
+without-same s j = has-without s j j ∙ rw (eq-eqb j j refl) refl
+
+without-member : (s : Set) (j k : ℕ) → has (without s j) k ≡ true → (k ≢ j) × (has s k ≡ true)
+without-member s j k m =
+    let ne : k ≢ j = λ e. false≢true (sym (without-same s j) ∙ ap (has (without s j)) (sym e) ∙ m) in
+    (ne, sym (without-other s j k ne) ∙ m)
+
+allowed_one : (v : Bool) (j : ℕ) (c : Product) → allows j v c ≡ true → has c.pos j ≡ true → v ≡ true
+allowed_one true j c h m = refl
+allowed_one false j c h m = absurd (false≢true (sym (not-true _ h) ∙ m))
+
+allowed_zero : (v : Bool) (j : ℕ) (c : Product) → allows j v c ≡ true → has c.neg j ≡ true → v ≡ false
+allowed_zero true j c h m = absurd (false≢true (sym (not-true _ h) ∙ m))
+allowed_zero false j c h m = refl
+
+holds-allows : (v : Bool) (j : ℕ) (c : Product) (x : Set) → EachHolds c (put j v x) → allows j v c ≡ true
+holds-allows true j c x each = elim (cases_Bool (has c.neg j)) [ inl m ↦ absurd (false≢true (sym (each.1 j m) ∙ put-same j true x)) | inr m ↦ ap not m ]
+holds-allows false j c x each = elim (cases_Bool (has c.pos j)) [ inl m ↦ absurd (false≢true (sym (put-same j false x) ∙ each.0 j m)) | inr m ↦ ap not m ]
+
+pub holds-rest : (j : ℕ) (v : Bool) (c : Product) (x : Set) → (allows j v c && holds (rest j c) x) ≡ holds c (put j v x)
+holds-rest j v c x =
+    same_truth _ _
+    (λ h.
+    let parts = and_parts _ _ h in
+    let each = holds-has (rest j c) x parts.1 in
+    has-holds c (put j v x) (
+      λ k m. elim (cases_eq k j) [
+        | inl e ↦ ap (has (put j v x)) e ∙ put-same j v x ∙ allowed_one v j c parts.0 (ap (has c.pos) (sym e) ∙ m)
+        | inr ne ↦ put-other j k v x ne ∙ each.0 k (without-other c.pos j k ne ∙ m)
+      ],
+      λ k m. elim (cases_eq k j) [
+        | inl e ↦ ap (has (put j v x)) e ∙ put-same j v x ∙ allowed_zero v j c parts.0 (ap (has c.neg) (sym e) ∙ m)
+        | inr ne ↦ put-other j k v x ne ∙ each.1 k (without-other c.neg j k ne ∙ m)
+      ],
+    ))
+    (λ h.
+    let each = holds-has c (put j v x) h in
+    and_from _ _ (holds-allows v j c x each)
+    (has-holds (rest j c) x (
+      λ k m. let w = without-member c.pos j k m in sym (put-other j k v x w.0) ∙ each.0 k w.1,
+      λ k m. let w = without-member c.neg j k m in sym (put-other j k v x w.0) ∙ each.1 k w.1,
+    )))
+
+-- ---- a list of cubes
+
+pub some-cofactor : (j : ℕ) (v : Bool) (x : Set) (cubes : List Product) → some_holds (cofactor j v cubes) x ≡ some_holds cubes (put j v x)
+some-cofactor j v x [] = refl
+some-cofactor j v x (c ∷ cubes) = by_test (allows j v c) (holds-rest j v c x) (some-cofactor j v x cubes)
+  where
+    by_test : (b : Bool) → (b && holds (rest j c) x) ≡ holds c (put j v x) → some_holds (cofactor j v cubes) x ≡ some_holds cubes (put j v x)
+        → some_holds (map (rest j) (cond b (c ∷ filter (allows j v) cubes) (filter (allows j v) cubes))) x ≡ (holds c (put j v x) || some_holds cubes (put j v x))
+    by_test true e more = ap₂ (λ a b. a || b) e more
+    by_test false e more = more ∙ ap (λ b. b || some_holds cubes (put j v x)) e
+
+rest-over : (n j : ℕ) (c : Product) → IsOver n c → IsOver n (rest j c)
+rest-over n j c over = (
+  (λ k m. elim (cases_Bool (has (without c.neg j) k)) [ inl h ↦ absurd (false≢true (sym (over.0 k (without-member c.pos j k m).1) ∙ (without-member c.neg j k h).1)) | inr h ↦ h ]),
+  has-inside (without c.pos j) (first n) (λ k m. inside-has c.pos (first n) over.1 k (without-member c.pos j k m).1),
+  has-inside (without c.neg j) (first n) (λ k m. inside-has c.neg (first n) over.2 k (without-member c.neg j k m).1),
+)
+
+cofactor-over : (n j : ℕ) (v : Bool) (cubes : List Product) → AllByRecursion (IsOver n) cubes → AllByRecursion (IsOver n) (cofactor j v cubes)
+cofactor-over n j v [] h = tt
+cofactor-over n j v (c ∷ cubes) h = by_test (allows j v c) (cofactor-over n j v cubes h.1)
+  where
+    by_test : (b : Bool) → AllByRecursion (IsOver n) (cofactor j v cubes) → AllByRecursion (IsOver n) (map (rest j) (cond b (c ∷ filter (allows j v) cubes) (filter (allows j v) cubes)))
+    by_test true more = (rest-over n j c h.0, more)
+    by_test false more = more
+
+-- a product that is free of an input, or that has lost it
+rest-free : (j k : ℕ) (c : Product) → (k ≡ j) ⊎ (not (is_free c k) ≡ false) → not (is_free (rest j c) k) ≡ false
+rest-free j k c (inl e) = rw (e, without-same c.pos j, without-same c.neg j) refl
+rest-free j k c (inr h) = elim (cases_eq k j) [
+  | inl e ↦ rw (e, without-same c.pos j, without-same c.neg j) refl
+  | inr ne ↦ rw (without-other c.pos j k ne, without-other c.neg j k ne) h
+]
+
+cofactor-read : (j k : ℕ) (v : Bool) (cubes : List Product) → (k ≡ j) ⊎ (is_read cubes k ≡ false) → is_read (cofactor j v cubes) k ≡ false
+cofactor-read j k v [] h = refl
+cofactor-read j k v (c ∷ cubes) h = by_test (allows j v c) (here h) (cofactor-read j k v cubes (later h))
+  where
+    here : (k ≡ j) ⊎ (is_read (c ∷ cubes) k ≡ false) → (k ≡ j) ⊎ (not (is_free c k) ≡ false)
+    here (inl e) = inl e
+    here (inr e) = inr (or_parts _ _ e).0
+
+    later : (k ≡ j) ⊎ (is_read (c ∷ cubes) k ≡ false) → (k ≡ j) ⊎ (is_read cubes k ≡ false)
+    later (inl e) = inl e
+    later (inr e) = inr (or_parts _ _ e).1
+
+    by_test : (b : Bool) → (k ≡ j) ⊎ (not (is_free c k) ≡ false) → is_read (cofactor j v cubes) k ≡ false
+        → is_read (map (rest j) (cond b (c ∷ filter (allows j v) cubes) (filter (allows j v) cubes))) k ≡ false
+    by_test true e more = rw (rest-free j k c e, more) refl
+    by_test false e more = more
+
+-- ---- the next input
+
+-- the least input that is read
+pub record IsNext (n : ℕ) (from : ℕ) (cubes : List Product) (j : ℕ) : Type 0 where
+  pub below : j < n
+  pub above : from ≤ j
+  pub none : (k : ℕ) → k < j → is_read cubes k ≡ false
+
+read-below : (n k : ℕ) (cubes : List Product) → AllByRecursion (IsOver n) cubes → is_read cubes k ≡ true → k < n
+read-below n k [] over m = absurd (false≢true m)
+read-below n k (c ∷ cubes) over m =
+    elim (cases_Bool (has c.pos k)) [
+      | inl h ↦ inside-below n c.pos over.0.1 k h
+      | inr h ↦ elim (cases_Bool (has c.neg k)) [
+        | inl e ↦ inside-below n c.neg over.0.2 k e
+        | inr e ↦ read-below n k cubes over.1 (rw (h, e) at m)
+      ]
+    ]
+
+pub next-is : (n from : ℕ) (cubes : List Product) (read : Set) (j : ℕ) → AreFrom n from cubes → ((k : ℕ) → has read k ≡ is_read cubes k) → least read ≡ Some j → IsNext n from cubes j
+next-is n from cubes read j are same e =
+    let is = least-is read j e in
+    let here : is_read cubes j ≡ true = sym (same j) ∙ is.0 in
+    record {
+      below = read-below n j cubes (recursion_from_All (IsOver n) cubes are.over) here;
+      above = elim (cases_lt j from) [ inl l ↦ absurd (false≢true (sym (are.free j l) ∙ here)) | inr l ↦ l ];
+      none = λ k l. sym (same k) ∙ is.1 k l;
+    }
+
+pub AreFrom-cofactor : (n from j : ℕ) (v : Bool) (cubes : List Product) → AreFrom n from cubes → IsNext n from cubes j → AreFrom n (j + 1) (cofactor j v cubes)
+AreFrom-cofactor n from j v cubes are next = record {
+  over = All-from_recursion (IsOver n) (cofactor j v cubes) (cofactor-over n j v cubes (recursion_from_All (IsOver n) cubes are.over));
+  free = λ k l. cofactor-read j k v cubes (elim (cases_eq k j) [ inl e ↦ inl e | inr ne ↦ inr (next.none k (omega (arith, l, ne))) ]);
+}
+
+-- ---- no input is read
+
+none-holds : (c : Product) (x : Set) → ((k : ℕ) → not (is_free c k) ≡ false) → holds c x ≡ true
+none-holds c x h = has-holds c x (
+  (λ k m. absurd (false≢true (sym (h k) ∙ rw m refl))),
+  (λ k m. absurd (false≢true (sym (h k) ∙ by_neg (has c.pos k) (has c.neg k) m))),
+)
+  where
+    by_neg : (a b : Bool) → b ≡ true → not (not a && not b) ≡ true
+    by_neg true b e = refl
+    by_neg false true e = refl
+    by_neg false false e = e
+
+pub none-read : (cubes : List Product) (read : Set) → ((k : ℕ) → has read k ≡ is_read cubes k) → least read ≡ None → 0 < length cubes → (x : Set) → true ≡ some_holds cubes x
+none-read [] read same e l x = absurd (omega (arith, l))
+none-read (c ∷ cubes) read same e l x =
+    let free = λ (k : ℕ). (or_parts (not (is_free c k)) (is_read cubes k) (sym (same k) ∙ least-empty read e k)).0 in
+    rw (none-holds c x free) refl
+
+-- ---- all inputs that are read
+
+read-one : (c : Product) (k : ℕ) → has (either c.pos c.neg) k ≡ not (is_free c k)
+read-one c k = has-either c.pos c.neg k ∙ by_values (has c.pos k) (has c.neg k)
+  where
+    by_values : (a b : Bool) → (a || b) ≡ not (not a && not b)
+    by_values true b = refl
+    by_values false true = refl
+    by_values false false = refl
+
+pub read-more : (cubes : List Product) (i : ℕ) (c : Product) (read more : Set) (k : ℕ) → i < length cubes → c ≡ get_or cubes i c → has read k ≡ is_read (take i cubes) k
+    → more ≡ either read (either c.pos c.neg) → has more k ≡ is_read (take (i + 1) cubes) k
+read-more cubes i c read more k l at same e =
+    ap (λ s. has s k) e ∙ has-either read (either c.pos c.neg) k ∙ ap₂ (λ a b. a || b) same (read-one c k ∙ ap (λ (d : Product). not (is_free d k)) at)
+    ∙ sym (list_any_more (λ d. not (is_free d k)) cubes i c l)
+
+-- at a literal's value, as the code reads it
+pub some-low : (p : Signs) (j : ℕ) (plain : Bool) (cubes cs : List Product) → plain ≡ has p.plain j → cs ≡ cofactor j (not plain) cubes → (x : Set) → some_holds cs x ≡ some_holds cubes (low p j x)
+some-low p j plain cubes cs e f x = ap (λ (ds : List Product). some_holds ds x) f ∙ some-cofactor j (not plain) x cubes ∙ ap (λ v. some_holds cubes (put j (not v) x)) e
+
+pub some-high : (p : Signs) (j : ℕ) (plain : Bool) (cubes cs : List Product) → plain ≡ has p.plain j → cs ≡ cofactor j plain cubes → (x : Set) → some_holds cs x ≡ some_holds cubes (high p j x)
+some-high p j plain cubes cs e f x = ap (λ (ds : List Product). some_holds ds x) f ∙ some-cofactor j plain x cubes ∙ ap (λ v. some_holds cubes (put j v x)) e

@@ -1,0 +1,5 @@
+pub mod Cofactor
+pub mod Literals
+pub mod Refs
+pub mod Seen
+pub mod Signals
