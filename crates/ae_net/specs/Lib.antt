@@ -1,4 +1,5 @@
 pub mod Blif
+pub mod Builder
 pub mod Detects
 pub mod Faults
 pub mod Gates

@@ -1,6 +1,7 @@
 //! Networks of gates, stuck-at faults, and what a network answers at a point.
 #![tactic(auto)]
 
+mod builder;
 mod gates;
 mod laws;
 mod names;
@@ -9,7 +10,7 @@ mod pins;
 mod places;
 mod run;
 
-pub use gates::{and_gate, buffer, exor, inverter};
+pub use builder::NetBuilder;
 pub use laws::{fault_laws, lead_law, one_run};
 pub use names::{NetNames, lead, letter_name, numbered_name};
 pub use net::{Fault, Gate, Net, Place, Sig};

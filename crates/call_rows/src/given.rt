@@ -66,7 +66,7 @@ fn are_rows(found: &[Cube], wanted: &[Literals]) -> bool {
     found.len() == wanted.len()
 }
 
-pub fn is_gate(gate: &Gate, table: &Table) -> bool {
+fn is_gate(gate: &Gate, table: &Table) -> bool {
     gate.out.bytes() == table.name
         && gate.pins.as_slice() == table.pins
         && gate.on == table.on

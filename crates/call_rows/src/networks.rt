@@ -1,10 +1,11 @@
 //! The calls of `ae_net`: gates, names, places, faults and answers.
+ghost use Rattle.std.specs.Prelude.{◌≡◌, ◌∷◌, [], length, IfOk, OnOk};
 
-use crate::given::{Table, are_names, cover_of, is_gate, names_of, net_of, set};
-use ae_base::{Memory, Name};
+use crate::given::{Table, are_gates, are_names, cover_of, names_of, net_of, set};
+use ae_base::{Memory, Name, Seq};
 use ae_net::{
-    Fault, Gate, Net, Pins, Place, and_gate, answer, buffer, exor, fault_count, faults, inverter,
-    is_place, lead, letter_name, numbered_name, scratch_for,
+    Fault, Net, NetBuilder, Pins, Place, answer, fault_count, faults, is_place, lead, letter_name,
+    numbered_name, scratch_for,
 };
 use blif_read::BlifErr;
 use pla_read::PlaErr;
@@ -201,63 +202,82 @@ fn answers_of_an_inverter(rt: HostRuntime) -> Result<(), Fail> {
     Ok(())
 }
 
-static INVERTED: Table = Table {
-    name: b"_f",
-    pins: &[3],
-    rows: &[(&[], &[0])],
-    on: true,
-};
+static BUILT: [Table; 4] = [
+    Table {
+        name: b"_i",
+        pins: &[1],
+        rows: &[(&[], &[0])],
+        on: true,
+    },
+    Table {
+        name: b"_b",
+        pins: &[2],
+        rows: &[(&[0], &[])],
+        on: true,
+    },
+    Table {
+        name: b"_x",
+        pins: &[0, 3],
+        rows: &[(&[0], &[1]), (&[1], &[0])],
+        on: true,
+    },
+    Table {
+        name: b"_t",
+        pins: &[4, 1],
+        rows: &[(&[0, 1], &[])],
+        on: true,
+    },
+];
 
-static BUFFERED: Table = Table {
-    name: b"_f",
-    pins: &[3],
-    rows: &[(&[0], &[])],
-    on: true,
-};
-
-static DIFFERENT: Table = Table {
-    name: b"_f",
-    pins: &[2, 4],
-    rows: &[(&[0], &[1]), (&[1], &[0])],
-    on: true,
-};
-
-static BOTH: Table = Table {
-    name: b"_f",
-    pins: &[2, 4],
-    rows: &[(&[0, 1], &[])],
-    on: true,
-};
-
-fn f(alloc: Global) -> Result<Name, Memory> {
-    letter_name(alloc, 1, b'f')
+/// A network in the making, with the inputs `_a` and `_c`.
+fn two_inputs(alloc: Global) -> Result<NetBuilder, Memory>
+    ensures { IfOk result (λ net. (length net.inputs ≡ 2) × (net.gates ≡ [])) }
+{
+    let mut inputs = Seq::new(alloc);
+    inputs.push(letter_name(alloc, 1, b'a')?)?;
+    inputs.push(letter_name(alloc, 1, b'c')?)?;
+    Ok(NetBuilder::new(alloc, inputs))
 }
 
-fn and_of_two(alloc: Global) -> Result<Gate, Memory> {
+/// Whether gates of one pin have the signals after those of the inputs.
+fn adds_gates_of_one_pin(alloc: Global, net: &mut NetBuilder) -> Result<bool, Memory>
+    requires { net.old.gates ≡ [] }
+    ensures { OnOk result (length net.new.gates ≡ 2) }
+{
+    let inverter = net.inverter(letter_name(alloc, 1, b'i')?, 1)?;
+    let buffer = net.buffer(letter_name(alloc, 1, b'b')?, inverter)?;
+    Ok(inverter == 2 && buffer == 3)
+}
+
+fn two_pins(alloc: Global, a: u32, b: u32) -> Result<Pins, Memory>
+    ensures { IfOk result (λ pins. pins ≡ a ∷ b ∷ []) }
+{
     let mut pins = Pins::new(alloc);
-    pins.push(2)?;
-    pins.push(4)?;
-    and_gate(alloc, f(alloc)?, pins)
+    pins.push(a)?;
+    pins.push(b)?;
+    Ok(pins)
 }
 
-fn gates_of_one_pin(alloc: Global) -> Result<bool, Memory> {
-    let inverted = inverter(alloc, f(alloc)?, 3)?;
-    let buffered = buffer(alloc, f(alloc)?, 3)?;
-    Ok(is_gate(&inverted, &INVERTED) && is_gate(&buffered, &BUFFERED))
+/// Whether gates of two pins have the signals after those of two inputs and two gates.
+fn adds_gates_of_two_pins(alloc: Global, net: &mut NetBuilder) -> Result<bool, Memory>
+    requires { length net.old.gates ≡ 2 }
+{
+    let exor = net.exor(letter_name(alloc, 1, b'x')?, 0, 3)?;
+    let and = net.and(letter_name(alloc, 1, b't')?, two_pins(alloc, exor, 1)?)?;
+    Ok(exor == 4 && and == 5)
 }
 
-fn gates_of_two_pins(alloc: Global) -> Result<bool, Memory> {
-    let different = exor(alloc, f(alloc)?, 2, 4)?;
-    let both = and_of_two(alloc)?;
-    Ok(is_gate(&different, &DIFFERENT) && is_gate(&both, &BOTH) && both.pins.len() == 2)
+fn is_built(alloc: Global) -> Result<bool, Memory> {
+    let mut net = two_inputs(alloc)?;
+    let one = adds_gates_of_one_pin(alloc, &mut net)?;
+    let two = adds_gates_of_two_pins(alloc, &mut net)?;
+    Ok(one && two && are_gates(net.gates(), &BUILT))
 }
 
 #[test]
 fn gates(rt: HostRuntime) -> Result<(), Fail> {
-    let alloc = rt.alloc();
-    let one = gates_of_one_pin(alloc)?;
-    let two = gates_of_two_pins(alloc)?;
-    assert!(rt; one && two);
+    let built = is_built(rt.alloc())?;
+    assert!(rt; built);
     Ok(())
 }
 

@@ -1,5 +1,5 @@
 -- Bounds that the builder keeps, and the network that it puts together.
-use Rattle.std.proofs.Common.{◌≡◌, ℕ, ◌+◌, ◌<◌, ◌≤◌, true, List, [], ◌∷◌, ◌++◌, length, ap, arith}
+use Rattle.std.proofs.Common.{◌≡◌, ℕ, ◌+◌, ◌<◌, ◌≤◌, true, List, [], ◌∷◌, ◌++◌, length, ap, ◌∙◌, append_assoc, length-append, arith}
 use Rattle.std.specs.Prelude.{codes}
 use Rattle.std.proofs.lemmas.List.Elements.{All-from_recursion, recursion_from_All}
 use Rattle.ae_base.specs.Mask.{first, inside}
@@ -10,14 +10,14 @@ use Rattle.cascade.specs.declared.limits.TheConstants.{REDDY_TERMS}
 use Rattle.expansion.specs.Terms.{Terms, IsTerms, cost}
 use Rattle.ae_net.specs.Lead.{lead}
 use Rattle.ae_net.specs.Names.{Names, IsNames, inner}
-use Rattle.cascade.specs.Reddy.{lines, turned, wide_terms, and_place, chain_place, ends, gates, reddy_net}
+use Rattle.cascade.specs.Reddy.{lines, turned, inverters, control_gates, wide_terms, and_place, chain_place, and_gates, chains, ends, gates, reddy_net}
 use Rattle.cascade.specs.declared.signals.Plan.{Plan}
 use Rattle.cascade.specs.Plan.{IsPlan}
 use Rattle.cascade.specs.Shows.{Fits}
 use Rattle.ae_net.proofs.Distinct.{each_weaker}
-use Rattle.cascade.proofs.Law.{Stands}
+use Rattle.cascade.proofs.Law.{Stands, length-control_gates}
 use Rattle.cascade.proofs.GatesValid.{turned_below}
-use Rattle.cascade.proofs.Valid.{few_turned, few_wide, few_lines, wide_stand, all_stand, valid}
+use Rattle.cascade.proofs.Valid.{few_turned, few_wide, few_lines, few_before, length-inverters, length-and_gates, wide_stand, all_stand, valid}
 
 pub is_plan : (plan : Plan) (e : Terms) → IsTerms e → cost e ≤ REDDY_TERMS → plan.lead ≤ SOURCE_NAME_BYTES + 1 → plan.turned.items ≡ turned e → plan.wide.items ≡ wide_terms e → plan.ands ≡ and_place e → IsPlan plan e
 is_plan plan e terms cheap short turned_is wide_is ands_is = record {
@@ -35,9 +35,26 @@ is_plan plan e terms cheap short turned_is wide_is ands_is = record {
   low = omega (arith, ands_is, few_lines e, terms.signs.0);
 }
 
-pub net_valid : (names : Names) (e : Terms) (k : ℕ) (model control : List ℕ) (inputs : List (List ℕ)) (outputs : List ℕ) (made : List Gate) → IsNames names → IsTerms e → Fits names e → cost e ≤ REDDY_TERMS
-    → k ≡ lead names → model ≡ names.model → control ≡ inner k (codes "c") → inputs ≡ names.inputs ++ control ∷ [] → outputs ≡ ends e (chain_place e) e.outs → made ≡ gates k names e
+pub net_valid : (names : Names) (e : Terms) (k : ℕ) (model : List ℕ) (inputs : List (List ℕ)) (outputs : List ℕ) (made : List Gate) → IsNames names → IsTerms e → Fits names e → cost e ≤ REDDY_TERMS
+    → k ≡ lead names → model ≡ names.model → inputs ≡ names.inputs ++ inner k (codes "c") ∷ [] → outputs ≡ ends e (chain_place e) e.outs → made ≡ gates k names e
     → IsValid (record { model = model; inputs = inputs; outputs = outputs; gates = made })
 unfolding reddy_net
-net_valid names e k model control inputs outputs made named terms fits cheap k_is model_is control_is inputs_is outputs_is made_is =
-    rw (made_is, outputs_is, inputs_is, control_is, model_is, k_is) (valid names e named terms fits cheap)
+net_valid names e k model inputs outputs made named terms fits cheap k_is model_is inputs_is outputs_is made_is =
+    rw (made_is, outputs_is, inputs_is, model_is, k_is) (valid names e named terms fits cheap)
+
+-- ---- the gates, part after part: those before the control's inverter, before the AND gates, before the chains, and all
+
+pub few_before_control : (k : ℕ) (e : Terms) (a b : List Gate) → a ≡ [] → b ≡ a ++ inverters k e → length b ≤ e.polarity.n
+few_before_control k e a b a_is b_is = omega (arith, ap length b_is, ap length a_is, length-append a (inverters k e), length-inverters k e, few_turned e)
+
+pub before_ands : (k : ℕ) (e : Terms) (a b c : List Gate) → a ≡ [] → b ≡ a ++ inverters k e → c ≡ b ++ control_gates k e → length c ≡ and_place e
+before_ands k e a b c a_is b_is c_is =
+    omega (arith, ap length c_is, length-append b (control_gates k e), ap length b_is, ap length a_is, length-append a (inverters k e), length-inverters k e, length-control_gates k e)
+
+pub before_chains : (k : ℕ) (e : Terms) (a b c d : List Gate) → a ≡ [] → b ≡ a ++ inverters k e → c ≡ b ++ control_gates k e → d ≡ c ++ and_gates k e → length d ≡ chain_place e
+unfolding chain_place
+before_chains k e a b c d a_is b_is c_is d_is = omega (arith, ap length d_is, length-append c (and_gates k e), before_ands k e a b c a_is b_is c_is, length-and_gates k e)
+
+pub all_gates : (k : ℕ) (names : Names) (e : Terms) (a b c d : List Gate) (outs : List (List ℕ)) → a ≡ [] → b ≡ a ++ inverters k e → c ≡ b ++ control_gates k e → d ≡ c ++ and_gates k e → outs ≡ names.outputs → d ++ chains k e 0 (length d) e.outs outs ≡ gates k names e
+unfolding gates
+all_gates k names e a b c d outs a_is b_is c_is d_is outs_is = rw (before_chains k e a b c d a_is b_is c_is d_is, d_is, c_is, b_is, a_is, outs_is) (simp append_assoc)

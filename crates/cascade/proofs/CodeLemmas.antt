@@ -19,7 +19,11 @@ use Rattle.std.proofs.lemmas.List.Elements.{All-from_recursion, recursion_from_A
 use Rattle.std.proofs.lemmas.List.Concat.{length-flat_map}
 use Rattle.ae_base.specs.Mask.{empty}
 use Rattle.expansion.specs.Terms.{cost}
-use Rattle.cascade.specs.Reddy.{rest, inner_gates}
+use Rattle.cascade.specs.Reddy.{start, rest, inner_gates, chain, chains, ends}
+use Rattle.cascade.specs.Plan.{IsChain, HasRoom}
+use Rattle.cascade.specs.declared.parts.Chain.{Chain}
+use Rattle.cascade.proofs.Law.{length-chain}
+use Rattle.std.proofs.Common.{ap₂}
 use Rattle.cascade.proofs.Lists.{length_filter_le}
 use Rattle.cascade.proofs.NamesApart.{all_inner}
 use Rattle.cascade.proofs.Valid.{each_filter, few_of_all}
@@ -64,17 +68,16 @@ links_step : (k : ℕ) (e : Terms) (out : List ℕ) (x i y : ℕ) (t : Set) (ts 
 links_step k e out x i y t [] = refl
 links_step k e out x i y t (u ∷ us) = rw (ne_eqb (suc (length us)) 0 (λ z. absurd (omega (arith, z)))) refl
 
--- the gates of the terms that are left
-pub links_more : (k : ℕ) (e : Terms) (out : List ℕ) (x i y d n : ℕ) (ts : List Set) (now all : List Gate) → n ≡ length ts → d < n
+-- the gates of the terms that are left; z is the line of the gate that is made
+pub links_more : (k : ℕ) (e : Terms) (out : List ℕ) (x i y d n : ℕ) (ts : List Set) (now all : List Gate) (z : ℕ) → n ≡ length ts → d < n → z ≡ lines e + (i + d)
     → now ++ links_of k e out (x + d) (i + d) y (drop d ts) ≡ all
-    → (now ++ exor (cond (eqb (d + 1) n) out (inner k (codes "x" ++ decimal (suc (x + d))))) y (term_signal e (get_or ts d 0)) ∷ []) ++ links_of k e out (x + (d + 1)) (i + (d + 1)) (e.polarity.n + 1 + (i + d)) (drop (d + 1) ts) ≡ all
-links_more k e out x i y d n ts now all same l h =
+    → (now ++ exor (cond (eqb (d + 1) n) out (inner k (codes "x" ++ decimal (suc (x + d))))) y (term_signal e (get_or ts d 0)) ∷ []) ++ links_of k e out (x + (d + 1)) (i + (d + 1)) z (drop (d + 1) ts) ≡ all
+links_more k e out x i y d n ts now all z same l z_is h =
     let z1 : x + (d + 1) ≡ suc (x + d) = omega arith in
     let z2 : i + (d + 1) ≡ suc (i + d) = omega arith in
-    let z3 : e.polarity.n + 1 + (i + d) ≡ lines e + (i + d) = omega arith in
     let last : eqb (d + 1) n ≡ eqb (length (drop (suc d) ts)) 0 = same_test same in
     append_assoc now (exor (cond (eqb (d + 1) n) out (inner k (codes "x" ++ decimal (suc (x + d))))) y (term_signal e (get_or ts d 0)) ∷ []) _
-    ∙ rw (z1, z2, z3, last, add-one d) (sym (ap (λ rest. now ++ rest) (ap (λ rest. links_of k e out (x + d) (i + d) y rest) (drop-cons ts d 0 (omega arith)) ∙ links_step k e out (x + d) (i + d) y (get_or ts d 0) (drop (suc d) ts))))
+    ∙ rw (z1, z2, z_is, last, add-one d) (sym (ap (λ rest. now ++ rest) (ap (λ rest. links_of k e out (x + d) (i + d) y rest) (drop-cons ts d 0 (omega arith)) ∙ links_step k e out (x + d) (i + d) y (get_or ts d 0) (drop (suc d) ts))))
     ∙ h
   where
     same_test : n ≡ length ts → eqb (d + 1) n ≡ eqb (length (drop (suc d) ts)) 0
@@ -97,17 +100,38 @@ length_at_le (ts ∷ tss) (suc o) d l = omega (arith, length-append ts (flat_map
 pub length_le_cost : (e : Terms) (o : ℕ) (ts : List Set) → o < length e.outs → ts ≡ get_or e.outs o ts → length ts ≤ cost e
 length_le_cost e o ts l ts_is = omega (arith, ap length ts_is, length_at_le e.outs o ts l, length-flat_map (λ (us : List Set). us) e.outs)
 
--- the numbers of one output's step are small
-pub record Small (x i length_ts : ℕ) : Type 0 where
-  pub inner : x + length_ts ≤ GATES
-  pub places : i + length_ts ≤ GATES
-
-pub small_numbers : (e : Terms) (outs : List (List Set)) (x i o place : ℕ) (ts : List Set) → outs ≡ e.outs → x + all_inner (drop o outs) ≡ all_inner outs → i ≡ place + (x + o) → o < length outs → length outs ≤ NET_LINES → place ≤ NET_LINES + 1 + REDDY_TERMS → cost e ≤ REDDY_TERMS
-    → ts ≡ get_or outs o ts → Small x i (length ts)
-small_numbers e outs x i o place ts outs_is inner places l few low cheap ts_is =
+pub has_room : (e : Terms) (outs : List (List Set)) (x i o place : ℕ) (ts : List Set) (c : Chain) → outs ≡ e.outs → x + all_inner (drop o outs) ≡ all_inner outs → i ≡ place + (x + o) → o < length outs → length outs ≤ NET_LINES → place ≤ NET_LINES + 1 + REDDY_TERMS → cost e ≤ REDDY_TERMS
+    → ts ≡ get_or outs o ts → IsChain c e x ts → HasRoom c i
+has_room e outs x i o place ts c outs_is inner places l few low cheap ts_is made =
     let all : all_inner outs ≤ cost e = omega (arith, few_of_all e, ap all_inner outs_is) in
     let at : length ts ≤ cost e = length_le_cost e o ts (omega (arith, l, ap length outs_is)) (ts_is ∙ ap (λ (tss : List (List Set)). get_or tss o ts) outs_is) in
-    record { inner = omega arith; places = omega arith }
+    let terms : length c.terms.items ≤ length ts = omega (arith, ap length made.terms, length_rest_le ts) in
+    record { inner = omega (arith, made.inner); gates = omega arith }
 
-pub inner_small : (ts : List Set) → inner_gates ts ≤ length ts
-inner_small ts = omega (arith, length_rest_le ts)
+-- the gates so far, once the chain c of the o-th output is made, and the chains that are left
+pub chains_more : (k : ℕ) (e : Terms) (x o : ℕ) (tss : List (List Set)) (outs : List (List ℕ)) (ts : List Set) (out : List ℕ) (c : Chain) (now new all : List Gate) → o < length tss → o < length outs → ts ≡ get_or tss o ts → out ≡ get_or outs o out → IsChain c e x ts
+    → new ≡ now ++ chain k e out c.inner (length now) c.start c.terms.items → now ++ chains k e x (length now) (drop o tss) (drop o outs) ≡ all
+    → (length new ≡ suc (length now + inner_gates ts)) × (new ++ chains k e (x + inner_gates ts) (length new) (drop (o + 1) tss) (drop (o + 1) outs) ≡ all)
+chains_more k e x o tss outs ts out c now new all l m ts_is out_is made new_is h = (
+  size,
+  rw (size, is, add-one o) (append_assoc now links _ ∙ sym (ap (λ rest. now ++ rest) (ap₂ (λ a b. chains k e x (length now) a b) (drop-cons tss o ts l ∙ ap (λ t. t ∷ drop (suc o) tss) (sym ts_is)) (drop-cons outs o out m ∙ ap (λ w. w ∷ drop (suc o) outs) (sym out_is)))) ∙ h),
+)
+  where
+    links : List Gate
+    links = chain k e out x (length now) (start e ts) (rest ts)
+
+    is : new ≡ now ++ links
+    is = rw (made.inner, made.start, made.terms) at new_is
+
+    size : length new ≡ suc (length now + inner_gates ts)
+    size = omega (arith, ap length is, length-append now links, length-chain k e out x (length now) (start e ts) (rest ts))
+
+-- the ends so far, and those of the chains that are left
+pub ends_more : (e : Terms) (o i j end : ℕ) (tss : List (List Set)) (ts : List Set) (now all : List ℕ) → o < length tss → ts ≡ get_or tss o ts → j ≡ suc (i + inner_gates ts) → suc end ≡ lines e + j → now ++ ends e i (drop o tss) ≡ all
+    → (now ++ end ∷ []) ++ ends e j (drop (o + 1) tss) ≡ all
+ends_more e o i j end tss ts now all l ts_is j_is last h =
+    let end_is : end ≡ lines e + (i + inner_gates ts) = omega arith in
+    append_assoc now (end ∷ []) _ ∙ rw (end_is, j_is, add-one o) (sym (ap (λ rest. now ++ ends e i rest) (drop-cons tss o ts l ∙ ap (λ t. t ∷ drop (suc o) tss) (sym ts_is)))) ∙ h
+
+pub inner_more : (o : ℕ) (tss : List (List Set)) (ts : List Set) → o < length tss → ts ≡ get_or tss o ts → all_inner (drop o tss) ≡ inner_gates ts + all_inner (drop (o + 1) tss)
+inner_more o tss ts l ts_is = rw (add-one o) (ap all_inner (drop-cons tss o ts l ∙ ap (λ t. t ∷ drop (suc o) tss) (sym ts_is)))

@@ -1,11 +1,12 @@
 -- What the builder works out before it makes the gates. For its private contracts alone.
-use Rattle.std.specs.Prelude.{◌≡◌, ◌+◌, ◌≤◌, true, List, length, All}
-use Rattle.ae_base.specs.declared.limits.TheConstants.{NET_LINES, SOURCE_NAME_BYTES}
+use Rattle.std.specs.Prelude.{◌≡◌, ℕ, ◌+◌, ◌<◌, ◌≤◌, true, List, length, All}
+use Rattle.ae_base.specs.declared.limits.TheConstants.{GATES, NET_LINES, SOURCE_NAME_BYTES}
 use Rattle.ae_base.specs.Mask.{Set, inside, first}
 use Rattle.expansion.specs.Terms.{Terms, IsTerms}
 use Rattle.cascade.specs.declared.limits.TheConstants.{REDDY_TERMS}
 use Rattle.cascade.specs.declared.signals.Plan.{Plan}
-use Rattle.cascade.specs.Reddy.{turned, wide_terms, and_place}
+use Rattle.cascade.specs.declared.parts.Chain.{Chain}
+use Rattle.cascade.specs.Reddy.{turned, wide_terms, and_place, start, rest}
 
 -- the parts of the network that the plan names are those of the expansions, and few enough
 pub record IsPlan (plan : Plan) (e : Terms) : Type 0 where
@@ -24,3 +25,15 @@ pub record IsPlan (plan : Plan) (e : Terms) : Type 0 where
 -- the terms are over the inputs of the expansions
 abbrev pub AreOver : Terms → List Set → Type 0
 AreOver e ts = All (λ t. inside t (first e.polarity.n) ≡ true) ts
+
+-- the chain of an output with these terms, before which so many inner EXOR gates stand
+pub record IsChain (chain : Chain) (e : Terms) (before : ℕ) (ts : List Set) : Type 0 where
+  pub inner : chain.inner ≡ before
+  pub start : chain.start ≡ start e ts
+  pub terms : chain.terms.items ≡ rest ts
+  pub over : AreOver e chain.terms.items
+
+-- a chain from this place on, with all its gates, is within the limit
+pub record HasRoom (chain : Chain) (place : ℕ) : Type 0 where
+  pub inner : chain.inner + length chain.terms.items ≤ GATES
+  pub gates : place + length chain.terms.items < GATES

@@ -1,89 +1,60 @@
 //! The Reddy network of expansions.
-ghost use Rattle.std.specs.Prelude.{◌≡◌, ◌≤◌, ◌<◌, ◌+◌, ◌++◌, ◌∷◌, [], length, All, IfOk, OnOk};
+ghost use Rattle.std.specs.Prelude.{◌≡◌, ◌≤◌, ◌+◌, ◌++◌, ◌∷◌, [], length, codes, IfOk, OnOk};
+ghost use Rattle.ae_net.specs.Names.{inner};
 ghost use Rattle.expansion.specs.Terms.{Terms, cost};
 ghost use Rattle.ae_net.specs.Lead as lead_spec;
-ghost use Rattle.cascade.specs.Plan.{IsPlan, AreOver};
+ghost use Rattle.cascade.specs.Plan.{IsPlan};
 ghost use Rattle.cascade.specs.Reddy as spec;
 ghost use Rattle.cascade.specs.Reddy.{reddy_net};
 ghost use Rattle.cascade.specs.Shows.{Fits, CanBuild, ShowsFunctions, ShowsComplements};
 
 use crate::laws::reddy_law;
 use crate::limits::REDDY_TERMS;
-use crate::parts::{push_ands, push_chain, push_control, push_inverters};
-use crate::signals::{Plan, start};
-use crate::terms::{rest, some_one, turned, wide_terms};
-use ae_base::{GATES, Memory, NET_LINES, Name, SOURCE_NAME_BYTES, Seq, Term};
-use ae_net::{Gate, Net, NetNames, Sig, lead, letter_name};
+use crate::parts::{chain_of, push_ands, push_chain, push_control, push_inverters};
+use crate::signals::Plan;
+use crate::terms::{some_one, turned, wide_terms};
+use ae_base::{Memory, NET_LINES, Name, SOURCE_NAME_BYTES, Seq, Term, copies};
+use ae_net::{Net, NetBuilder, NetNames, Sig, lead, letter_name};
 use expansion::Expansion;
 use std::alloc::Global;
 
-/// Copies of the names, and then one more name.
-fn names_and(alloc: Global, names: &[Name], last: Name) -> Result<Seq<Name>, Memory>
-    ensures { IfOk result (λ list. list ≡ names.now ++ last ∷ []) }
+/// The names of the network's inputs: those of the source, and then the control.
+fn input_names(alloc: Global, lead: u32, names: &NetNames) -> Result<Seq<Name>, Memory>
+    requires { lead ≤ SOURCE_NAME_BYTES + 1 }
+    ensures { IfOk result (λ list. list ≡ names.now.inputs ++ inner lead (codes "c") ∷ []) }
 {
-    let mut list = Seq::new(alloc);
-    for name in names {
-        list.push(name.copy(alloc)?)?;
-    }
-    list.push(last)?;
+    let mut list = copies(alloc, names.inputs())?;
+    list.push(letter_name(alloc, lead, b'c')?)?;
     Ok(list)
 }
 
-/// Adds the chain of one output. The first gate has the place `i`, and `x` inner EXOR gates stand before. It answers the number of its
-/// gates but the last.
-fn push_output(
-    alloc: Global,
-    plan: &Plan,
-    e: &Expansion,
-    out: &Name,
-    x: usize,
-    i: usize,
-    terms: &[Term],
-    gates: &mut Seq<Gate>,
-) -> Result<usize, Memory>
-    requires plan { IsPlan plan.now e.now }
-    requires below { AreOver e.now terms.now }
-    requires few_inner { x + length terms.now ≤ GATES }
-    requires few_gates { i + length terms.now ≤ GATES }
-    ensures gates { OnOk result (gates.new ≡ gates.old ++ spec.chain plan.now.lead e.now out.now x i (spec.start e.now terms.now) (spec.rest terms.now)) }
-    ensures inner { IfOk result (λ inner. inner ≡ spec.inner_gates terms.now) }
-{
-    let others = rest(alloc, terms)?;
-    let line = start(plan, e, terms);
-    push_chain(alloc, plan, e, out, x, i, line, others.as_slice(), gates)?;
-    Ok(others.len().saturating_sub(1))
-}
-
-/// Adds the chains of all outputs, the first gate having the place `place`, and the signals of their ends.
+/// Adds the chains of all outputs, and answers the signals of their ends.
 fn push_outputs(
     alloc: Global,
     plan: &Plan,
     e: &Expansion,
     names: &[Name],
-    place: usize,
-    gates: &mut Seq<Gate>,
-    ports: &mut Seq<Sig>,
-) -> Result<(), Memory>
+    net: &mut NetBuilder,
+) -> Result<Seq<Sig>, Memory>
     requires plan { IsPlan plan.now e.now }
-    requires low { place ≤ NET_LINES + 1 + REDDY_TERMS }
+    requires low { length net.old.gates ≤ NET_LINES + 1 + REDDY_TERMS }
     requires cheap { cost e.now ≤ REDDY_TERMS }
     requires fits { length e.now.outs ≡ length names.now }
     requires few_outputs { length names.now ≤ NET_LINES }
-    ensures gates { OnOk result (gates.new ≡ gates.old ++ spec.chains plan.now.lead e.now 0 place e.now.outs names.now) }
-    ensures ports { OnOk result (ports.new ≡ ports.old ++ spec.ends e.now place e.now.outs) }
+    requires inputs { length net.old.inputs ≡ spec.lines e.now }
+    ensures gates { OnOk result (net.new.gates ≡ net.old.gates ++ spec.chains plan.now.lead e.now 0 (length net.old.gates) e.now.outs names.now) }
+    ensures inputs { net.new.inputs ≡ net.old.inputs }
+    ensures ports { IfOk result (λ ports. ports ≡ spec.ends e.now (length net.old.gates) e.now.outs) }
 {
     let outs = e.lists();
-    let first = e.inputs() + 1;
-    let mut x = 0;
-    let mut i = place;
+    let mut ports = Seq::new(alloc);
+    let mut inner = 0;
     for o in 0..outs.len() {
-        let terms = outs[o].as_slice();
-        let inner = push_output(alloc, plan, e, &names[o], x, i, terms, gates)?;
-        ports.push(first + (i + inner) as u32)?;
-        x += inner;
-        i += inner + 1;
+        let chain = chain_of(alloc, plan, e, inner, outs[o].as_slice())?;
+        ports.push(push_chain(alloc, plan, e, &names[o], &chain, net)?)?;
+        inner += chain.terms.len().saturating_sub(1);
     }
-    Ok(())
+    Ok(ports)
 }
 
 /// The place of the first AND gate, these being the inputs that have inverters.
@@ -113,29 +84,28 @@ fn plan(alloc: Global, lead: u32, e: &Expansion) -> Result<Plan, Memory>
     })
 }
 
-/// The gates of the network, and the signals of its outputs.
-#[tactic(auto, unfolding(crate::specs::Reddy::gates, crate::specs::Reddy::chain_place))]
+/// Adds the gates of the network, and answers the signals of its outputs.
+#[tactic(auto, unfolding(crate::specs::Reddy::gates))]
 fn push_gates(
     alloc: Global,
     plan: &Plan,
     names: &NetNames,
     e: &Expansion,
-    gates: &mut Seq<Gate>,
-    ports: &mut Seq<Sig>,
-) -> Result<(), Memory>
+    net: &mut NetBuilder,
+) -> Result<Seq<Sig>, Memory>
     requires plan { IsPlan plan.now e.now }
     requires fits { Fits names.now e.now }
     requires cheap { cost e.now ≤ REDDY_TERMS }
-    requires no_gates { gates.old ≡ [] }
-    requires no_ports { ports.old ≡ [] }
-    ensures gates { OnOk result (gates.new ≡ spec.gates plan.now.lead names.now e.now) }
-    ensures ports { OnOk result (ports.new ≡ spec.ends e.now (spec.chain_place e.now) e.now.outs) }
+    requires no_gates { net.old.gates ≡ [] }
+    requires inputs { length net.old.inputs ≡ spec.lines e.now }
+    ensures gates { OnOk result (net.new.gates ≡ spec.gates plan.now.lead names.now e.now) }
+    ensures inputs { net.new.inputs ≡ net.old.inputs }
+    ensures ports { IfOk result (λ ports. ports ≡ spec.ends e.now (spec.chain_place e.now) e.now.outs) }
 {
-    let first = plan.ands as usize + plan.wide.len();
-    push_inverters(alloc, plan, e, gates)?;
-    push_control(alloc, plan, e, gates)?;
-    push_ands(alloc, plan, e, gates)?;
-    push_outputs(alloc, plan, e, names.outputs(), first, gates, ports)
+    push_inverters(alloc, plan, e, net)?;
+    push_control(alloc, plan, e, net)?;
+    push_ands(alloc, plan, e, net)?;
+    push_outputs(alloc, plan, e, names.outputs(), net)
 }
 
 /// The Reddy network, `lead` being the number of underscores that inner names begin with.
@@ -149,17 +119,11 @@ fn reddy_with(alloc: Global, lead: u32, names: &NetNames, e: &Expansion) -> Resu
     ensures built { OnOk result (CanBuild names.now e.now) }
 {
     let plan = plan(alloc, lead, e)?;
-    let control = letter_name(alloc, lead, b'c')?;
-    let inputs = names_and(alloc, names.inputs(), control)?;
-    let mut gates = Seq::new(alloc);
-    let mut outputs = Seq::new(alloc);
-    push_gates(alloc, &plan, names, e, &mut gates, &mut outputs)?;
-    Ok(Net {
-        model: names.model().copy(alloc)?,
-        inputs,
-        outputs,
-        gates,
-    })
+    let model = names.model().copy(alloc)?;
+    let inputs = input_names(alloc, lead, names)?;
+    let mut net = NetBuilder::new(alloc, inputs);
+    let outputs = push_gates(alloc, &plan, names, e, &mut net)?;
+    Ok(net.finish(model, outputs))
 }
 
 /// The Reddy network of expansions, with the names of a source: the cascade of Reddy (1972), for several outputs, with an inverter for

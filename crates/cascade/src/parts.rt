@@ -1,20 +1,32 @@
 //! The gates of the Reddy network, part by part.
-ghost use Rattle.std.specs.Prelude.{suc, All, ◌≡◌, ◌≤◌, ◌<◌, ◌+◌, ◌^◌, ◌++◌, ◌∷◌, [], if◌then◌else◌, length, map, true, codes, IfOk, OnOk};
+ghost use Rattle.std.specs.Prelude.{suc, ◌≡◌, ◌≤◌, ◌<◌, ◌+◌, ◌^◌, ◌++◌, ◌∷◌, [], if◌then◌else◌, length, map, true, codes, IfOk, OnOk};
 ghost use Rattle.std.specs.Fmt.{decimal};
-ghost use Rattle.ae_base.specs.Mask.{has, first, inside, members};
+ghost use Rattle.ae_base.specs.Mask.{first, inside, members};
+ghost use Rattle.ae_net.specs.Builder.{next};
 ghost use Rattle.ae_net.specs.Gates as gate;
 ghost use Rattle.ae_net.specs.Names.{inner};
 ghost use Rattle.cascade.specs.Left.{links_of};
-ghost use Rattle.cascade.specs.Plan.{IsPlan, AreOver};
+ghost use Rattle.cascade.specs.Plan.{IsPlan, IsChain, HasRoom, AreOver};
 ghost use Rattle.cascade.specs.Reddy as spec;
 
 use crate::limits::REDDY_TERMS;
-use crate::signals::{Plan, literal_signal, term_signal};
-use crate::terms::some_one;
-use ae_base::{GATES, Memory, NET_LINES, Name, Seq, Term};
-use ae_net::{Gate, Pins, and_gate, buffer, exor, inverter, letter_name, numbered_name};
+use crate::signals::{Plan, literal_signal, start, term_signal};
+use crate::terms::{rest, some_one};
+use ae_base::{GATES, Memory, NET_LINES, Name, Term};
+use ae_net::{NetBuilder, Pins, Sig, letter_name, numbered_name};
 use expansion::Expansion;
 use std::alloc::Global;
+
+/// The chain of an output.
+#[derive(Drop)]
+pub struct Chain {
+    /// The number of inner EXOR gates that stand before it.
+    pub inner: usize,
+    /// The signal that it starts at.
+    pub start: Sig,
+    /// The terms that are not empty, in order: a gate for each, or a buffer of the start where there is none.
+    pub terms: Vec<Term>,
+}
 
 /// The signals of the literals of a term.
 fn pins_of(alloc: Global, plan: &Plan, e: &Expansion, t: Term) -> Result<Pins, Memory>
@@ -34,14 +46,16 @@ fn push_inverter(
     plan: &Plan,
     e: &Expansion,
     j: u32,
-    gates: &mut Seq<Gate>,
+    net: &mut NetBuilder,
 ) -> Result<(), Memory>
     requires plan { IsPlan plan.now e.now }
     requires few { j ≤ NET_LINES }
-    ensures { OnOk result (gates.new ≡ gates.old ++ gate.inverter (inner plan.now.lead (codes "i" ++ decimal (suc j))) j ∷ []) }
+    requires room { length net.old.gates < GATES }
+    ensures gates { OnOk result (net.new.gates ≡ net.old.gates ++ gate.inverter (inner plan.now.lead (codes "i" ++ decimal (suc j))) j ∷ []) }
+    ensures inputs { net.new.inputs ≡ net.old.inputs }
 {
     let name = numbered_name(alloc, plan.lead, b'i', j as usize + 1)?;
-    gates.push(inverter(alloc, name, j)?)?;
+    net.inverter(name, j)?;
     Ok(())
 }
 
@@ -51,13 +65,15 @@ pub fn push_inverters(
     alloc: Global,
     plan: &Plan,
     e: &Expansion,
-    gates: &mut Seq<Gate>,
+    net: &mut NetBuilder,
 ) -> Result<(), Memory>
-    requires { IsPlan plan.now e.now }
-    ensures { OnOk result (gates.new ≡ gates.old ++ spec.inverters plan.now.lead e.now) }
+    requires plan { IsPlan plan.now e.now }
+    requires room { length net.old.gates + length plan.now.turned.items ≤ GATES }
+    ensures gates { OnOk result (net.new.gates ≡ net.old.gates ++ spec.inverters plan.now.lead e.now) }
+    ensures inputs { net.new.inputs ≡ net.old.inputs }
 {
     for j in plan.turned.as_slice() {
-        push_inverter(alloc, plan, e, *j, gates)?;
+        push_inverter(alloc, plan, e, *j, net)?;
     }
     Ok(())
 }
@@ -68,14 +84,16 @@ pub fn push_control(
     alloc: Global,
     plan: &Plan,
     e: &Expansion,
-    gates: &mut Seq<Gate>,
+    net: &mut NetBuilder,
 ) -> Result<(), Memory>
-    requires { IsPlan plan.now e.now }
-    ensures { OnOk result (gates.new ≡ gates.old ++ spec.control_gates plan.now.lead e.now) }
+    requires plan { IsPlan plan.now e.now }
+    requires room { length net.old.gates < GATES }
+    ensures gates { OnOk result (net.new.gates ≡ net.old.gates ++ spec.control_gates plan.now.lead e.now) }
+    ensures inputs { net.new.inputs ≡ net.old.inputs }
 {
     if some_one(e.lists()) {
         let name = letter_name(alloc, plan.lead, b'm')?;
-        gates.push(inverter(alloc, name, e.inputs())?)?;
+        net.inverter(name, e.inputs())?;
     }
     Ok(())
 }
@@ -88,16 +106,18 @@ fn push_and(
     e: &Expansion,
     i: usize,
     t: Term,
-    gates: &mut Seq<Gate>,
+    net: &mut NetBuilder,
 ) -> Result<(), Memory>
     requires plan { IsPlan plan.now e.now }
     requires small { i < REDDY_TERMS }
     requires below { inside t (first e.now.polarity.n) ≡ true }
-    ensures { OnOk result (gates.new ≡ gates.old ++ gate.and_gate (inner plan.now.lead (codes "t" ++ decimal (suc i))) (map (spec.literal_signal e.now) (members t)) ∷ []) }
+    requires room { length net.old.gates < GATES }
+    ensures gates { OnOk result (net.new.gates ≡ net.old.gates ++ gate.and_gate (inner plan.now.lead (codes "t" ++ decimal (suc i))) (map (spec.literal_signal e.now) (members t)) ∷ []) }
+    ensures inputs { net.new.inputs ≡ net.old.inputs }
 {
     let name = numbered_name(alloc, plan.lead, b't', i + 1)?;
     let pins = pins_of(alloc, plan, e, t)?;
-    gates.push(and_gate(alloc, name, pins)?)?;
+    net.and(name, pins)?;
     Ok(())
 }
 
@@ -107,15 +127,37 @@ pub fn push_ands(
     alloc: Global,
     plan: &Plan,
     e: &Expansion,
-    gates: &mut Seq<Gate>,
+    net: &mut NetBuilder,
 ) -> Result<(), Memory>
-    requires { IsPlan plan.now e.now }
-    ensures { OnOk result (gates.new ≡ gates.old ++ spec.and_gates plan.now.lead e.now) }
+    requires plan { IsPlan plan.now e.now }
+    requires room { length net.old.gates + length plan.now.wide.items ≤ GATES }
+    ensures gates { OnOk result (net.new.gates ≡ net.old.gates ++ spec.and_gates plan.now.lead e.now) }
+    ensures inputs { net.new.inputs ≡ net.old.inputs }
 {
     for (i, t) in plan.wide.as_slice().iter().enumerate() {
-        push_and(alloc, plan, e, i, *t, gates)?;
+        push_and(alloc, plan, e, i, *t, net)?;
     }
     Ok(())
+}
+
+/// The chain of an output with these terms, before which `inner` inner EXOR gates stand.
+#[tactic(auto, using(crate::proofs::CodeLemmas::rest_inside))]
+pub fn chain_of(
+    alloc: Global,
+    plan: &Plan,
+    e: &Expansion,
+    inner: usize,
+    terms: &[Term],
+) -> Result<Chain, Memory>
+    requires plan { IsPlan plan.now e.now }
+    requires below { AreOver e.now terms.now }
+    ensures { IfOk result (λ chain. IsChain chain e.now inner terms.now) }
+{
+    Ok(Chain {
+        inner,
+        start: start(plan, e, terms),
+        terms: rest(alloc, terms)?,
+    })
 }
 
 /// The name of a gate of a chain: the output's at the end, else an inner name, before which `x` inner EXOR gates stand.
@@ -138,60 +180,54 @@ fn link_name(
     }
 }
 
-/// Adds the EXOR gates of terms that are not empty, from the line `start` on. The first gate has the place `i`, and `x` inner EXOR gates
-/// stand before.
-#[tactic(auto, using(crate::proofs::CodeLemmas::links_more))]
+/// Adds the EXOR gates of a chain that has terms, the last with the name `out`. It answers the last gate's signal.
 fn push_links(
     alloc: Global,
     plan: &Plan,
     e: &Expansion,
     out: &Name,
-    x: usize,
-    i: usize,
-    start: u32,
-    terms: &[Term],
-    gates: &mut Seq<Gate>,
-) -> Result<(), Memory>
+    chain: &Chain,
+    net: &mut NetBuilder,
+) -> Result<Sig, Memory>
     requires plan { IsPlan plan.now e.now }
-    requires below { AreOver e.now terms.now }
-    requires few_inner { x + length terms.now ≤ GATES }
-    requires few_gates { i + length terms.now ≤ GATES }
-    ensures { OnOk result (gates.new ≡ gates.old ++ links_of plan.now.lead e.now out.now x i start terms.now) }
+    requires below { AreOver e.now chain.now.terms.items }
+    requires some { 0 < length chain.now.terms.items }
+    requires room { HasRoom chain.now (length net.old.gates) }
+    requires inputs { length net.old.inputs ≡ spec.lines e.now }
+    ensures gates { OnOk result (net.new.gates ≡ net.old.gates ++ links_of plan.now.lead e.now out.now chain.now.inner (length net.old.gates) chain.now.start chain.now.terms.items) }
+    ensures inputs { net.new.inputs ≡ net.old.inputs }
+    ensures last { IfOk result (λ signal. suc signal ≡ next net.new) }
 {
-    let first = e.inputs() + 1;
+    let terms = chain.terms.as_slice();
     let n = terms.len();
-    let mut line = start;
+    let mut line = chain.start;
     for d in 0..n {
-        let name = link_name(alloc, plan, e, out, x + d, d + 1 == n)?;
-        let signal = term_signal(plan, e, terms[d]);
-        gates.push(exor(alloc, name, line, signal)?)?;
-        line = first + (i + d) as u32;
+        let name = link_name(alloc, plan, e, out, chain.inner + d, d + 1 == n)?;
+        line = net.exor(name, line, term_signal(plan, e, terms[d]))?;
     }
-    Ok(())
+    Ok(line)
 }
 
-/// Adds the chain of an output over its terms that are not empty: EXOR gates, or a buffer of the start where there is no such term.
+/// Adds the gates of a chain: EXOR gates, or a buffer of the start where it has no terms. The last has the name `out`, and its signal is the
+/// answer.
 pub fn push_chain(
     alloc: Global,
     plan: &Plan,
     e: &Expansion,
     out: &Name,
-    x: usize,
-    i: usize,
-    start: u32,
-    terms: &[Term],
-    gates: &mut Seq<Gate>,
-) -> Result<(), Memory>
+    chain: &Chain,
+    net: &mut NetBuilder,
+) -> Result<Sig, Memory>
     requires plan { IsPlan plan.now e.now }
-    requires below { AreOver e.now terms.now }
-    requires few_inner { x + length terms.now ≤ GATES }
-    requires few_gates { i + length terms.now ≤ GATES }
-    ensures { OnOk result (gates.new ≡ gates.old ++ spec.chain plan.now.lead e.now out.now x i start terms.now) }
+    requires below { AreOver e.now chain.now.terms.items }
+    requires room { HasRoom chain.now (length net.old.gates) }
+    requires inputs { length net.old.inputs ≡ spec.lines e.now }
+    ensures gates { OnOk result (net.new.gates ≡ net.old.gates ++ spec.chain plan.now.lead e.now out.now chain.now.inner (length net.old.gates) chain.now.start chain.now.terms.items) }
+    ensures inputs { net.new.inputs ≡ net.old.inputs }
+    ensures last { IfOk result (λ signal. suc signal ≡ next net.new) }
 {
-    if terms.is_empty() {
-        let name = out.copy(alloc)?;
-        gates.push(buffer(alloc, name, start)?)?;
-        return Ok(());
+    if chain.terms.is_empty() {
+        return net.buffer(out.copy(alloc)?, chain.start);
     }
-    push_links(alloc, plan, e, out, x, i, start, terms, gates)
+    push_links(alloc, plan, e, out, chain, net)
 }

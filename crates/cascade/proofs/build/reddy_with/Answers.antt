@@ -1,19 +1,21 @@
-use Rattle.std.proofs.Common.{◌∙◌, ◌++◌, ◌∷◌, [], List, ℕ, ap}
+use Rattle.std.proofs.Common.{◌∙◌, ap}
+use Rattle.ae_net.specs.Builder.{Built}
 use Rattle.cascade.specs.Reddy.{gates}
 use Rattle.cascade.proofs.CodeBounds.{net_valid}
 use Rattle.cascade.proofs.build.reddy_with.Goals as goal
 
-pub invariant_of-result : goal.invariant_of-result
-invariant_of-result c =
+pub finish-requires : goal.finish-requires
+finish-requires c =
     let names = c.args.names.now in
     let e = c.args.e.now in
     let plan = c.in_ok-plan.ensures in
-    net_valid names e c.args.lead _ c.in_ok-control.control _ _ _ c.inputs.ensures.valid plan.0.terms c.requires.fits c.requires.cheap c.requires.lead (c.in_ok-copy.ensures ∙ c.model.ensures.model) c.in_ok-control.ensures
-    (c.in_ok-inputs.ensures ∙ ap (λ (l : List (List ℕ)). l ++ c.in_ok-control.control ∷ []) c.inputs.ensures.inputs) c.in_ok-push_gates.ensures.ports (c.in_ok-push_gates.ensures.gates ∙ ap (λ k. gates k names e) plan.1)
+    let net = c.in_ok-outputs.ensures in
+    net_valid names e c.args.lead _ _ _ _ c.model.ensures.valid plan.0.terms c.requires.fits c.requires.cheap c.requires.lead (c.in_ok-model.ensures ∙ c.model.ensures.model)
+    (net.inputs ∙ ap (λ (b : Built). b.inputs) c.new-net.ensures ∙ c.in_ok-inputs.ensures) net.ports (net.gates ∙ ap (λ k. gates k names e) plan.1)
 
 pub returns-clause-built : goal.returns-clause-built
 returns-clause-built c = record {
-  named = c.inputs.ensures.valid;
+  named = c.model.ensures.valid;
   terms = c.in_ok-plan.ensures.0.terms;
   fits = c.requires.fits;
   cheap = c.requires.cheap;
