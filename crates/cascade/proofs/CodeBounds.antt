@@ -1,23 +1,23 @@
 -- Bounds that the builder keeps, and the network that it puts together.
-use Rattle.std.proofs.Common.{◌≡◌, ℕ, ◌+◌, ◌<◌, ◌≤◌, true, List, [], ◌∷◌, ◌++◌, length, ap, ◌∙◌, append_assoc, length-append, arith}
+use Rattle.std.proofs.Common.{◌≡◌, ℕ, ◌+◌, ◌<◌, ◌≤◌, true, List, [], ◌∷◌, ◌++◌, length, ap, append_assoc, length-append, arith}
 use Rattle.std.specs.Prelude.{codes}
 use Rattle.std.proofs.lemmas.List.Elements.{All-from_recursion, recursion_from_All}
 use Rattle.ae_base.specs.Mask.{first, inside}
-use Rattle.ae_net.specs.declared.net.Gate.{Gate}
 use Rattle.ae_base.specs.declared.limits.TheConstants.{NET_LINES, SOURCE_NAME_BYTES}
-use Rattle.ae_net.specs.Valid.{IsValid}
-use Rattle.cascade.specs.declared.limits.TheConstants.{REDDY_TERMS}
-use Rattle.expansion.specs.Terms.{Terms, IsTerms, cost}
 use Rattle.ae_net.specs.Lead.{lead}
 use Rattle.ae_net.specs.Names.{Names, IsNames, inner}
-use Rattle.cascade.specs.Reddy.{lines, turned, inverters, control_gates, wide_terms, and_place, chain_place, and_gates, chains, ends, gates, reddy_net}
-use Rattle.cascade.specs.declared.signals.Plan.{Plan}
-use Rattle.cascade.specs.Plan.{IsPlan}
-use Rattle.cascade.specs.Shows.{Fits}
+use Rattle.ae_net.specs.Valid.{IsValid}
+use Rattle.ae_net.specs.declared.net.Gate.{Gate}
 use Rattle.ae_net.proofs.Distinct.{each_weaker}
-use Rattle.cascade.proofs.Law.{Stands, length-control_gates}
+use Rattle.expansion.specs.Terms.{Terms, IsTerms, cost}
+use Rattle.cascade.specs.Plan.{IsPlan}
+use Rattle.cascade.specs.Reddy.{lines, turned, inverters, control_gates, wide_terms, and_place, chain_place, and_gates, chains, ends, gates, reddy_net}
+use Rattle.cascade.specs.Shows.{Fits}
+use Rattle.cascade.specs.declared.limits.TheConstants.{REDDY_TERMS}
+use Rattle.cascade.specs.declared.signals.Plan.{Plan}
 use Rattle.cascade.proofs.GatesValid.{turned_below}
-use Rattle.cascade.proofs.Valid.{few_turned, few_wide, few_lines, few_before, length-inverters, length-and_gates, wide_stand, all_stand, valid}
+use Rattle.cascade.proofs.Law.{Stands, length-control_gates}
+use Rattle.cascade.proofs.Valid.{few_turned, few_wide, few_lines, length-inverters, length-and_gates, wide_stand, all_stand, valid}
 
 pub is_plan : (plan : Plan) (e : Terms) → IsTerms e → cost e ≤ REDDY_TERMS → plan.lead ≤ SOURCE_NAME_BYTES + 1 → plan.turned.items ≡ turned e → plan.wide.items ≡ wide_terms e → plan.ands ≡ and_place e → IsPlan plan e
 is_plan plan e terms cheap short turned_is wide_is ands_is = record {

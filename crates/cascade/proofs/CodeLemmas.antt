@@ -1,47 +1,28 @@
 -- Steps of the loops that build the network.
-use Rattle.std.proofs.Common.{◌≡◌, ℕ, zero, suc, ◌+◌, ◌<◌, ◌≤◌, Bool, true, cond, inl, inr, List, [], ◌∷◌, ◌++◌, length, map, get_or, drop, refl, sym, ap, ◌∙◌, arith, append-nil, append_assoc, length-append}
-use Rattle.std.specs.Prelude.{filter, All}
-use Rattle.std.specs.List.{range_with_len}
+use Rattle.std.proofs.Common.{◌≡◌, ℕ, zero, suc, ◌+◌, ◌<◌, ◌≤◌, true, cond, inl, inr, List, [], ◌∷◌, ◌++◌, length, map, get_or, drop, refl, sym, ap, ◌∙◌, arith, append_assoc, length-append, add-one, drop-cons, ne_eqb, eq-eqb, eqb, length-drop, not, ap₂}
 use Rattle.std.specs.Fmt.{decimal}
-use Rattle.std.proofs.lemmas.Bool.{cases_Bool}
-use Rattle.std.proofs.lemmas.List.Elements.{filter-append}
-use Rattle.std.proofs.Common.{add-one, drop-cons, ne_eqb, eq-eqb}
-use Rattle.std.proofs.lemmas.List.{length-map}
 use Rattle.std.specs.List.{flat_map}
-use Rattle.std.proofs.Common.{eqb, length-drop}
-use Rattle.std.specs.Prelude.{codes}
+use Rattle.std.specs.Prelude.{All, codes}
 use Rattle.std.proofs.lemmas.Bool.{cases_eq}
-use Rattle.expansion.specs.Terms.{Terms}
-use Rattle.ae_net.specs.Gates.{exor}
-use Rattle.cascade.specs.Reddy.{lines, term_signal}
-use Rattle.std.proofs.Common.{not}
-use Rattle.std.proofs.lemmas.List.Elements.{All-from_recursion, recursion_from_All}
+use Rattle.std.proofs.lemmas.List.{length-map}
 use Rattle.std.proofs.lemmas.List.Concat.{length-flat_map}
-use Rattle.ae_base.specs.Mask.{empty}
-use Rattle.expansion.specs.Terms.{cost}
-use Rattle.cascade.specs.Reddy.{start, rest, inner_gates, chain, chains, ends}
+use Rattle.std.proofs.lemmas.List.Elements.{All-from_recursion, recursion_from_All}
+use Rattle.ae_base.specs.Mask.{empty, Set, first, inside, members}
+use Rattle.ae_base.specs.declared.limits.TheConstants.{NET_LINES, PINS}
+use Rattle.ae_net.specs.Gates.{exor}
+use Rattle.ae_net.specs.Names.{inner}
+use Rattle.ae_net.specs.declared.net.Gate.{Gate}
+use Rattle.expansion.specs.Terms.{Terms, cost}
+use Rattle.cascade.specs.Left.{links_of}
 use Rattle.cascade.specs.Plan.{IsChain, HasRoom}
+use Rattle.cascade.specs.Reddy.{lines, term_signal, start, rest, inner_gates, chain, chains, ends, gates_for, place_of}
+use Rattle.cascade.specs.declared.limits.TheConstants.{REDDY_TERMS}
 use Rattle.cascade.specs.declared.parts.Chain.{Chain}
+use Rattle.cascade.proofs.GatesValid.{length-members}
 use Rattle.cascade.proofs.Law.{length-chain}
-use Rattle.std.proofs.Common.{ap₂}
 use Rattle.cascade.proofs.Lists.{length_filter_le}
 use Rattle.cascade.proofs.NamesApart.{all_inner}
 use Rattle.cascade.proofs.Valid.{each_filter, few_of_all}
-use Rattle.cascade.specs.Left.{links_of}
-use Rattle.cascade.proofs.GatesValid.{length-members}
-use Rattle.ae_net.specs.declared.net.Gate.{Gate}
-use Rattle.cascade.specs.Reddy.{gates_for, place_of}
-use Rattle.ae_base.specs.declared.limits.TheConstants.{NET_LINES, PINS, GATES}
-use Rattle.cascade.specs.declared.limits.TheConstants.{REDDY_TERMS}
-use Rattle.ae_base.specs.Mask.{Set, first, inside, members}
-use Rattle.ae_base.proofs.Written.{range_more}
-use Rattle.ae_net.specs.Names.{inner}
-
-pub filter_range_more : (p : ℕ → Bool) (k : ℕ) → filter p (range_with_len 0 (k + 1)) ≡ cond (p k) (filter p (range_with_len 0 k) ++ k ∷ []) (filter p (range_with_len 0 k))
-filter_range_more p k =
-    ap (filter p) (range_more k) ∙ filter-append p (range_with_len 0 k) (k ∷ []) ∙ elim (cases_Bool (p k)) [ inl e ↦ rw e refl | inr e ↦ rw e (append-nil _) ]
-
--- ---- steps of the loops
 
 -- the gates of the elements that are left
 pub gates_for_more : (gate : ℕ → ℕ → Gate) (c : ℕ) (xs : List ℕ) (i : ℕ) (now all : List Gate) → i < length xs → now ++ gates_for gate (c + i) (drop i xs) ≡ all → (now ++ gate (c + i) (get_or xs i 0) ∷ []) ++ gates_for gate (c + (i + 1)) (drop (i + 1) xs) ≡ all

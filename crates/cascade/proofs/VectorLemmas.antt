@@ -1,18 +1,20 @@
 -- The first vectors, as sets are put together.
 use Rattle.std.proofs.Common.{◌≡◌, ◌≢◌, ℕ, ◌≤◌, Bool, true, false, not, ◌&&◌, ◌||◌, cond, inl, inr, List, [], ◌∷◌, ◌++◌, length, refl, sym, ap, ap₂, ◌∙◌, eqb, eqb-true, eq-eqb, ne_eqb, ltb, append-nil, arith}
-use Rattle.std.specs.Prelude.{filter}
 use Rattle.std.specs.List.{list_any, AllByRecursion}
-use Rattle.std.proofs.lemmas.Bool.{cases_Bool, false≢true}
+use Rattle.std.specs.Prelude.{filter}
+use Rattle.std.proofs.lemmas.Bool.{le-ltb, lt-ltb, cases_Bool, false≢true}
 use Rattle.std.proofs.lemmas.List.Elements.{All-filter, All-from_recursion, filter-append, filter_passes, recursion_from_All}
 use Rattle.std.proofs.lemmas.List.Kept.{AllPairs-filter}
-use Rattle.ae_base.specs.Mask.{Set, differ, has, both, xor}
 use Rattle.ae_base.specs.Cube.{Signs}
-use Rattle.ae_base.proofs.Sets.{same_set, has-both, has-xor, has-where_below}
+use Rattle.ae_base.specs.Mask.{members, Set, differ, has, both, xor}
+use Rattle.ae_base.proofs.Members.{members-filter}
+use Rattle.ae_base.proofs.Sets.{inside-from, same_set, has-both, has-xor, has-where_below}
 use Rattle.ae_net.proofs.Distinct.{Distinct, AllPairs-from_Distinct, Distinct-from_AllPairs, each_weaker}
 use Rattle.expansion.specs.Terms.{Terms, is_used, used_inputs}
 use Rattle.expansion.proofs.Even.{has-used}
 use Rattle.cascade.specs.FirstVectors.{literals_at, without_repeats}
-use Rattle.cascade.proofs.Lists.{filter_all, length_filter_le}
+use Rattle.cascade.specs.Reddy.{turned}
+use Rattle.cascade.proofs.Lists.{filter_range_agree, filter_all, length_filter_le}
 
 pub has-literals_at : (p : Signs) (used : Set) (v : Bool) (k : ℕ) → has (literals_at p used v) k ≡ (ltb k p.n && (has used k && cond (has p.plain k) v (not v)))
 unfolding literals_at
@@ -45,6 +47,22 @@ all_low e =
     by true true false = refl
     by true false plain = refl
     by false used plain = refl
+
+-- the inputs whose literals are complemented are 1 where all literals are 0
+pub turned_members : (e : Terms) → members (literals_at e.polarity (used_inputs e) false) ≡ turned e
+unfolding turned
+turned_members e =
+    members-filter e.polarity.n low (inside-from e.polarity.n low (λ k l. has-literals_at e.polarity (used_inputs e) false k ∙ rw (le-ltb k e.polarity.n l) refl))
+    ∙ filter_range_agree (has low) (λ j. is_used e j && not (has e.polarity.plain j)) 0 e.polarity.n (λ j l.
+    has-literals_at e.polarity (used_inputs e) false j
+    ∙ rw (has-used e j, lt-ltb j e.polarity.n (omega (arith, l))) (by (is_used e j) (has e.polarity.plain j)))
+  where
+    low : Set
+    low = literals_at e.polarity (used_inputs e) false
+
+    by : (used plain : Bool) → (used && cond plain false true) ≡ (used && not plain)
+    by used true = refl
+    by used false = refl
 
 -- ---- no repeats
 

@@ -1,13 +1,14 @@
 //! The terms and inputs that the parts of the network stand for.
 ghost use Rattle.std.specs.Prelude.{◌≡◌, ◌&&◌, ◌==◌, ◌++◌, ◌∷◌, [], filter, not, if◌then◌else◌, IfOk, OnOk};
 ghost use Rattle.std.specs.List.{list_any, flat_map};
-ghost use Rattle.ae_base.specs.Mask.{has, empty};
+ghost use Rattle.ae_base.specs.Mask.{members};
 ghost use Rattle.expansion.specs.Terms as terms_spec;
 ghost use Rattle.cascade.specs.Reddy as spec;
 
 use crate::signals::is_wide;
+use crate::vectors::literals_low;
 use ae_base::{Mask, Memory, Seq, Term};
-use expansion::{Expansion, is_used};
+use expansion::Expansion;
 use std::alloc::Global;
 
 /// Whether the list has the empty term.
@@ -24,34 +25,23 @@ pub fn some_one(outs: &[Seq<Term>]) -> bool
     outs.iter().any(|terms| has_one(terms.as_slice()))
 }
 
-/// Whether the input is used and complemented.
-fn is_turned(e: &Expansion, j: u32) -> bool
-    ensures { result ≡ (terms_spec.is_used e.now j && not (has e.now.polarity.plain j)) }
+/// The members of a set, in order.
+fn list_of(alloc: Global, set: Mask) -> Result<Vec<u32>, Memory>
+    ensures { IfOk result (λ list. list.items ≡ members set) }
 {
-    let plain = e.polarity().plain;
-    is_used(e, j) && !plain.has(j)
-}
-
-/// Adds the input, where it is used and complemented.
-fn push_turned(e: &Expansion, j: u32, list: &mut Vec<u32>) -> Result<(), Memory>
-    ensures { OnOk result (list.new.items ≡ (if terms_spec.is_used e.now j && not (has e.now.polarity.plain j) then list.old.items ++ j ∷ [] else list.old.items)) }
-{
-    if is_turned(e, j) {
+    let mut list = Vec::new(alloc);
+    for j in set.members() {
         list.push(j)?;
     }
-    Ok(())
+    Ok(list)
 }
 
-/// The used inputs that are complemented, in order.
-#[tactic(auto, using(crate::proofs::CodeLemmas::filter_range_more), unfolding(crate::specs::Reddy::turned))]
+/// The used inputs that are complemented, in order: those that are 1 where all literals of used inputs are 0.
+#[tactic(auto, using(crate::proofs::VectorLemmas::turned_members))]
 pub fn turned(alloc: Global, e: &Expansion) -> Result<Vec<u32>, Memory>
     ensures { IfOk result (λ list. list.items ≡ spec.turned e.now) }
 {
-    let mut list = Vec::new(alloc);
-    for j in 0..e.inputs() {
-        push_turned(e, j, &mut list)?;
-    }
-    Ok(list)
+    list_of(alloc, literals_low(e))
 }
 
 /// Adds a term, where it has two or more members.

@@ -18,7 +18,7 @@ pub fn literals_high(e: &Expansion) -> Point
 
 /// The point with the literals of all used inputs at 0.
 #[tactic(auto, using(crate::proofs::VectorLemmas::all_low))]
-fn literals_low(e: &Expansion) -> Point
+pub fn literals_low(e: &Expansion) -> Point
     ensures { result ≡ spec.literals_at e.now.polarity (used_inputs e.now) false }
 {
     used_inputs(e).xor(literals_high(e))
