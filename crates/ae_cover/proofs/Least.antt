@@ -152,19 +152,19 @@ pair_least rows limit i j on off on_row off_row = pair_by rows limit i j on off 
 -- ---- a row for OFF
 
 -- no row of the block has One where the row for OFF has Zero
-pub none_shared : (rows : List Row) (start limit j : ℕ) (ones : List Set) (any at_zero : Set) → ((k : ℕ) → k < length ones → get_or ones k 0 ≡ ones_at rows limit (start + k))
-    → ((k o : ℕ) → k < length ones → has (get_or ones k 0) o ≡ true → has any o ≡ true) → ((off : Row) → slice_get rows j ≡ Some off → at_zero ≡ marked is_zero limit off) → len (both any at_zero) ≡ 0
+pub none_shared : (rows : List Row) (start limit j : ℕ) (ones : List Set) (any at_zero : Set) (off : Row) → ((k : ℕ) → k < length ones → get_or ones k 0 ≡ ones_at rows limit (start + k))
+    → ((k o : ℕ) → k < length ones → has (get_or ones k 0) o ≡ true → has any o ≡ true) → slice_get rows j ≡ Some off → at_zero ≡ marked is_zero limit off → len (both any at_zero) ≡ 0
     → IsLeastIn rows (InRow start (start + length ones) limit j) None
-none_shared rows start limit j ones any at_zero ones_are any_is zeros_are none = λ d g r.
+none_shared rows start limit j ones any at_zero off ones_are any_is off_row zeros_are none = λ d g r.
     let h = r.0 in
     let k = d.on_row - start in
     let lt : k < length ones = omega (arith, h.0, h.1) in
     let place : start + k ≡ d.on_row = omega (arith, h.0) in
     let on_there : slice_get rows (start + k) ≡ Some g.on = ap (slice_get rows) place ∙ g.on_row in
-    let off_there : slice_get rows j ≡ Some g.off = ap (slice_get rows) (sym r.1) ∙ g.off_row in
+    let off_is : g.off ≡ off = same_row rows d.off_row j g.off off g.off_row r.1 off_row in
     let kept : get_or ones k 0 ≡ marked is_one limit g.on = ones_are k lt ∙ ap (λ (o : Option Row). option_map_or (marked is_one limit) o 0) on_there in
     let one : has (get_or ones k 0) d.output ≡ true = ap (λ s. has s d.output) kept ∙ is_marked is_one limit g.on d.output h.2 g.one in
-    let off_one : has at_zero d.output ≡ true = ap (λ s. has s d.output) (zeros_are g.off off_there) ∙ is_marked is_zero limit g.off d.output h.2 g.zero in
+    let off_one : has at_zero d.output ≡ true = ap (λ s. has s d.output) zeros_are ∙ is_marked is_zero limit off d.output h.2 (ap (has_mark is_zero d.output) (sym off_is) ∙ g.zero) in
     false≢true (sym (len-zero (both any at_zero) none d.output) ∙ (has-both any at_zero d.output ∙ and_from _ _ (any_is k d.output lt one) off_one))
 
 -- the members of one more set

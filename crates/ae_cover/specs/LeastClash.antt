@@ -1,12 +1,13 @@
 -- The least clash among some of the pairs of rows. For private contracts alone.
-use Rattle.std.specs.Prelude.{◌≡◌, ℕ, ◌<◌, ◌≤◌, Bool, true, ◌&&◌, ◌||◌, ◌==◌, nat_lt, if◌then◌else◌, List, slice_get, Option, Some, None}
+use Rattle.std.specs.Prelude.{◌≡◌, ℕ, ◌<◌, ◌≤◌, Bool, true, false, ◌&&◌, ◌||◌, ◌==◌, nat_lt, if◌then◌else◌, List, slice_get, Option, Some, None}
 use Rattle.std.specs.Option.{option_map_or}
 use Rattle.ae_base.specs.Mask.{Set, both, least, where_below}
 use Rattle.ae_base.specs.Cube.{Product}
 use Rattle.ae_cover.specs.declared.parts.Mark.{Mark}
+use Rattle.ae_cover.specs.declared.parts.Mark.TheVariants.{One, Zero, Dash, Void}
 use Rattle.ae_cover.specs.declared.parts.Row.{Row}
 use Rattle.ae_cover.specs.declared.parts.Clash.{Clash}
-use Rattle.ae_cover.specs.Cover.{has_mark, is_one, is_zero}
+use Rattle.ae_cover.specs.Cover.{has_mark, is_one, is_zero, is_dash}
 use Rattle.ae_base.specs.Cube.{meet}
 use Rattle.ae_cover.specs.FirstClash.{IsBefore}
 
@@ -32,6 +33,17 @@ InBlock start stop limit c = (start ≤ c.on_row) × (c.on_row < stop) × (c.out
 -- those of one row for OFF
 abbrev pub InRow : ℕ → ℕ → ℕ → ℕ → Clash → Type 0
 InRow start stop limit off_row c = InBlock start stop limit c × (c.off_row ≡ off_row)
+
+abbrev pub is_void : Mark → Bool
+is_void Void = true
+is_void _ = false
+
+-- the mark is the one that is wanted
+abbrev pub is_mark : Mark → Mark → Bool
+is_mark One = is_one
+is_mark Zero = is_zero
+is_mark Dash = is_dash
+is_mark Void = is_void
 
 -- the outputs below n at which the row has such a mark
 abbrev pub marked : (Mark → Bool) → ℕ → Row → Set

@@ -1,9 +1,8 @@
 //! The first clash.
-ghost use Rattle.std.specs.Prelude.{◌≡◌, ℕ, ◌+◌, ◌<◌, ◌≤◌, ◌^◌, ◌==◌, length, slice_get, slice_index, Some, All, true};
+ghost use Rattle.std.specs.Prelude.{◌≡◌, ℕ, ◌+◌, ◌<◌, ◌≤◌, ◌^◌, ◌==◌, length, slice_index, All, true};
 ghost use Rattle.ae_base.specs.Mask as set;
 ghost use Rattle.ae_cover.specs.FirstClash as spec;
-ghost use Rattle.ae_cover.specs.LeastClash.{IsLeastIn, InBlock, InRow, marked, ones_at, of_pair, is_before, lesser};
-ghost use Rattle.ae_cover.specs.Cover.{is_one, is_zero};
+ghost use Rattle.ae_cover.specs.LeastClash.{IsLeastIn, InBlock, InRow, is_mark, marked, ones_at, of_pair, is_before, lesser};
 
 use crate::cover::{Cover, PLA_ROWS};
 use crate::parts::{Clash, Kind, Mark, Row};
@@ -12,48 +11,21 @@ use ae_base::{Cube, Mask, WIDTH};
 /// So many rows for ON are compared with each row for OFF at a time: the marks of a row are read once for so many pairs.
 const BLOCK: usize = 256;
 
-fn is_one(mark: Mark) -> bool
-    ensures { result ≡ is_one mark }
+fn is_mark(wanted: Mark, mark: Mark) -> bool
+    ensures { result ≡ is_mark wanted mark }
 {
-    match mark {
-        Mark::One => true,
-        _ => false,
-    }
+    mark == wanted
 }
 
-fn is_zero(mark: Mark) -> bool
-    ensures { result ≡ is_zero mark }
-{
-    match mark {
-        Mark::Zero => true,
-        _ => false,
-    }
-}
-
-/// The outputs below `limit` at which the row has `One`.
-fn ones(limit: u32, row: &Row) -> Mask
+/// The outputs below `limit` at which the row has this mark.
+fn outputs_with(mark: Mark, limit: u32, row: &Row) -> Mask
     requires marks { limit ≤ length row.now.outs }
     requires few { limit ≤ WIDTH }
-    ensures { result ≡ marked is_one limit row.now }
+    ensures { result ≡ marked (is_mark mark) limit row.now }
 {
     let mut found = Mask::empty();
     for output in 0..limit {
-        if is_one(*row.outs.at(output as usize)) {
-            found = found.with(output);
-        }
-    }
-    found
-}
-
-/// The outputs below `limit` at which the row has `Zero`.
-fn zeros(limit: u32, row: &Row) -> Mask
-    requires marks { limit ≤ length row.now.outs }
-    requires few { limit ≤ WIDTH }
-    ensures { result ≡ marked is_zero limit row.now }
-{
-    let mut found = Mask::empty();
-    for output in 0..limit {
-        if is_zero(*row.outs.at(output as usize)) {
+        if is_mark(mark, *row.outs.at(output as usize)) {
             found = found.with(output);
         }
     }
@@ -110,28 +82,30 @@ fn union(sets: &[Mask]) -> Mask
     all
 }
 
-/// The least clash of the row for OFF at `off_row`, with `Zero` at the outputs `zeros`, and the rows for ON of a block. All outputs at which these have `One` are in `any`.
+/// The least clash of the row for OFF at `off_row` and the rows for ON of a block, which have `One` at these outputs, and at no others than
+/// those in `any`.
 fn of_row(
     rows: &[Row],
     start: usize,
     limit: u32,
     ones: &[Mask],
     any: Mask,
-    zeros: Mask,
     off_row: usize,
 ) -> Option<Clash>
     requires few { length rows.now ≤ PLA_ROWS }
     requires block { start + length ones.now ≤ length rows.now }
     requires off { off_row < length rows.now }
+    requires marks { All (λ row. limit ≤ length row.outs) rows.now }
+    requires width { limit ≤ WIDTH }
     requires ones { (k : ℕ) → k < length ones.now → slice_index ones.now k ≡ ones_at rows.now limit (start + k) }
     requires any { (k o : ℕ) → k < length ones.now → set.has (slice_index ones.now k) o ≡ true → set.has any o ≡ true }
-    requires zeros { (off : Row) → slice_get rows.now off_row ≡ Some off → zeros ≡ marked is_zero limit off }
     ensures { IsLeastIn rows.now (InRow start (start + length ones.now) limit off_row) result }
 {
+    let off = &rows[off_row];
+    let zeros = outputs_with(Mark::Zero, limit, off);
     if any.both(zeros).is_empty() {
         return None;
     }
-    let off = rows[off_row].cube;
     let mut best = None;
     for (k, outputs) in ones.iter().enumerate() {
         let on_row = start + k;
@@ -139,7 +113,7 @@ fn of_row(
             *outputs,
             zeros,
             rows[on_row].cube,
-            off,
+            off.cube,
             on_row as u32,
             off_row as u32,
         );
@@ -156,7 +130,7 @@ fn keep_ones(rows: &[Row], start: usize, limit: u32, kept: &mut [Mask])
     ensures { (k : ℕ) → k < length kept.new → slice_index kept.new k ≡ ones_at rows.now limit (start + k) }
 {
     for (k, outputs) in kept.iter_mut().enumerate() {
-        *outputs = ones(limit, &rows[start + k]);
+        *outputs = outputs_with(Mark::One, limit, &rows[start + k]);
     }
 }
 
@@ -171,9 +145,8 @@ fn of_block(rows: &[Row], start: usize, limit: u32, kept: &mut [Mask]) -> Option
     keep_ones(rows, start, limit, kept);
     let any = union(kept);
     let mut best = None;
-    for (off_row, off) in rows.iter().enumerate() {
-        let found = of_row(rows, start, limit, kept, any, zeros(limit, off), off_row);
-        best = lesser(best, found);
+    for off_row in 0..rows.len() {
+        best = lesser(best, of_row(rows, start, limit, kept, any, off_row));
     }
     best
 }

@@ -9,9 +9,9 @@ loop-off_row-preserved c =
     let rows = c.args.rows.now in
     let stop = c.args.start + length c.args.kept.now in
     let kept : length c.keep_ones.new.kept ≡ length c.args.kept.now = omega arith in
-    let Found : ℕ → Type 0 = λ n. IsLeastIn rows (InRow c.args.start (c.args.start + n) c.args.limit c.loop-off_row.off_row) c.of_row-found.result in
+    let Found : ℕ → Type 0 = λ n. IsLeastIn rows (InRow c.args.start (c.args.start + n) c.args.limit c.loop-off_row.off_row) c.of_row.result in
     let Best : Option Clash → Type 0 = IsLeastIn rows (InRows c.args.start stop c.args.limit (c.loop-off_row.off_row + 1)) in
-    subst Best (sym c.lesser-best.ensures) (row_more rows c.args.start stop c.args.limit c.loop-off_row.off_row c.loop-off_row.best c.of_row-found.result (subst Found kept c.of_row-found.ensures) c.loop-off_row.invariant)
+    subst Best (sym c.lesser-best.ensures) (row_more rows c.args.start stop c.args.limit c.loop-off_row.off_row c.loop-off_row.best c.of_row.result (subst Found kept c.of_row.ensures) c.loop-off_row.invariant)
 
 pub returns : goal.returns
 returns c =

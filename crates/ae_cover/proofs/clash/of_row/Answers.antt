@@ -16,10 +16,10 @@ loop-k-preserved c =
     let off_there : slice_get rows c.args.off_row ≡ Some off = slice_get_read rows (length rows) c.args.off_row off refl c.requires.off c.index-rows-off_row.is in
     let kept_there = slice_get_read c.args.ones.now (length c.args.ones.now) c.loop-k.k c.index-ones-k.result refl c.loop-k-test.true c.index-ones-k.is in
     let with_one : c.index-ones-k.result ≡ ones_at rows c.args.limit place = sym (get_or_from_slice_get c.args.ones.now c.loop-k.k c.index-ones-k.result 0 kept_there) ∙ c.requires.ones c.loop-k.k c.loop-k-test.true in
-    let found_is : c.of_pair-found.result ≡ of_pair c.index-ones-k.result c.args.zeros on.cube off.cube place c.args.off_row = cc in
+    let found_is : c.of_pair-found.result ≡ of_pair c.index-ones-k.result c.outputs_with-zeros.result on.cube off.cube place c.args.off_row = cc in
     let P : Option Clash → Type 0 = IsLeastIn rows (InRow c.args.start (c.args.start + (c.loop-k.k + 1)) c.args.limit c.args.off_row) in
     subst P (sym c.lesser-best.ensures)
-    (one_more rows c.args.start c.args.limit c.loop-k.k c.args.off_row c.loop-k.best c.of_pair-found.result c.index-ones-k.result c.args.zeros on off on_there off_there with_one (c.requires.zeros off off_there) found_is c.loop-k.invariant)
+    (one_more rows c.args.start c.args.limit c.loop-k.k c.args.off_row c.loop-k.best c.of_pair-found.result c.index-ones-k.result c.outputs_with-zeros.result on off on_there off_there with_one c.outputs_with-zeros.ensures found_is c.loop-k.invariant)
 
 pub returns : goal.returns
 returns c =
@@ -29,5 +29,8 @@ returns c =
 
 pub returns-then-is_empty : goal.returns-then-is_empty
 returns-then-is_empty c =
-    let none : len (both c.args.any c.args.zeros) ≡ 0 = ap len (sym c.both.ensures) ∙ eqb-true (len c.both.result) 0 (sym c.is_empty.ensures.len ∙ c.if-is_empty.true) in
-    none_shared c.args.rows.now c.args.start c.args.limit c.args.off_row c.args.ones.now c.args.any c.args.zeros c.requires.ones c.requires.any c.requires.zeros none
+    let rows = c.args.rows.now in
+    let off = c.index-rows-off_row.result in
+    let off_there : slice_get rows c.args.off_row ≡ Some off = slice_get_read rows (length rows) c.args.off_row off refl c.requires.off c.index-rows-off_row.is in
+    let none : len (both c.args.any c.outputs_with-zeros.result) ≡ 0 = ap len (sym c.both.ensures) ∙ eqb-true (len c.both.result) 0 (sym c.is_empty.ensures.len ∙ c.if-is_empty.true) in
+    none_shared rows c.args.start c.args.limit c.args.off_row c.args.ones.now c.args.any c.outputs_with-zeros.result off c.requires.ones c.requires.any off_there c.outputs_with-zeros.ensures none
