@@ -1,9 +1,8 @@
 -- Drafting line by line.
 use Rattle.std.proofs.Common.{◌≡◌, ℕ, zero, suc, ◌+◌, ◌<◌, ◌≤◌, Bool, true, false, cond, List, [], ◌∷◌, ◌++◌, length, get_or, drop, map, Option, Some, None, refl, sym, ap, ap₂, ◌∙◌, arith}
 use Rattle.std.specs.List.{AllByRecursion}
-use Rattle.std.proofs.lemmas.List.{append-nil, append_assoc, get_or_default, get_or_read, get_or-map, length-map, drop-map, drop_more, drop_all}
-use Rattle.ae_lex.specs.declared.text.Line.{Line}
-use Rattle.ae_lex.specs.Words.{WordLine, cut_line}
+use Rattle.std.proofs.lemmas.List.{append-nil, append_assoc, get_or_read, drop_more, drop_all}
+use Rattle.ae_lex.specs.Words.{WordLine}
 use Rattle.blif_read.specs.declared.fault.BlifErr.{BlifErr}
 use Rattle.blif_read.specs.declared.fault.BlifErr.TheVariants as errors
 use Rattle.blif_read.specs.declared.draft.Draft.{Draft}
@@ -13,7 +12,7 @@ use Rattle.blif_read.specs.Placing.{Unplaced}
 use Rattle.ae_net.specs.Named.{place_of}
 use Rattle.blif_read.specs.Says.{cover_of, covers}
 use Rattle.blif_read.specs.Step.{IsFaultAt}
-use Rattle.blif_read.specs.Build.{rows_of, line_at, drafted, drafts_of, undefined, undefined_if, cover_front, cover_at, draft_at, built, built_at, reads_unknown, first_line}
+use Rattle.blif_read.specs.Build.{rows_of, drafted, drafts_of, undefined, undefined_if, cover_front, cover_at, draft_at, built, built_at, reads_unknown, first_line}
 
 -- ---- the first line that passes a test
 
@@ -46,26 +45,18 @@ pub record IsDrafted (known : List (List ℕ)) (all : List WordLine) (k : ℕ) (
 pub drafts_start : (known : List (List ℕ)) (all : List WordLine) (drafts : List Draft) → drafts ≡ [] → IsDrafted known all 0 drafts
 drafts_start known all drafts e = record { so_far = ap (λ (ds : List Draft). ds ++ drafts_of known 0 all) e; first = refl }
 
-line_here : (all : List WordLine) (k : ℕ) → k < length all → get_or all k (line_at all k) ≡ line_at all k
-line_here all k lt = get_or_default all k (line_at all k) (record { number = 0; words = [] }) lt
-
-pub drafts_more : (known : List (List ℕ)) (all : List WordLine) (k : ℕ) (old new : List Draft) → IsDrafted known all k old → k < length all
-    → (reads_unknown known (said (line_at all k).words) ≡ false) × (new ≡ old ++ drafted known k (said (line_at all k).words)) → IsDrafted known all (k + 1) new
-drafts_more known all k old new d lt h =
-    let line = line_at all k in
-    let here : drop k all ≡ line ∷ drop (k + 1) all = drop_more all k (record { number = 0; words = [] }) lt in
+pub drafts_more : (known : List (List ℕ)) (all : List WordLine) (k : ℕ) (line : WordLine) (old new : List Draft) → IsDrafted known all k old → k < length all → get_or all k line ≡ line
+    → (reads_unknown known (said line.words) ≡ false) × (new ≡ old ++ drafted known k (said line.words)) → IsDrafted known all (k + 1) new
+drafts_more known all k line old new d lt e h =
+    let here : drop k all ≡ line ∷ drop (k + 1) all = drop_more all k line lt ∙ ap (λ (l : WordLine). l ∷ drop (k + 1) all) e in
     let one : suc k ≡ k + 1 = omega arith in
     record {
       so_far = ap (λ (ds : List Draft). ds ++ drafts_of known (k + 1) (drop (k + 1) all)) h.1
           ∙ append_assoc old (drafted known k (said line.words)) (drafts_of known (k + 1) (drop (k + 1) all))
           ∙ ap (λ n. old ++ (drafted known k (said line.words) ++ drafts_of known n (drop (k + 1) all))) (sym one)
           ∙ ap (λ (ls : List WordLine). old ++ drafts_of known k ls) (sym here) ∙ d.so_far;
-      first = first_more (reads_unknown known) all k line lt (line_here all k lt) h.0 d.first;
+      first = first_more (reads_unknown known) all k line lt e h.0 d.first;
     }
-
-pub drafts_err : (known : List (List ℕ)) (all : List WordLine) (k : ℕ) (old : List Draft) (e : BlifErr) → IsDrafted known all k old → k < length all
-    → IsFaultAt (undefined_if (reads_unknown known (said (line_at all k).words)) (line_at all k).number) e → IsFaultAt (undefined (first_line (reads_unknown known) all)) e
-drafts_err known all k old e d lt h = first_err (reads_unknown known) all k (line_at all k) e lt (line_here all k lt) d.first h
 
 pub drafts_end : (known : List (List ℕ)) (all : List WordLine) (k : ℕ) (drafts : List Draft) → IsDrafted known all k drafts → length all ≤ k → (first_line (reads_unknown known) all ≡ None) × (drafts ≡ drafts_of known 0 all)
 drafts_end known all k drafts d le = (
@@ -131,24 +122,19 @@ drafts_are known all = of_rest known all all 0 refl
 pub cover_number : (all : List WordLine) (k : ℕ) (d : WordLine) → k < length all → (cover_at all k).number ≡ (get_or all k d).number
 cover_number all k d lt = ap (λ (ls : List WordLine). (cover_front ls).number) (drop_more all k d lt)
 
-pub line_number : (bytes : List ℕ) (lines : List Line) (drafts : List Draft) (place : ℕ) (draft : Draft) (line : Line) → place < length drafts → draft ≡ get_or drafts place draft → draft.line < length lines
-    → (get_or lines draft.line line).number ≡ (cover_at (map (cut_line bytes) lines) (draft_at drafts place).line).number
-line_number bytes lines drafts place draft line lt is in' =
-    let cut = cut_line bytes in
+pub line_number : (lines : List WordLine) (drafts : List Draft) (place : ℕ) (draft : Draft) (line : WordLine) → place < length drafts → draft ≡ get_or drafts place draft → line ≡ get_or lines draft.line line → draft.line < length lines
+    → line.number ≡ (cover_at lines (draft_at drafts place).line).number
+line_number lines drafts place draft line lt is there in' =
     let at : draft ≡ draft_at drafts place = get_or_read drafts place draft lt is (record { line = 0; pins = [] }) in
-    let there : draft.line < length (map cut lines) = omega (arith, length-map lines cut) in
-    ap (λ (l : WordLine). l.number) (sym (get_or-map cut lines draft.line line (cut line) in')) ∙ sym (cover_number (map cut lines) draft.line (cut line) there)
-    ∙ ap (λ (d : Draft). (cover_at (map cut lines) d.line).number) at
+    ap (λ (l : WordLine). l.number) there ∙ sym (cover_number lines draft.line line in') ∙ ap (λ (d : Draft). (cover_at lines d.line).number) at
 
-pub built_is : (bytes : List ℕ) (lines after : List Line) (names : List (List ℕ)) (drafts : List Draft) (n : ℕ) (ranks : List (Option ℕ)) (place : ℕ) (draft : Draft) (name signals : List ℕ) (inputs : ℕ)
+pub built_is : (lines after : List WordLine) (names : List (List ℕ)) (drafts : List Draft) (n : ℕ) (ranks : List (Option ℕ)) (place : ℕ) (draft : Draft) (name signals : List ℕ) (inputs : ℕ)
     → place < length drafts → draft ≡ get_or drafts place draft → after ≡ drop (draft.line + 1) lines → name ≡ get_or names place [] → signals ≡ draft.pins → inputs ≡ n
-    → built (rows_of (map (cut_line bytes) after)) name signals inputs ranks ≡ built_at (map (cut_line bytes) lines) names drafts n ranks place
-built_is bytes lines after names drafts n ranks place draft name signals inputs lt is a e f g =
-    let cut = cut_line bytes in
+    → built (rows_of after) name signals inputs ranks ≡ built_at lines names drafts n ranks place
+built_is lines after names drafts n ranks place draft name signals inputs lt is a e f g =
     let at : draft ≡ draft_at drafts place = get_or_read drafts place draft lt is (record { line = 0; pins = [] }) in
-    ap (λ (ls : List Line). built (rows_of (map cut ls)) name signals inputs ranks) a
-    ∙ ap (λ (w : List ℕ). built (rows_of (map cut (drop (draft.line + 1) lines))) w signals inputs ranks) e
-    ∙ ap (λ (ss : List ℕ). built (rows_of (map cut (drop (draft.line + 1) lines))) (get_or names place []) ss inputs ranks) f
-    ∙ ap (λ m. built (rows_of (map cut (drop (draft.line + 1) lines))) (get_or names place []) draft.pins m ranks) g
-    ∙ ap (λ (ls : List WordLine). built (rows_of ls) (get_or names place []) draft.pins n ranks) (sym (drop-map cut (draft.line + 1) lines))
-    ∙ ap (λ (d : Draft). built (rows_of (drop (d.line + 1) (map cut lines))) (get_or names place []) d.pins n ranks) at
+    ap (λ (ls : List WordLine). built (rows_of ls) name signals inputs ranks) a
+    ∙ ap (λ (w : List ℕ). built (rows_of (drop (draft.line + 1) lines)) w signals inputs ranks) e
+    ∙ ap (λ (ss : List ℕ). built (rows_of (drop (draft.line + 1) lines)) (get_or names place []) ss inputs ranks) f
+    ∙ ap (λ m. built (rows_of (drop (draft.line + 1) lines)) (get_or names place []) draft.pins m ranks) g
+    ∙ ap (λ (d : Draft). built (rows_of (drop (d.line + 1) lines)) (get_or names place []) d.pins n ranks) at

@@ -1,8 +1,7 @@
 -- Reading line by line.
-use Rattle.std.proofs.Common.{◌≡◌, ℕ, ◌+◌, ◌<◌, ◌≤◌, List, [], ◌∷◌, ◌++◌, length, get_or, take, drop, map, Some, None, refl, sym, ap, ◌∙◌, arith}
-use Rattle.std.proofs.lemmas.List.{drop_more, take_more, drop_all, take_all, map-append, length-map, get_or-map}
-use Rattle.ae_lex.specs.declared.text.Line.{Line}
-use Rattle.ae_lex.specs.Words.{WordLine, cut_line}
+use Rattle.std.proofs.Common.{◌≡◌, ℕ, ◌+◌, ◌<◌, ◌≤◌, List, [], ◌∷◌, ◌++◌, length, get_or, take, drop, Some, None, refl, sym, ap, ◌∙◌}
+use Rattle.std.proofs.lemmas.List.{drop_more, take_more, drop_all, take_all, map-append}
+use Rattle.ae_lex.specs.Words.{WordLine}
 use Rattle.blif_read.specs.declared.fault.NetLimits.{NetLimits}
 use Rattle.blif_read.specs.declared.fault.BlifFault.{BlifFault}
 use Rattle.blif_read.specs.declared.fault.BlifErr.{BlifErr}
@@ -12,10 +11,6 @@ use Rattle.blif_read.specs.Statement.{Said, said}
 use Rattle.blif_read.specs.Faults.{line_fault, first_fault}
 use Rattle.blif_read.specs.Step.{seen_by, says_of, line_fault_in, with_line, at_line, IsFaultAt}
 use Rattle.blif_read.proofs.Steps.{fault_same, seen_push}
-
--- a line of the text, cut into words
-pub cut_at : (bytes : List ℕ) (lines : List Line) (k : ℕ) (line : Line) → k < length lines → line ≡ get_or lines k line → get_or (map (cut_line bytes) lines) k (cut_line bytes line) ≡ cut_line bytes line
-cut_at bytes lines k line lt e = get_or-map (cut_line bytes) lines k line (cut_line bytes line) lt ∙ ap (cut_line bytes) (sym e)
 
 pub says_more : (all : List WordLine) (k : ℕ) (line : WordLine) → k < length all → get_or all k line ≡ line → says_of (take (k + 1) all) ≡ says_of (take k all) ++ said line.words ∷ []
 says_more all k line lt e =
@@ -72,19 +67,8 @@ at_end limits all k seen at le = (
 pub at_start : (limits : NetLimits) (all : List WordLine) (seen : Seen) → seen ≡ seen_by [] → IsAt limits all 0 seen
 at_start limits all seen e = record { seen_is = e; fault = refl }
 
--- the line at k of a text, and the step over it
-pub line_more : (limits : NetLimits) (bytes : List ℕ) (lines : List Line) (k : ℕ) (line : Line) (seen next : Seen) → IsAt limits (map (cut_line bytes) lines) k seen → k < length lines → line ≡ get_or lines k line
-    → (line_fault_in limits seen (said (cut_line bytes line).words) ≡ None) × (next ≡ with_line seen (said (cut_line bytes line).words)) → IsAt limits (map (cut_line bytes) lines) (k + 1) next
-line_more limits bytes lines k line seen next at lt e h =
-    let all = map (cut_line bytes) lines in
-    let in' : k < length all = omega (arith, length-map lines (cut_line bytes)) in
-    at_more limits all k seen next (cut_line bytes line) at in' (cut_at bytes lines k line lt e) h.0 h.1
-
 -- an error of the line at k is the answer for all
-pub line_err : (limits : NetLimits) (bytes : List ℕ) (lines : List Line) (k : ℕ) (line : Line) (seen : Seen) (e : BlifErr) → IsAt limits (map (cut_line bytes) lines) k seen → k < length lines → line ≡ get_or lines k line
-    → IsFaultAt (at_line line.number (line_fault_in limits seen (said (cut_line bytes line).words))) e → IsFaultAt (first_fault limits [] (map (cut_line bytes) lines)) e
-line_err limits bytes lines k line seen (errors.At n f) at lt e h =
-    let all = map (cut_line bytes) lines in
-    let in' : k < length all = omega (arith, length-map lines (cut_line bytes)) in
-    at_fault limits all k seen (cut_line bytes line) n f at in' (cut_at bytes lines k line lt e) h
-line_err limits bytes lines k line seen errors.Memory at lt e h = tt
+pub line_err : (limits : NetLimits) (all : List WordLine) (k : ℕ) (line : WordLine) (seen : Seen) (e : BlifErr) → IsAt limits all k seen → k < length all → get_or all k line ≡ line
+    → IsFaultAt (at_line line.number (line_fault_in limits seen (said line.words))) e → IsFaultAt (first_fault limits [] all) e
+line_err limits all k line seen (errors.At n f) at lt e h = at_fault limits all k seen line n f at lt e h
+line_err limits all k line seen errors.Memory at lt e h = tt

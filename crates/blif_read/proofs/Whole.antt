@@ -10,8 +10,7 @@ use Rattle.std.proofs.lemmas.List.Elements.{All-append, All-weaker, All-from_rec
 use Rattle.ae_base.specs.Cube.{Product}
 use Rattle.ae_base.specs.Name.{is_name}
 use Rattle.ae_base.specs.declared.limits.TheConstants.{PINS}
-use Rattle.ae_lex.specs.declared.text.Style.TheVariants.{Blif}
-use Rattle.ae_lex.specs.Words.{WordLine, word_lines, last_line}
+use Rattle.ae_lex.specs.Words.{WordLine}
 use Rattle.ae_net.specs.declared.net.Gate.{Gate}
 use Rattle.ae_net.specs.Network.{Network}
 use Rattle.ae_net.specs.Valid.{IsDistinct, IsValid}
@@ -26,7 +25,7 @@ use Rattle.blif_read.specs.Statement.{Said}
 use Rattle.blif_read.specs.Earlier.{inputs_of, outputs_of, driven_of, model_words}
 use Rattle.blif_read.specs.Placing.{Unplaced, outs, placed}
 use Rattle.ae_net.specs.Named.{net_of, place_of}
-use Rattle.blif_read.specs.Says.{covers, row_cube, is_on, named, model_of, lines_say, blif_says, unless_faulty}
+use Rattle.blif_read.specs.Says.{covers, row_cube, is_on, named, model_of, lines_say, unless_faulty}
 use Rattle.blif_read.proofs.Nets.{gate_in, net_in, net_named}
 use Rattle.blif_read.specs.Faults.{first_fault}
 use Rattle.blif_read.specs.Gives.{Gives}
@@ -419,14 +418,6 @@ placed_said last lines seen drafts h =
 
 -- ---- the text
 
-pub text_fault : (limits : NetLimits) (bytes : List ℕ) (lines : List WordLine) (e : BlifErr) → lines ≡ word_lines Blif bytes → IsFaultAt (first_fault limits [] lines) e → Gives (blif_says limits bytes) (Err e)
-unfolding blif_says
-text_fault limits bytes lines (errors.At n f) is found =
-    ap (λ (o : Option (ℕ × BlifFault)). unless_faulty o (lines_say (last_line bytes) (word_lines Blif bytes))) (ap (first_fault limits []) (sym is) ∙ found)
-text_fault limits bytes lines errors.Memory is found = tt
-
-pub text_says : (limits : NetLimits) (bytes : List ℕ) (lines : List WordLine) (last : ℕ) → lines ≡ word_lines Blif bytes → last ≡ last_line bytes → first_fault limits [] lines ≡ None → blif_says limits bytes ≡ lines_say last lines
-unfolding blif_says
-text_says limits bytes lines last is same none =
-    ap (λ (o : Option (ℕ × BlifFault)). unless_faulty o (lines_say (last_line bytes) (word_lines Blif bytes))) (ap (first_fault limits []) (sym is) ∙ none)
-    ∙ ap₂ (λ (n : ℕ) (ls : List WordLine). lines_say n ls) (sym same) (sym is)
+pub text_fault : (limits : NetLimits) (last : ℕ) (lines : List WordLine) (e : BlifErr) → IsFaultAt (first_fault limits [] lines) e → Gives (unless_faulty (first_fault limits [] lines) (lines_say last lines)) (Err e)
+text_fault limits last lines (errors.At n f) found = ap (λ (o : Option (ℕ × BlifFault)). unless_faulty o (lines_say last lines)) found
+text_fault limits last lines errors.Memory found = tt

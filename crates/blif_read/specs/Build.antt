@@ -45,10 +45,6 @@ abbrev pub is_outputs : Said → Bool
 is_outputs (Outputs ws) = true
 is_outputs _ = false
 
--- the line at a place
-abbrev pub line_at : List WordLine → ℕ → WordLine
-line_at lines k = slice_index_or lines k (record { number = 0; words = [] })
-
 -- a `.names` with a pin that is none of the known names
 abbrev pub reads_unknown : List (List ℕ) → Said → Bool
 reads_unknown known (Names ws) = some_unknown known (pin_names ws)

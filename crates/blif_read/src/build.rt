@@ -1,18 +1,15 @@
 //! Gates from their lines.
 ghost use Rattle.std.specs.Prelude.{◌≡◌, ℕ, ◌+◌, ◌<◌, ◌≤◌, ◌==◌, ◌^◌, length, map, drop, All, None, Some, option_map, slice_index, slice_index_or, IfOk, OnOk};
 ghost use Rattle.ae_base.specs.Mask.{where_below};
-ghost use Rattle.ae_lex.specs.Lines.{IsInside};
-ghost use Rattle.ae_lex.specs.Words.{cut_line};
 ghost use Rattle.blif_read.specs.Statement as statement;
 ghost use Rattle.blif_read.specs.Says as says;
 ghost use Rattle.blif_read.specs.Build as spec;
-ghost use Rattle.ae_lex.specs.Slices.{texts};
 
 use crate::draft::Draft;
 use crate::head::Head;
 use crate::statement::{head_of, joined, row_end};
 use ae_base::{Cube, Mask, Memory, Name, PINS, Seq};
-use ae_lex::{Line, words_of};
+use ae_lex::WordLine;
 use ae_net::{Gate, Pins};
 use std::alloc::Global;
 
@@ -50,12 +47,12 @@ fn row_cube(pins: u32, chars: &[u8]) -> Cube
     }
 }
 
-/// The characters of the words of a line, if it is a row.
+/// The characters of a line, if it is a row.
 #[tactic(auto, unfolding(crate::specs::Statement::head_of))]
-fn row_chars(alloc: Global, words: &[&[u8]]) -> Result<Option<Seq<u8>>, Memory>
-    ensures { IfOk result (λ found. found ≡ spec.row_chars (statement.said (texts words.now))) }
+fn row_chars(alloc: Global, line: &WordLine<'_>) -> Result<Option<Seq<u8>>, Memory>
+    ensures { IfOk result (λ found. found ≡ spec.row_chars (statement.said line.now.words)) }
 {
-    match words {
+    match line.words() {
         [] => Ok(None),
         [first, others @ ..] => {
             if head_of(first) == Head::Row {
@@ -67,24 +64,14 @@ fn row_chars(alloc: Global, words: &[&[u8]]) -> Result<Option<Seq<u8>>, Memory>
     }
 }
 
-/// The characters of a line, if it is a row.
-fn row_of_line(alloc: Global, bytes: &[u8], line: &Line) -> Result<Option<Seq<u8>>, Memory>
-    requires { All (IsInside bytes.now) line.now.words }
-    ensures { IfOk result (λ found. found ≡ spec.row_chars (statement.said (cut_line bytes.now line.now).words)) }
-{
-    let words = words_of(alloc, bytes, line)?;
-    row_chars(alloc, words.as_slice())
-}
-
 /// The rows at the front of lines, over so many pins.
-fn rows_at(alloc: Global, bytes: &[u8], lines: &[Line], pins: u32) -> Result<Seq<Cube>, Memory>
-    requires few { pins ≤ PINS }
-    requires inside { All (λ line. All (IsInside bytes.now) line.words) lines.now }
-    ensures { IfOk result (λ rows. rows ≡ map (says.row_cube pins) (spec.rows_of (map (cut_line bytes.now) lines.now))) }
+fn rows_at(alloc: Global, lines: &[WordLine<'_>], pins: u32) -> Result<Seq<Cube>, Memory>
+    requires { pins ≤ PINS }
+    ensures { IfOk result (λ rows. rows ≡ map (says.row_cube pins) (spec.rows_of lines.now)) }
 {
     let mut rows = Seq::new(alloc);
     for line in lines {
-        match row_of_line(alloc, bytes, line)? {
+        match row_chars(alloc, line)? {
             Some(chars) => rows.push(row_cube(pins, chars.as_slice()))?,
             None => return Ok(rows),
         }
@@ -93,14 +80,13 @@ fn rows_at(alloc: Global, bytes: &[u8], lines: &[Line], pins: u32) -> Result<Seq
 }
 
 /// Whether the rows at the front of lines end with 1, or there is none.
-fn is_on(alloc: Global, bytes: &[u8], lines: &[Line]) -> Result<bool, Memory>
-    requires { All (λ line. All (IsInside bytes.now) line.words) lines.now }
-    ensures { IfOk result (λ on. on ≡ says.is_on (spec.rows_of (map (cut_line bytes.now) lines.now))) }
+fn is_on(alloc: Global, lines: &[WordLine<'_>]) -> Result<bool, Memory>
+    ensures { IfOk result (λ on. on ≡ says.is_on (spec.rows_of lines.now)) }
 {
     if lines.is_empty() {
         return Ok(true);
     }
-    match row_of_line(alloc, bytes, &lines[0])? {
+    match row_chars(alloc, &lines[0])? {
         Some(chars) => Ok(row_end(chars.as_slice()) == b'1'),
         None => Ok(true),
     }
@@ -143,24 +129,22 @@ fn renumbered_pins(
 /// The gate of a draft, with the lines after its `.names`.
 pub fn gate_of(
     alloc: Global,
-    bytes: &[u8],
-    after: &[Line],
+    after: &[WordLine<'_>],
     name: &Name,
     signals: &[u32],
     inputs: u32,
     ranks: &[Option<u32>],
 ) -> Result<Gate, Memory>
     requires few { length signals.now ≤ PINS }
-    requires inside { All (λ line. All (IsInside bytes.now) line.words) after.now }
     requires known { All (λ s. s < inputs + length ranks.now) signals.now }
     requires short { inputs + length ranks.now < 2 ^ 32 }
     requires ranked { All (spec.IsRankBelow (length ranks.now)) ranks.now }
-    ensures { IfOk result (λ gate. gate ≡ spec.built (spec.rows_of (map (cut_line bytes.now) after.now)) name.now signals.now inputs ranks.now) }
+    ensures { IfOk result (λ gate. gate ≡ spec.built (spec.rows_of after.now) name.now signals.now inputs ranks.now) }
 {
     Ok(Gate {
         out: name.copy(alloc)?,
         pins: renumbered_pins(alloc, inputs, ranks, signals)?,
-        rows: rows_at(alloc, bytes, after, signals.len() as u32)?,
-        on: is_on(alloc, bytes, after)?,
+        rows: rows_at(alloc, after, signals.len() as u32)?,
+        on: is_on(alloc, after)?,
     })
 }

@@ -1,8 +1,6 @@
 //! The gates of a text by their lines.
 ghost use Rattle.std.specs.Prelude.{◌≡◌, ◌++◌, ◌+◌, ◌<◌, ◌^◌, length, map, All, [], false, true, MatchOption, IfOk, IfSome};
 ghost use Rattle.ae_base.specs.Name.{is_name};
-ghost use Rattle.ae_lex.specs.Lines.{IsInside};
-ghost use Rattle.ae_lex.specs.Words.{cut_line};
 ghost use Rattle.blif_read.specs.Statement as statement;
 ghost use Rattle.blif_read.specs.Step.{IsFaultAt};
 ghost use Rattle.blif_read.specs.Build as spec;
@@ -13,7 +11,7 @@ use crate::head::Head;
 use crate::statement::head_of;
 use crate::table::NameTable;
 use ae_base::{Memory, Name, Seq};
-use ae_lex::{Line, words_of};
+use ae_lex::WordLine;
 use std::alloc::Global;
 
 /// A gate before all are placed: the place of its `.names` among the lines, and the signals of its pins in file order.
@@ -121,11 +119,11 @@ fn pin_words<'a, 'b>(words: &'a [&'b [u8]]) -> &'a [&'b [u8]]
 }
 
 /// A name of this line is undefined.
-fn undefined_at(line: &Line) -> BlifErr
+fn undefined_at(line: &WordLine<'_>) -> BlifErr
     ensures { IsFaultAt (spec.undefined_if true line.now.number) result }
 {
     BlifErr::At {
-        line: line.number,
+        line: line.number(),
         what: BlifFault::Undefined,
     }
 }
@@ -133,21 +131,16 @@ fn undefined_at(line: &Line) -> BlifErr
 /// Drafts the gate of the line at a place, if that is a `.names`.
 fn draft_line(
     alloc: Global,
-    bytes: &[u8],
-    lines: &[Line],
     place: usize,
+    line: &WordLine<'_>,
     inputs: &NameTable,
     driven: &NameTable,
     drafts: &mut Seq<Draft>,
 ) -> Result<(), BlifErr>
-    requires within { place < length lines.now }
-    requires inside { All (λ line. All (IsInside bytes.now) line.words) lines.now }
-    requires signals { spec.AreSignals (inputs.now ++ driven.now) }
-    ensures { spec.Drafts (inputs.now ++ driven.now) place (spec.line_at (map (cut_line bytes.now) lines.now) place) drafts.old result drafts.new }
+    requires { spec.AreSignals (inputs.now ++ driven.now) }
+    ensures { spec.Drafts (inputs.now ++ driven.now) place line.now drafts.old result drafts.new }
 {
-    let line = &lines[place];
-    let words = words_of(alloc, bytes, line)?;
-    let Some(names) = names_of(words.as_slice()) else {
+    let Some(names) = names_of(line.words()) else {
         return Ok(());
     };
     match signals_of(alloc, inputs, driven, pin_words(names))? {
@@ -162,17 +155,14 @@ fn draft_line(
 /// Checks that the names of a line are signals, if it is an `.outputs`.
 fn check_line(
     alloc: Global,
-    bytes: &[u8],
-    line: &Line,
+    line: &WordLine<'_>,
     inputs: &NameTable,
     driven: &NameTable,
 ) -> Result<(), BlifErr>
-    requires inside { All (IsInside bytes.now) line.now.words }
-    requires signals { spec.AreSignals (inputs.now ++ driven.now) }
-    ensures { spec.Shows (inputs.now ++ driven.now) (cut_line bytes.now line.now) result }
+    requires { spec.AreSignals (inputs.now ++ driven.now) }
+    ensures { spec.Shows (inputs.now ++ driven.now) line.now result }
 {
-    let words = words_of(alloc, bytes, line)?;
-    let Some(names) = outputs_of(words.as_slice()) else {
+    let Some(names) = outputs_of(line.words()) else {
         return Ok(());
     };
     match signals_of(alloc, inputs, driven, names)? {
@@ -184,19 +174,17 @@ fn check_line(
 /// Drafts the gates of all lines, or answers the first that reads a name which nothing defines.
 pub fn draft_gates(
     alloc: Global,
-    bytes: &[u8],
-    lines: &[Line],
+    lines: &[WordLine<'_>],
     inputs: &NameTable,
     driven: &NameTable,
     drafts: &mut Seq<Draft>,
 ) -> Result<(), BlifErr>
-    requires inside { All (λ line. All (IsInside bytes.now) line.words) lines.now }
     requires signals { spec.AreSignals (inputs.now ++ driven.now) }
     requires none { drafts.old ≡ [] }
-    ensures { spec.DraftsAll (inputs.now ++ driven.now) (map (cut_line bytes.now) lines.now) result drafts.new }
+    ensures { spec.DraftsAll (inputs.now ++ driven.now) lines.now result drafts.new }
 {
-    for place in 0..lines.len() {
-        draft_line(alloc, bytes, lines, place, inputs, driven, drafts)?;
+    for (place, line) in lines.iter().enumerate() {
+        draft_line(alloc, place, line, inputs, driven, drafts)?;
     }
     Ok(())
 }
@@ -204,17 +192,15 @@ pub fn draft_gates(
 /// Checks that the names of all `.outputs` are signals.
 pub fn check_outputs(
     alloc: Global,
-    bytes: &[u8],
-    lines: &[Line],
+    lines: &[WordLine<'_>],
     inputs: &NameTable,
     driven: &NameTable,
 ) -> Result<(), BlifErr>
-    requires inside { All (λ line. All (IsInside bytes.now) line.words) lines.now }
-    requires signals { spec.AreSignals (inputs.now ++ driven.now) }
-    ensures { spec.ShowsAll (inputs.now ++ driven.now) (map (cut_line bytes.now) lines.now) result }
+    requires { spec.AreSignals (inputs.now ++ driven.now) }
+    ensures { spec.ShowsAll (inputs.now ++ driven.now) lines.now result }
 {
     for line in lines {
-        check_line(alloc, bytes, line, inputs, driven)?;
+        check_line(alloc, line, inputs, driven)?;
     }
     Ok(())
 }

@@ -1,8 +1,6 @@
 //! The network that lines without a fault say.
 ghost use Rattle.std.specs.Prelude.{◌≡◌, ℕ, ◌+◌, ◌<◌, ◌≤◌, ◌^◌, ◌++◌, List, length, map, drop, All, true, None, unwrap_or, codes, IfOk};
 ghost use Rattle.ae_base.specs.Name.{is_name};
-ghost use Rattle.ae_lex.specs.Lines.{IsInside};
-ghost use Rattle.ae_lex.specs.Words.{cut_line};
 ghost use Rattle.ae_net.specs.Valid.{IsValid};
 ghost use Rattle.blif_read.specs.Words.{is_among};
 ghost use Rattle.blif_read.specs.Says as says;
@@ -17,13 +15,13 @@ use crate::fault::{BlifErr, BlifFault};
 use crate::order::{first_unplaced, needs_of, ranks_of};
 use crate::seen::Seen;
 use ae_base::{Memory, Name, Seq, copies};
-use ae_lex::Line;
+use ae_lex::WordLine;
 use ae_net::{Gate, Net};
 use blif_place::order_of;
 use std::alloc::Global;
 
 /// The lines after a place.
-fn lines_after(lines: &[Line], place: usize) -> &[Line]
+fn lines_after<'a, 'b>(lines: &'a [WordLine<'b>], place: usize) -> &'a [WordLine<'b>]
     requires { place < length lines.now }
     ensures { result.now ≡ drop (place + 1) lines.now }
 {
@@ -33,51 +31,39 @@ fn lines_after(lines: &[Line], place: usize) -> &[Line]
 /// The gate in a place of file order.
 fn gate_at(
     alloc: Global,
-    bytes: &[u8],
-    lines: &[Line],
+    lines: &[WordLine<'_>],
     seen: &Seen,
     drafts: &[Draft],
     place: usize,
     ranks: &[Option<u32>],
 ) -> Result<Gate, Memory>
-    requires inside { All (λ line. All (IsInside bytes.now) line.words) lines.now }
     requires within { place < length drafts.now }
     requires buildable { spec.AreBuildable (length lines.now) seen.now drafts.now ranks.now }
-    ensures { IfOk result (λ gate. gate ≡ spec.built_at (map (cut_line bytes.now) lines.now) seen.now.driven drafts.now (length seen.now.inputs) ranks.now place) }
+    ensures { IfOk result (λ gate. gate ≡ spec.built_at lines.now seen.now.driven drafts.now (length seen.now.inputs) ranks.now place) }
 {
     let draft = &drafts[place];
     let after = lines_after(lines, draft.line);
     let name = &seen.driven.as_slice()[place];
     let inputs = seen.inputs.len() as u32;
-    gate_of(
-        alloc,
-        bytes,
-        after,
-        name,
-        draft.pins.as_slice(),
-        inputs,
-        ranks,
-    )
+    gate_of(alloc, after, name, draft.pins.as_slice(), inputs, ranks)
 }
 
 /// The gates in an order.
 fn gates_of(
     alloc: Global,
-    bytes: &[u8],
-    lines: &[Line],
+    lines: &[WordLine<'_>],
     seen: &Seen,
     drafts: &[Draft],
     order: &[u32],
     ranks: &[Option<u32>],
 ) -> Result<Seq<Gate>, Memory>
-    requires inside { All (λ line. All (IsInside bytes.now) line.words) lines.now }
     requires within { All (λ g. g < length drafts.now) order.now }
     requires buildable { spec.AreBuildable (length lines.now) seen.now drafts.now ranks.now }
-    ensures { IfOk result (λ gates. gates ≡ map (spec.built_at (map (cut_line bytes.now) lines.now) seen.now.driven drafts.now (length seen.now.inputs) ranks.now) order.now) }
+    ensures { IfOk result (λ gates. gates ≡ map (spec.built_at lines.now seen.now.driven drafts.now (length seen.now.inputs) ranks.now) order.now) }
 {
     let mut gates = Seq::new(alloc);
     for place in order {
-        gates.push(gate_at(alloc, bytes, lines, seen, drafts, *place as usize, ranks)?)?;
+        gates.push(gate_at(alloc, lines, seen, drafts, *place as usize, ranks)?)?;
     }
     Ok(gates)
 }
@@ -142,20 +128,18 @@ fn unnamed(alloc: Global) -> Result<Name, Memory>
 /// The network of gates in an order that places all.
 fn net_placed(
     alloc: Global,
-    bytes: &[u8],
-    lines: &[Line],
+    lines: &[WordLine<'_>],
     seen: &Seen,
     drafts: &[Draft],
     order: &[u32],
     ranks: &[Option<u32>],
 ) -> Result<Net, Memory>
-    requires inside { All (λ line. All (IsInside bytes.now) line.words) lines.now }
     requires within { All (λ g. g < length drafts.now) order.now }
     requires buildable { spec.AreBuildable (length lines.now) seen.now drafts.now ranks.now }
-    requires valid { (model : List ℕ) → is_name model ≡ true → IsValid (spec.drawn (map (cut_line bytes.now) lines.now) seen.now drafts.now order.now ranks.now model) }
-    ensures { IfOk result (λ net. net ≡ spec.drawn (map (cut_line bytes.now) lines.now) seen.now drafts.now order.now ranks.now (unwrap_or seen.now.model (codes "unnamed"))) }
+    requires valid { (model : List ℕ) → is_name model ≡ true → IsValid (spec.drawn lines.now seen.now drafts.now order.now ranks.now model) }
+    ensures { IfOk result (λ net. net ≡ spec.drawn lines.now seen.now drafts.now order.now ranks.now (unwrap_or seen.now.model (codes "unnamed"))) }
 {
-    let gates = gates_of(alloc, bytes, lines, seen, drafts, order, ranks)?;
+    let gates = gates_of(alloc, lines, seen, drafts, order, ranks)?;
     let outputs = ports_of(alloc, seen, ranks)?;
     let inputs = copies(alloc, seen.inputs.as_slice())?;
     let model = model_of(alloc, seen)?;
@@ -168,13 +152,13 @@ fn net_placed(
 }
 
 /// The number of the line of a gate.
-fn line_of(lines: &[Line], drafts: &[Draft], place: usize) -> u32
+fn line_of(lines: &[WordLine<'_>], drafts: &[Draft], place: usize) -> u32
     requires within { place < length drafts.now }
     requires lines { All (λ d. d.line < length lines.now) drafts.now }
-    ensures { (bytes : List ℕ) → result ≡ (spec.cover_at (map (cut_line bytes) lines.now) (spec.draft_at drafts.now place).line).number }
+    ensures { result ≡ (spec.cover_at lines.now (spec.draft_at drafts.now place).line).number }
 {
     let draft = &drafts[place];
-    lines[draft.line].number
+    lines[draft.line].number()
 }
 
 /// The order of placing, and for each gate its place there.
@@ -197,14 +181,12 @@ fn plan_of(alloc: Global, seen: &Seen, drafts: &[Draft]) -> Result<Plan, Memory>
 /// The network of the drafts, or the line of the first gate that can't be placed.
 fn net_drafted(
     alloc: Global,
-    bytes: &[u8],
-    lines: &[Line],
+    lines: &[WordLine<'_>],
     seen: &Seen,
     drafts: &[Draft],
 ) -> Result<Net, BlifErr>
-    requires inside { All (λ line. All (IsInside bytes.now) line.words) lines.now }
-    requires drafted { spec.AreDrafted (map (cut_line bytes.now) lines.now) seen.now drafts.now }
-    ensures { Gives (spec.placed_net (map (cut_line bytes.now) lines.now) seen.now) result }
+    requires { spec.AreDrafted lines.now seen.now drafts.now }
+    ensures { Gives (spec.placed_net lines.now seen.now) result }
 {
     let plan = plan_of(alloc, seen, drafts)?;
     match first_unplaced(plan.ranks.as_slice()) {
@@ -214,7 +196,6 @@ fn net_drafted(
         }),
         None => Ok(net_placed(
             alloc,
-            bytes,
             lines,
             seen,
             drafts,
@@ -228,14 +209,12 @@ fn net_drafted(
 #[tactic(auto, unfolding(crate::specs::Says::lines_say))]
 pub fn net_said(
     alloc: Global,
-    bytes: &[u8],
-    lines: &[Line],
+    lines: &[WordLine<'_>],
     last: u32,
     seen: &Seen,
 ) -> Result<Net, BlifErr>
-    requires inside { All (λ line. All (IsInside bytes.now) line.words) lines.now }
-    requires faultless { spec.AreFaultless (map (cut_line bytes.now) lines.now) seen.now }
-    ensures { Gives (says.lines_say last (map (cut_line bytes.now) lines.now)) result }
+    requires { spec.AreFaultless lines.now seen.now }
+    ensures { Gives (says.lines_say last lines.now) result }
 {
     if seen.inputs.len() == 0 {
         return Err(BlifErr::At {
@@ -250,7 +229,7 @@ pub fn net_said(
         });
     }
     let mut drafts = Seq::new(alloc);
-    draft_gates(alloc, bytes, lines, &seen.inputs, &seen.driven, &mut drafts)?;
-    check_outputs(alloc, bytes, lines, &seen.inputs, &seen.driven)?;
-    net_drafted(alloc, bytes, lines, seen, drafts.as_slice())
+    draft_gates(alloc, lines, &seen.inputs, &seen.driven, &mut drafts)?;
+    check_outputs(alloc, lines, &seen.inputs, &seen.driven)?;
+    net_drafted(alloc, lines, seen, drafts.as_slice())
 }

@@ -1,17 +1,15 @@
 //! Reads a text line by line.
-ghost use Rattle.std.specs.Prelude.{◌≡◌, ◌≤◌, [], length, map, All, IfOk};
-ghost use Rattle.ae_lex.specs.Lines.{IsInside, lines_of};
-ghost use Rattle.ae_lex.specs.declared.text.Style.TheVariants.{Blif};
-ghost use Rattle.ae_lex.specs.Words.{cut_line};
+ghost use Rattle.std.specs.Prelude.{◌≡◌, ◌≤◌, [], length};
+ghost use Rattle.blif_read.specs.Faults.{first_fault};
 ghost use Rattle.blif_read.specs.Step.{seen_by, TakesLine, Reads};
-ghost use Rattle.blif_read.specs.Says.{blif_says};
+ghost use Rattle.blif_read.specs.Says.{blif_says, lines_say, unless_faulty};
 ghost use Rattle.blif_read.specs.Gives.{Gives};
 
 use crate::fault::{BlifErr, NetLimits};
 use crate::net::net_said;
 use crate::seen::Seen;
 use ae_base::TEXT_BYTES;
-use ae_lex::{Line, LineErr, LineList, Style, lines, words_of};
+use ae_lex::{LineErr, Style, WordLine, WordLines, word_lines};
 use ae_net::Net;
 use std::alloc::Global;
 
@@ -19,19 +17,16 @@ use std::alloc::Global;
 fn read_line(
     alloc: Global,
     limits: NetLimits,
-    bytes: &[u8],
-    line: &Line,
+    line: &WordLine<'_>,
     seen: &mut Seen,
 ) -> Result<(), BlifErr>
-    requires { All (IsInside bytes.now) line.now.words }
-    ensures { TakesLine limits seen.old (cut_line bytes.now line.now) result seen.new }
+    ensures { TakesLine limits seen.old line.now result seen.new }
 {
-    let words = words_of(alloc, bytes, line)?;
-    match seen.read(alloc, limits, words.as_slice()) {
+    match seen.read(alloc, limits, line.words()) {
         Ok(()) => Ok(()),
         Err(LineErr::Memory) => Err(BlifErr::Memory),
         Err(LineErr::Fault(what)) => Err(BlifErr::At {
-            line: line.number,
+            line: line.number(),
             what,
         }),
     }
@@ -41,37 +36,31 @@ fn read_line(
 pub fn read_lines(
     alloc: Global,
     limits: NetLimits,
-    bytes: &[u8],
-    lines: &[Line],
+    lines: &[WordLine<'_>],
     seen: &mut Seen,
 ) -> Result<(), BlifErr>
-    requires inside { All (λ line. All (IsInside bytes.now) line.words) lines.now }
-    requires nothing { seen.old ≡ seen_by [] }
-    ensures { Reads limits (map (cut_line bytes.now) lines.now) result seen.new }
+    requires { seen.old ≡ seen_by [] }
+    ensures { Reads limits lines.now result seen.new }
 {
     for line in lines {
-        read_line(alloc, limits, bytes, line, seen)?;
+        read_line(alloc, limits, line, seen)?;
     }
     Ok(())
 }
 
-/// The network that lines say, or the first fault. Nothing is seen before.
+/// The network that the lines of a text with so many physical lines say, or the first fault. Nothing is seen before.
 fn net_of_lines(
     alloc: Global,
     limits: NetLimits,
-    bytes: &[u8],
-    found: &LineList,
+    lines: &[WordLine<'_>],
+    last: u32,
     seen: &mut Seen,
 ) -> Result<Net, BlifErr>
-    requires small { length bytes.now ≤ TEXT_BYTES }
-    requires lines { found.now ≡ lines_of Blif bytes.now }
-    requires inside { All (λ line. All (IsInside bytes.now) line.words) found.now.list }
-    requires nothing { seen.old ≡ seen_by [] }
-    ensures { Gives (blif_says limits bytes.now) result }
+    requires { seen.old ≡ seen_by [] }
+    ensures { Gives (unless_faulty (first_fault limits [] lines.now) (lines_say last lines.now)) result }
 {
-    let list = found.list.as_slice();
-    read_lines(alloc, limits, bytes, list, seen)?;
-    net_said(alloc, bytes, list, found.last, seen)
+    read_lines(alloc, limits, lines, seen)?;
+    net_said(alloc, lines, last, seen)
 }
 
 /// The network that a text says under the limits, with its gates in the order of placing, or its first fault.
@@ -83,7 +72,7 @@ pub fn read_blif(alloc: Global, bytes: &[u8], limits: NetLimits) -> Result<Net, 
     requires { length bytes.now ≤ TEXT_BYTES }
     ensures { Gives (blif_says limits bytes.now) result }
 {
-    let found = lines(alloc, bytes, Style::Blif)?;
+    let WordLines { list, last } = word_lines(alloc, bytes, Style::Blif)?;
     let mut seen = Seen::new(alloc);
-    net_of_lines(alloc, limits, bytes, &found, &mut seen)
+    net_of_lines(alloc, limits, list.as_slice(), last, &mut seen)
 }

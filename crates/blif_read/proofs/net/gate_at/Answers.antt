@@ -12,8 +12,7 @@ returns c =
     let within : c.args.place < length c.as_slice.result.now = omega (arith, ap length slice, c.requires.buildable.drafts_size, c.requires.within) in
     let name : c.index-as_slice-place.result ≡ get_or driven c.args.place [] =
     get_or_read c.as_slice.result.now c.args.place c.index-as_slice-place.result within c.index-as_slice-place.is [] ∙ ap (λ (ws : List (List ℕ)). get_or ws c.args.place []) slice in
-    let h = c.gate_of.ensures in
     subst (λ (g : Gate). IfOk c.gate_of.result (λ gate. gate ≡ g))
-    (built_is c.args.bytes.now c.args.lines.now c.lines_after-after.result.now driven c.args.drafts.now (length c.args.seen.now.inputs) c.args.ranks.now c.args.place c.index-drafts-place.result c.index-as_slice-place.result c.as_slice-2.result.now c.len-inputs.result
+    (built_is c.args.lines.now c.lines_after-after.result.now driven c.args.drafts.now (length c.args.seen.now.inputs) c.args.ranks.now c.args.place c.index-drafts-place.result c.index-as_slice-place.result c.as_slice-2.result.now c.len-inputs.result
     c.requires.within c.index-drafts-place.is c.lines_after-after.ensures name c.as_slice-2.ensures c.len-inputs.ensures)
     c.gate_of.ensures

@@ -1,7 +1,5 @@
-use Rattle.std.proofs.Common.{◌≡◌, ℕ, List, Option, Some, None, Ok, Err, length, map, sym, ap, subst, ◌∙◌}
+use Rattle.std.proofs.Common.{◌≡◌, ℕ, List, Option, Some, None, Ok, Err, length, sym, ap, subst, ◌∙◌}
 use Rattle.std.specs.Prelude.{position, is_none}
-use Rattle.std.proofs.lemmas.List.{length-map}
-use Rattle.ae_lex.specs.Words.{cut_line}
 use Rattle.ae_net.specs.Network.{Network}
 use Rattle.blif_read.specs.declared.fault.BlifFault.TheVariants as fault
 use Rattle.blif_read.specs.Build.{AreBuildable}
@@ -10,41 +8,36 @@ use Rattle.blif_read.proofs.net.net_drafted.Goals as goal
 
 pub line_of-requires-clause-lines : goal.line_of-requires-clause-lines
 line_of-requires-clause-lines c =
-    let cut = cut_line c.args.bytes.now in
     let plan = c.in_ok-plan.plan in
-    (subst (λ (n : ℕ). AreBuildable n c.args.seen.now c.args.drafts.now plan.ranks.items) (length-map c.args.lines.now cut)
-    (buildable_are (map cut c.args.lines.now) c.args.seen.now c.args.drafts.now plan.order.items plan.ranks.items c.requires.drafted c.in_ok-plan.ensures)).lines
+    (buildable_are c.args.lines.now c.args.seen.now c.args.drafts.now plan.order.items plan.ranks.items c.requires c.in_ok-plan.ensures).lines
 
 pub returns-in-Some : goal.returns-in-Some
 returns-in-Some c =
     let plan = c.in_ok-plan.plan in
     let at : position (λ o. is_none o) plan.ranks.items ≡ Some c.in-Some.place = ap (position (λ o. is_none o)) (sym c.as_slice.ensures.value) ∙ sym c.first_unplaced.ensures ∙ c.in-Some.is in
-    (cycle_said (map (cut_line c.args.bytes.now) c.args.lines.now) c.args.seen.now c.args.drafts.now plan.order.items plan.ranks.items c.in-Some.place c.requires.drafted c.in_ok-plan.ensures at).1
-    ∙ ap (λ (n : ℕ). Err (n, fault.Cycle)) (sym (c.line_of.ensures c.args.bytes.now))
+    (cycle_said c.args.lines.now c.args.seen.now c.args.drafts.now plan.order.items plan.ranks.items c.in-Some.place c.requires c.in_ok-plan.ensures at).1
+    ∙ ap (λ (n : ℕ). Err (n, fault.Cycle)) (sym c.line_of.ensures)
 
 pub net_placed-requires-clause-within : goal.net_placed-requires-clause-within
 net_placed-requires-clause-within c =
     let plan = c.in_ok-plan.plan in
-    (order_within (map (cut_line c.args.bytes.now) c.args.lines.now) c.args.seen.now c.args.drafts.now c.as_slice-in-None.result.now c.requires.drafted (c.as_slice-in-None.ensures.value ∙ c.in_ok-plan.ensures.order_is)).1
+    (order_within c.args.lines.now c.args.seen.now c.args.drafts.now c.as_slice-in-None.result.now c.requires (c.as_slice-in-None.ensures.value ∙ c.in_ok-plan.ensures.order_is)).1
 
 pub net_placed-requires-clause-buildable : goal.net_placed-requires-clause-buildable
 net_placed-requires-clause-buildable c =
-    let cut = cut_line c.args.bytes.now in
     let plan = c.in_ok-plan.plan in
     subst (λ (ranks : List (Option ℕ)). AreBuildable (length c.args.lines.now) c.args.seen.now c.args.drafts.now ranks) (sym c.as_slice-in-None-2.ensures.value)
-    (subst (λ (n : ℕ). AreBuildable n c.args.seen.now c.args.drafts.now plan.ranks.items) (length-map c.args.lines.now cut)
-    (buildable_are (map cut c.args.lines.now) c.args.seen.now c.args.drafts.now plan.order.items plan.ranks.items c.requires.drafted c.in_ok-plan.ensures))
+    (buildable_are c.args.lines.now c.args.seen.now c.args.drafts.now plan.order.items plan.ranks.items c.requires c.in_ok-plan.ensures)
 
 pub net_placed-requires-clause-valid : goal.net_placed-requires-clause-valid
 net_placed-requires-clause-valid c =
     let plan = c.in_ok-plan.plan in
     let at : position (λ o. is_none o) plan.ranks.items ≡ None = ap (position (λ o. is_none o)) (sym c.as_slice.ensures.value) ∙ sym c.first_unplaced.ensures ∙ c.in-None.is in
-    rw (c.as_slice-in-None.ensures.value, c.as_slice-in-None-2.ensures.value)
-    (drawn_valid (map (cut_line c.args.bytes.now) c.args.lines.now) c.args.seen.now c.args.drafts.now plan.order.items plan.ranks.items c.requires.drafted c.in_ok-plan.ensures at)
+    rw (c.as_slice-in-None.ensures.value, c.as_slice-in-None-2.ensures.value) (drawn_valid c.args.lines.now c.args.seen.now c.args.drafts.now plan.order.items plan.ranks.items c.requires c.in_ok-plan.ensures at)
 
 pub returns : goal.returns
 returns c =
     let plan = c.in_ok-plan.plan in
     let at : position (λ o. is_none o) plan.ranks.items ≡ None = ap (position (λ o. is_none o)) (sym c.as_slice.ensures.value) ∙ sym c.first_unplaced.ensures ∙ c.in-None.is in
-    net_said (map (cut_line c.args.bytes.now) c.args.lines.now) c.args.seen.now c.args.drafts.now plan.order.items plan.ranks.items c.requires.drafted c.in_ok-plan.ensures at
+    net_said c.args.lines.now c.args.seen.now c.args.drafts.now plan.order.items plan.ranks.items c.requires c.in_ok-plan.ensures at
     ∙ rw (← c.as_slice-in-None.ensures.value, ← c.as_slice-in-None-2.ensures.value) (ap (λ (n : Network). Ok n) (sym c.in_ok-net_placed-in-None.ensures))

@@ -1,8 +1,6 @@
-use Rattle.std.proofs.Common.{map}
-use Rattle.ae_lex.specs.Words.{cut_line}
 use Rattle.blif_read.proofs.Reading.{IsAt}
 use Rattle.blif_read.proofs.read.read_lines.Given as goal
 
 -- what is seen is what the lines so far say, and the first fault of the others after them is the first fault of all
 abbrev pub invariant-loop-line : goal.invariant-loop-line
-invariant-loop-line l = IsAt l.limits (map (cut_line l.bytes) l.lines) l.line-index l.seen
+invariant-loop-line l = IsAt l.limits l.lines l.line-index l.seen
