@@ -15,7 +15,7 @@ use Rattle.blif_read.specs.Says.{model_of}
 use Rattle.blif_read.specs.Step.{is_model_name, says_of}
 use Rattle.blif_read.proofs.Steps.{model_same}
 use Rattle.blif_read.proofs.Sound.{first_none, line_none}
-use Rattle.blif_read.proofs.Network.{name_under}
+use Rattle.blif_read.proofs.Words.{name_under}
 
 abbrev AreNames : List (List ℕ) → Type 0
 AreNames ws = AllByRecursion (λ w. is_name w ≡ true) ws

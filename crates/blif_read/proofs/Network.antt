@@ -19,6 +19,7 @@ use Rattle.ae_net.specs.Named.{place_of}
 use Rattle.blif_read.specs.Says.{row_cube, is_on}
 use Rattle.blif_read.proofs.Nets.{gate_in, net_in}
 use Rattle.blif_read.specs.Build.{rank_in}
+use Rattle.blif_read.proofs.Words.{name_under}
 use Rattle.blif_read.proofs.Cubes.{row_is_product}
 use Rattle.blif_read.proofs.Sound.{IsSound, apart_at}
 use Rattle.blif_read.proofs.Covers.{IsFit}
@@ -67,10 +68,6 @@ in_order cs order = map (gate_at cs) order
 few_lines : (limits : NetLimits) → most_lines limits ≤ NET_LINES
 few_lines Source = omega arith
 few_lines Written = omega arith
-
-pub name_under : (limits : NetLimits) (w : List ℕ) → is_name_under limits w ≡ true → is_name w ≡ true
-name_under Source w h = (and_parts _ _ h).0
-name_under Written w h = h
 
 fit_at : (limits : NetLimits) (cs : List Unplaced) (g : ℕ) → AllByRecursion (IsFit limits) cs → g < length cs → IsFit limits (gate_at cs g)
 fit_at limits cs g h lt = All-from_recursion (IsFit limits) cs h g blank lt

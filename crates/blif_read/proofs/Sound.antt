@@ -1,9 +1,9 @@
 -- What is true of what lines without a fault say.
-use Rattle.std.proofs.Common.{◌≡◌, ◌≢◌, ℕ, ◌-◌, ◌<◌, ◌≤◌, Bool, true, false, not, cond, eqb, ltb, leb, ◌||◌, List, [], ◌∷◌, ◌++◌, length, get_or, Option, Some, None, All, refl, sym, ap, subst, ◌∙◌, arith, inl, inr, length-append, append_assoc, append-nil}
+use Rattle.std.proofs.Common.{◌≡◌, ◌≢◌, ℕ, ◌-◌, ◌<◌, ◌≤◌, Bool, true, false, not, cond, eqb, ltb, leb, ◌||◌, List, [], ◌∷◌, ◌++◌, length, get_or, Option, Some, None, All, refl, sym, ap, subst, ◌∙◌, arith, length-append, append_assoc, append-nil}
 use Rattle.std.specs.Prelude.{bytes_eq}
 use Rattle.std.specs.List.{list_all}
 use Rattle.std.specs.Option.{option_or}
-use Rattle.std.proofs.lemmas.Bool.{both_ways, or_from, or_parts, cases_Bool, not-false, leb-false, ltb-false, eqb-false}
+use Rattle.std.proofs.lemmas.Bool.{both_ways, or_from, or_parts, not-false, leb-false, ltb-false, eqb-false}
 use Rattle.std.proofs.lemmas.List.Elements.{All-push}
 use Rattle.std.proofs.lemmas.List.Quantifiers.{all_pairs_push}
 use Rattle.std.proofs.lemmas.List.Folds.{list_any-append, list_any_at}
@@ -20,7 +20,7 @@ use Rattle.blif_read.specs.Faults.{input_fault, output_fault, word_fault, names_
 use Rattle.blif_read.specs.Step.{seen_by, says_of, line_fault_in, with_line}
 use Rattle.blif_read.proofs.Steps.{fault_same, seen_push}
 use Rattle.blif_read.proofs.WrittenNames.{bytes_apart, bytes_same}
-use Rattle.blif_read.proofs.Words.{last_is_no_name}
+use Rattle.blif_read.proofs.Words.{gate_is_name}
 
 -- ---- names in a list
 
@@ -128,7 +128,7 @@ gate_words limits i d ws h =
     record {
       some = some;
       names = all;
-      out = elim (cases_Bool (is_name_under limits (gate_name ws))) [ inl t ↦ t | inr f ↦ absurd (both_ways _ (last_is_no_name limits ws some f) all) ];
+      out = gate_is_name limits ws some all;
       few = ltb-false PINS (length ws - 1) b.0;
     }
 

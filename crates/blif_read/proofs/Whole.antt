@@ -42,7 +42,8 @@ use Rattle.blif_read.proofs.Places.{place_bound, AllBelow}
 use Rattle.blif_read.proofs.Link.{gate_at, blank, out_at, AreKnown, known_at, gates_of, needs_of, needs_same, one_order}
 use Rattle.blif_read.proofs.Placed.{order_below, order_short, AreRanks, ranks_below, one_left, none_left, renumber_same}
 use Rattle.blif_read.proofs.Ordered.{IsOrder, order_of_is}
-use Rattle.blif_read.proofs.Network.{IsPlaced, in_order, name_under, is_valid, gates_ordered}
+use Rattle.blif_read.proofs.Words.{name_under}
+use Rattle.blif_read.proofs.Network.{IsPlaced, in_order, is_valid, gates_ordered}
 use Rattle.blif_place.specs.Order as by_place
 
 -- ---- lists

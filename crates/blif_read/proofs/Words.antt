@@ -1,23 +1,34 @@
 -- Words of a line.
-use Rattle.std.proofs.Common.{◌≡◌, ℕ, ◌+◌, ◌-◌, ◌<◌, false, List, [], ◌∷◌, ◌++◌, length, get_or, take, sym, ap, ◌∙◌, arith, append-nil}
+use Rattle.std.proofs.Common.{◌≡◌, ℕ, ◌+◌, ◌-◌, ◌<◌, true, false, inl, inr, List, [], ◌∷◌, ◌++◌, length, get_or, take, sym, ap, ◌∙◌, arith, append-nil}
 use Rattle.std.specs.Borrow.{Bor}
 use Rattle.std.specs.List.{list_all, concat}
+use Rattle.std.proofs.lemmas.Bool.{and_parts, both_ways, cases_Bool}
+use Rattle.ae_base.specs.Name.{is_name}
 use Rattle.std.proofs.lemmas.List.{get_or-map, length-map, map_more, take-map}
 use Rattle.std.proofs.lemmas.List.Folds.{list_all_at, concat-append}
 use Rattle.blif_read.specs.Statement.{gate_name, pin_names}
 use Rattle.blif_read.specs.declared.fault.NetLimits.{NetLimits}
+use Rattle.blif_read.specs.declared.fault.NetLimits.TheVariants.{Source, Written}
 use Rattle.blif_read.specs.Words.{is_name_under}
 use Rattle.ae_lex.specs.Slices.{texts}
+
+pub name_under : (limits : NetLimits) (w : List ℕ) → is_name_under limits w ≡ true → is_name w ≡ true
+name_under Source w h = (and_parts _ _ h).0
+name_under Written w h = h
 
 -- the last word is no name
 pub last_is_no_name : (limits : NetLimits) (ws : List (List ℕ)) → 0 < length ws → is_name_under limits (gate_name ws) ≡ false → list_all (is_name_under limits) ws ≡ false
 last_is_no_name limits ws some h = list_all_at (is_name_under limits) ws (length ws - 1) _ (omega arith) h
 
--- one word that is no name
-pub not_all_names : (limits : NetLimits) (words : List (Bor (List ℕ))) (i : ℕ) (d : Bor (List ℕ)) → i < length words → is_name_under limits (get_or words i d).now ≡ false → list_all (is_name_under limits) (texts words) ≡ false
-not_all_names limits words i d lt h =
+-- the last of words that are names
+pub gate_is_name : (limits : NetLimits) (ws : List (List ℕ)) → 0 < length ws → list_all (is_name_under limits) ws ≡ true → is_name_under limits (gate_name ws) ≡ true
+gate_is_name limits ws some all = elim (cases_Bool (is_name_under limits (gate_name ws))) [ inl t ↦ t | inr f ↦ absurd (both_ways _ (last_is_no_name limits ws some f) all) ]
+
+pub last_is_name : (limits : NetLimits) (words : List (Bor (List ℕ))) (d : Bor (List ℕ)) → 0 < length words → list_all (is_name_under limits) (texts words) ≡ true → is_name (get_or words (length words - 1) d).now ≡ true
+last_is_name limits words d some all =
     let now : Bor (List ℕ) → List ℕ = λ w. w.now in
-    list_all_at (is_name_under limits) (texts words) i d.now (omega (arith, length-map words now)) (ap (is_name_under limits) (get_or-map now words i d d.now lt) ∙ h)
+    let size : length (texts words) ≡ length words = length-map words now in
+    ap is_name (sym (get_or-map now words (length words - 1) d [] (omega arith)) ∙ ap (λ n. get_or (texts words) (n - 1) []) (sym size)) ∙ name_under limits (gate_name (texts words)) (gate_is_name limits (texts words) (omega (arith, size)) all)
 
 -- the characters of one more word
 pub joined_more : (words : List (Bor (List ℕ))) (i : ℕ) (d : Bor (List ℕ)) → i < length words → concat (texts (take (i + 1) words)) ≡ concat (texts (take i words)) ++ (get_or words i d).now

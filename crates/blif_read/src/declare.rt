@@ -8,7 +8,7 @@ ghost use Rattle.ae_lex.specs.Slices.{texts};
 use crate::fault::{BlifFault, NetLimits};
 use crate::statement::{are_names, most_lines, read_name};
 use crate::table::NameTable;
-use ae_base::{GATES, PINS};
+use ae_base::{GATES, Name, PINS};
 use ae_lex::LineErr;
 use std::alloc::Global;
 
@@ -106,7 +106,7 @@ pub fn add_outputs(
 }
 
 /// Drives the last of the words of `.names`.
-#[tactic(auto, using(crate::proofs::Words::last_is_no_name))]
+#[tactic(auto, using(crate::proofs::Words::last_is_name))]
 pub fn add_gate(
     alloc: Global,
     limits: NetLimits,
@@ -120,10 +120,7 @@ pub fn add_gate(
     if words.is_empty() {
         return Err(LineErr::Fault(BlifFault::BadName));
     }
-    let Some(name) = read_name(alloc, limits, words[words.len() - 1])? else {
-        return Err(LineErr::Fault(BlifFault::BadName));
-    };
-    if !are_names(alloc, limits, words)? {
+    if !are_names(limits, words) {
         return Err(LineErr::Fault(BlifFault::BadName));
     }
     if words.len() - 1 > PINS as usize {
@@ -132,6 +129,7 @@ pub fn add_gate(
     if driven.len() >= GATES as usize {
         return Err(LineErr::Fault(BlifFault::TooManyGates));
     }
+    let name = Name::known(alloc, words[words.len() - 1])?;
     if inputs.has(&name) {
         return Err(LineErr::Fault(BlifFault::DefinedTwice));
     }

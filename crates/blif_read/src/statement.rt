@@ -1,14 +1,13 @@
 //! What the words of a line are.
 ghost use Rattle.std.specs.Prelude.{◌≡◌, ◌==◌, ◌||◌, ◌∷◌, take, drop, if◌then◌else◌, Some, None, IfOk};
 ghost use Rattle.std.specs.List.{list_all, concat};
-ghost use Rattle.ae_base.specs.Name.{is_source_name};
 ghost use Rattle.blif_read.specs.Words as words;
 ghost use Rattle.blif_read.specs.Statement as spec;
 ghost use Rattle.ae_lex.specs.Slices.{texts};
 
 use crate::fault::NetLimits;
 use crate::head::Head;
-use ae_base::{Memory, Name, SOURCE_LINES, SOURCE_NAME_BYTES, WRITTEN_LINES};
+use ae_base::{Memory, Name, SOURCE_LINES, WRITTEN_LINES, is_name, is_source_name};
 use std::alloc::Global;
 
 /// The most inputs, and the most outputs.
@@ -21,23 +20,32 @@ pub fn most_lines(limits: NetLimits) -> u32
     }
 }
 
-/// The name that a word is under the limits, if it is one.
-pub fn read_name(alloc: Global, limits: NetLimits, word: &[u8]) -> Result<Option<Name>, Memory>
-    ensures { IfOk result (λ found. found ≡ (if words.is_name_under limits word.now then Some word.now else None)) }
+/// Whether a word is a name under the limits.
+fn is_name_under(limits: NetLimits, word: &[u8]) -> bool
+    ensures { result ≡ words.is_name_under limits word.now }
 {
     match limits {
-        NetLimits::Source => read_source_name(alloc, word),
-        NetLimits::Written => Name::from_bytes(alloc, word),
+        NetLimits::Source => is_source_name(word),
+        NetLimits::Written => is_name(word),
     }
 }
 
-fn read_source_name(alloc: Global, word: &[u8]) -> Result<Option<Name>, Memory>
-    ensures { IfOk result (λ found. found ≡ (if is_source_name word.now then Some word.now else None)) }
+/// Whether each word is a name under the limits.
+pub fn are_names(limits: NetLimits, line: &[&[u8]]) -> bool
+    ensures { result ≡ list_all (words.is_name_under limits) (texts line.now) }
 {
-    if SOURCE_NAME_BYTES < word.len() {
+    line.iter().all(|word| is_name_under(limits, word))
+}
+
+/// The name that a word is under the limits, if it is one.
+#[tactic(auto, using(crate::proofs::Words::name_under))]
+pub fn read_name(alloc: Global, limits: NetLimits, word: &[u8]) -> Result<Option<Name>, Memory>
+    ensures { IfOk result (λ found. found ≡ (if words.is_name_under limits word.now then Some word.now else None)) }
+{
+    if !is_name_under(limits, word) {
         return Ok(None);
     }
-    Name::from_bytes(alloc, word)
+    Ok(Some(Name::known(alloc, word)?))
 }
 
 fn is_left_out(word: &[u8]) -> bool
@@ -150,24 +158,4 @@ pub fn row_end(chars: &[u8]) -> u8
         return 0;
     }
     chars[chars.len() - 1]
-}
-
-/// Whether a word is a name under the limits.
-fn is_name(alloc: Global, limits: NetLimits, word: &[u8]) -> Result<bool, Memory>
-    ensures { IfOk result (λ is. is ≡ words.is_name_under limits word.now) }
-{
-    Ok(read_name(alloc, limits, word)?.is_some())
-}
-
-/// Whether each word is a name under the limits.
-#[tactic(auto, using(crate::proofs::Words::not_all_names))]
-pub fn are_names(alloc: Global, limits: NetLimits, line: &[&[u8]]) -> Result<bool, Memory>
-    ensures { IfOk result (λ all. all ≡ list_all (words.is_name_under limits) (texts line.now)) }
-{
-    for word in line {
-        if !is_name(alloc, limits, word)? {
-            return Ok(false);
-        }
-    }
-    Ok(true)
 }
