@@ -6,6 +6,7 @@ pub mod WrittenPlacing
 pub mod Steps
 pub mod Tables
 pub mod Words
+pub mod Heads
 pub mod Reading
 pub mod Sound
 pub mod Covers

@@ -1,5 +1,5 @@
 -- Names in a table.
-use Rattle.std.proofs.Common.{◌≡◌, ℕ, suc, ◌+◌, Bool, true, false, cond, ◌||◌, ltb, List, [], ◌∷◌, ◌++◌, length, get_or, All, zero-add, Some, None, take, drop, refl, sym, ap, ◌∙◌, arith, inl, inr}
+use Rattle.std.proofs.Common.{◌≡◌, ℕ, suc, ◌+◌, Bool, true, false, cond, ◌||◌, ltb, List, [], ◌∷◌, ◌++◌, length, get_or, All, zero-add, Some, None, refl, sym, ap, ◌∙◌, arith, inl, inr}
 use Rattle.std.specs.Prelude.{bytes_eq, position}
 use Rattle.std.proofs.lemmas.Bool.{both_ways, cases_Bool}
 use Rattle.std.proofs.lemmas.List.Folds.{list_any-append, list_any_none}
@@ -9,16 +9,12 @@ use Rattle.blif_read.proofs.WrittenNames.{bytes_apart}
 use Rattle.blif_read.specs.Words.{is_among}
 use Rattle.blif_read.specs.Build.{signal_in}
 use Rattle.ae_net.specs.Named.{place_of}
-use Rattle.blif_read.specs.Statement.{unsupported}
 
 pub place_within : (w : List ℕ) (ws : List (List ℕ)) → ltb (place_of w ws) (length ws) ≡ is_among w ws
 place_within w ws = any_within (bytes_eq w) ws
 
 pub place_is : (w : List ℕ) (ws : List (List ℕ)) → position (bytes_eq w) ws ≡ cond (is_among w ws) (Some (place_of w ws)) None
 place_is w ws = rw (place_within w ws) refl
-
-pub unsupported_parts : (w : List ℕ) → is_among w unsupported ≡ (is_among w (take 10 unsupported) || is_among w (drop 10 unsupported))
-unsupported_parts w = list_any-append (bytes_eq w) (take 10 unsupported) (drop 10 unsupported)
 
 -- what is no name is among no names
 pub not_a_name : (w : List ℕ) (ws : List (List ℕ)) → is_name w ≡ false → All (λ v. is_name v ≡ true) ws → is_among w ws ≡ false

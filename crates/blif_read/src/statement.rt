@@ -1,8 +1,9 @@
 //! What the words of a line are.
-ghost use Rattle.std.specs.Prelude.{◌≡◌, ◌==◌, ◌||◌, ◌∷◌, take, drop, if◌then◌else◌, Some, None, IfOk};
+ghost use Rattle.std.specs.Prelude.{◌≡◌, ◌==◌, ◌||◌, ◌∷◌, slice_index, if◌then◌else◌, Some, None, IfOk};
 ghost use Rattle.std.specs.List.{list_all, concat};
 ghost use Rattle.blif_read.specs.Words as words;
 ghost use Rattle.blif_read.specs.Statement as spec;
+ghost use Rattle.blif_read.specs.declared.head.Head.TheVariants as head;
 ghost use Rattle.ae_lex.specs.Slices.{texts};
 
 use crate::fault::NetLimits;
@@ -48,40 +49,64 @@ pub fn read_name(alloc: Global, limits: NetLimits, word: &[u8]) -> Result<Option
     Ok(Some(Name::known(alloc, word)?))
 }
 
-fn is_left_out(word: &[u8]) -> bool
-    ensures { result ≡ words.is_among word.now (take 10 spec.unsupported) }
-{
-    word == b".latch".as_slice()
-        || word == b".mlatch".as_slice()
-        || word == b".subckt".as_slice()
-        || word == b".gate".as_slice()
-        || word == b".search".as_slice()
-        || word == b".exdc".as_slice()
-        || word == b".clock".as_slice()
-        || word == b".area".as_slice()
-        || word == b".delay".as_slice()
-        || word == b".wire".as_slice()
-}
+/// The statements that are read, by their first words.
+static STATEMENTS: [(&[u8], Head); 5] = [
+    (b".model", Head::Model),
+    (b".inputs", Head::Inputs),
+    (b".outputs", Head::Outputs),
+    (b".names", Head::Names),
+    (b".end", Head::End),
+];
 
-fn is_left_out_too(word: &[u8]) -> bool
-    ensures { result ≡ words.is_among word.now (drop 10 spec.unsupported) }
-{
-    word == b".wire_load_slope".as_slice()
-        || word == b".input_arrival".as_slice()
-        || word == b".output_required".as_slice()
-        || word == b".default_input_arrival".as_slice()
-        || word == b".default_output_required".as_slice()
-        || word == b".start_kiss".as_slice()
-        || word == b".end_kiss".as_slice()
-        || word == b".latch_order".as_slice()
-        || word == b".code".as_slice()
-}
+/// Statements of the format that are not read.
+static UNSUPPORTED: [&[u8]; 19] = [
+    b".latch",
+    b".mlatch",
+    b".subckt",
+    b".gate",
+    b".search",
+    b".exdc",
+    b".clock",
+    b".area",
+    b".delay",
+    b".wire",
+    b".wire_load_slope",
+    b".input_arrival",
+    b".output_required",
+    b".default_input_arrival",
+    b".default_output_required",
+    b".start_kiss",
+    b".end_kiss",
+    b".latch_order",
+    b".code",
+];
 
-#[tactic(auto, using(crate::proofs::Tables::unsupported_parts))]
 fn is_unsupported(word: &[u8]) -> bool
     ensures { result ≡ words.is_among word.now spec.unsupported }
 {
-    is_left_out(word) || is_left_out_too(word)
+    UNSUPPORTED.iter().any(|known| word == *known)
+}
+
+/// What a statement with this first word is, if it is not read.
+fn unread_statement(word: &[u8]) -> Head
+    ensures { result ≡ (if words.is_among word.now spec.unsupported then head.Unsupported else head.Unknown) }
+{
+    if is_unsupported(word) {
+        Head::Unsupported
+    } else {
+        Head::Unknown
+    }
+}
+
+/// What a statement with this first word is.
+fn statement_of(word: &[u8]) -> Head
+    requires { slice_index word.now 0 ≡ 46 }
+    ensures { result ≡ spec.head_of word.now }
+{
+    match STATEMENTS.iter().find(|(first, _)| word == *first) {
+        Some((_, head)) => *head,
+        None => unread_statement(word),
+    }
 }
 
 /// What a line with this first word is.
@@ -89,24 +114,9 @@ fn is_unsupported(word: &[u8]) -> bool
 pub fn head_of(word: &[u8]) -> Head
     ensures { result ≡ spec.head_of word.now }
 {
-    if word.is_empty() {
-        Head::Row
-    } else if word[0] != b'.' {
-        Head::Row
-    } else if word == b".model".as_slice() {
-        Head::Model
-    } else if word == b".inputs".as_slice() {
-        Head::Inputs
-    } else if word == b".outputs".as_slice() {
-        Head::Outputs
-    } else if word == b".names".as_slice() {
-        Head::Names
-    } else if word == b".end".as_slice() {
-        Head::End
-    } else if is_unsupported(word) {
-        Head::Unsupported
-    } else {
-        Head::Unknown
+    match word {
+        [b'.', ..] => statement_of(word),
+        _ => Head::Row,
     }
 }
 
