@@ -1,5 +1,6 @@
 //! The words of lines as slices of their text.
-ghost use Rattle.std.specs.Prelude.{◌≡◌, ◌≤◌, length, map, All, IfOk};
+ghost use Rattle.std.specs.Prelude.{◌≡◌, ◌≤◌, length, map, bytes_eq, All, IfOk};
+ghost use Rattle.std.specs.List.{list_any};
 ghost use Rattle.ae_lex.specs.Lines.{IsInside};
 ghost use Rattle.ae_lex.specs.Slices.{texts};
 ghost use Rattle.ae_lex.specs.Words as spec;
@@ -48,6 +49,13 @@ impl<'a> WordLine<'a> {
 pub struct WordLines<'a> {
     pub list: Seq<WordLine<'a>>,
     pub last: u32,
+}
+
+/// Whether a word is one of these.
+pub fn is_one_of(word: &[u8], words: &[&[u8]]) -> bool
+    ensures { result ≡ list_any (λ other. bytes_eq word.now other.now) words.now }
+{
+    words.iter().any(|other| word == *other)
 }
 
 /// The words of a line of the text.

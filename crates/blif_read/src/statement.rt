@@ -9,6 +9,7 @@ ghost use Rattle.ae_lex.specs.Slices.{texts};
 use crate::fault::NetLimits;
 use crate::head::Head;
 use ae_base::{Memory, Name, SOURCE_LINES, WRITTEN_LINES, is_name, is_source_name};
+use ae_lex::is_one_of;
 use std::alloc::Global;
 
 /// The most inputs, and the most outputs.
@@ -81,17 +82,11 @@ static UNSUPPORTED: [&[u8]; 19] = [
     b".code",
 ];
 
-fn is_unsupported(word: &[u8]) -> bool
-    ensures { result ≡ words.is_among word.now spec.unsupported }
-{
-    UNSUPPORTED.iter().any(|known| word == *known)
-}
-
 /// What a statement with this first word is, if it is not read.
 fn unread_statement(word: &[u8]) -> Head
     ensures { result ≡ (if words.is_among word.now spec.unsupported then head.Unsupported else head.Unknown) }
 {
-    if is_unsupported(word) {
+    if is_one_of(word, &UNSUPPORTED) {
         Head::Unsupported
     } else {
         Head::Unknown

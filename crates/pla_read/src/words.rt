@@ -9,21 +9,27 @@ ghost use Rattle.pla_read.specs.Words as spec;
 
 use ae_base::{Cube, Mask, Memory, Name, SOURCE_LINES, SOURCE_NAME_BYTES, Seq};
 use ae_cover::{Kind, Mark, Row};
+use ae_lex::is_one_of;
 use std::alloc::Global;
 
 /// The most digits of a number.
 pub const NUMBER_DIGITS: usize = 9;
 
+/// Headers of other PLA dialects.
+static UNSUPPORTED: [&[u8]; 6] = [
+    b".phase",
+    b".pair",
+    b".symbolic",
+    b".mv",
+    b".kiss",
+    b".label",
+];
+
 /// Whether a header is one of other PLA dialects.
 pub fn is_unsupported(header: &[u8]) -> bool
     ensures { result ≡ spec.is_unsupported header.now }
 {
-    header == b".phase".as_slice()
-        || header == b".pair".as_slice()
-        || header == b".symbolic".as_slice()
-        || header == b".mv".as_slice()
-        || header == b".kiss".as_slice()
-        || header == b".label".as_slice()
+    is_one_of(header, &UNSUPPORTED)
 }
 
 /// Whether nothing is read from a line of these words on.
