@@ -13,4 +13,5 @@ pub mod Network
 pub mod Out
 pub mod Run
 pub mod Scratch
+pub mod Source
 pub mod Valid

@@ -1,8 +1,9 @@
 -- A network that shows the values of a source's expansions implements the source.
-use Rattle.std.proofs.Common.{◌≡◌, ◌≢◌, ◌<◌, ◌≤◌, ◌-◌, ◌+◌, ℕ, Bool, true, List, [], ◌++◌, length, map, get_or, refl, sym, ap, ◌∙◌, arith, inl, inr}
+use Rattle.std.proofs.Common.{◌≡◌, ◌≢◌, ◌<◌, ◌≤◌, ◌-◌, ◌+◌, ℕ, Bool, true, List, [], ◌++◌, length, map, get_or, refl, sym, ap, ◌∙◌, subst, arith, inl, inr}
+use Rattle.std.specs.Prelude.{All}
 use Rattle.std.proofs.lemmas.Bool.{cases_lt}
 use Rattle.std.proofs.lemmas.List.{get_or_append_left, get_or-append_right, length-append, length-map, get_or-map}
-use Rattle.std.proofs.lemmas.List.Elements.{All-get_or}
+use Rattle.std.proofs.lemmas.List.Elements.{All-get_or, All-from_get_or}
 use Rattle.ae_net.specs.declared.net.Gate.{Gate}
 use Rattle.ae_base.specs.Source.{Specified, is_on}
 use Rattle.ae_base.specs.Source.Specified.{On, Off, Free}
@@ -87,3 +88,11 @@ module _ (n : Network) (valid : IsValid n) where
             let rj = port_range j above_j lj in
             two_names (port_signal i) (port_signal j) d (ports_apart i j above_i l lj) (omega (arith, ri.1, length-all)) (omega (arith, rj.1, length-all)) (sym (port_name i d above_i li) ∙ e ∙ port_name j d above_j lj)
       ]
+
+  -- what each signal's name keeps, the names of the inputs and of the ports keep
+  pub all_listed : (P : List ℕ → Type 0) → All P all_names → All P listed
+  all_listed P all = All-from_get_or P listed [] (λ i l.
+    elim (cases_lt i k) [
+      | inl low ↦ subst P (sym (input_name i [] low)) (All-get_or P all_names i [] (omega (arith, low, length-all)) all)
+      | inr above ↦ subst P (sym (port_name i [] above l)) (All-get_or P all_names (port_signal i) [] (omega (arith, (port_range i above l).1, length-all)) all)
+    ])

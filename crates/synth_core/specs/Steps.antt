@@ -1,42 +1,29 @@
 -- What the steps of a synthesis work on. For private contracts alone.
-use Rattle.std.specs.Prelude.{◌≡◌, ℕ, ◌+◌, ◌≤◌, None, Result, Ok, Err, List, map, filter, All}
+use Rattle.std.specs.Prelude.{◌≡◌, ℕ, ◌+◌, ◌≤◌, None, List, map, All}
 use Rattle.ae_base.specs.Mask.{Set}
-use Rattle.ae_base.specs.Cube.{Product, Signs}
+use Rattle.ae_base.specs.Cube.{Signs}
 use Rattle.ae_base.specs.Source.{Source}
 use Rattle.ae_base.specs.Terms.{IsPoint}
+use Rattle.ae_net.specs.Names.{Names}
 use Rattle.ae_net.specs.Network.{Network}
 use Rattle.ae_net.specs.Out.{out}
-use Rattle.ae_cover.specs.declared.parts.Row.{Row}
-use Rattle.ae_cover.specs.Cover.{Table, IsCover, has_mark, is_one}
 use Rattle.cascade.specs.declared.limits.TheConstants.{REDDY_TERMS}
 use Rattle.cascade.specs.Reddy.{reddy_net}
+use Rattle.cascade.specs.Shows.{CanBuild}
 use Rattle.expansion.specs.Functions.{AreExpansions}
-use Rattle.expansion.specs.Terms.{Terms, IsTerms, PassesAt, cost}
+use Rattle.expansion.specs.Terms.{Terms, cost, PassesAt}
 use Rattle.input_tests.specs.Whole.{cascade_tests}
-use Rattle.synth_core.specs.declared.error.SynthErr.{SynthErr}
-use Rattle.synth_core.specs.declared.error.SynthErr.TheVariants as err
 use Rattle.synth_core.specs.declared.made.Summary.{Summary}
-use Rattle.synth_core.specs.Made.{AreNumbers, IsSynthesised, Texts, names_of}
+use Rattle.synth_core.specs.Made.{AreNumbers, IsSynthesised, Texts}
 use Rattle.vec_text.specs.declared.file.Form.TheVariants.{Reddy}
 use Rattle.vec_text.specs.declared.file.Vector.{Vector}
 use Rattle.vec_text.specs.VectorFile.{VectorFile}
-
--- the cubes of the rows that have One at output o
-abbrev pub cubes_of : List Row → ℕ → List Product
-cubes_of rows o = map (λ row. row.cube) (filter (has_mark is_one o) rows)
 
 -- the expansions of a source pass the limit first at an output
 pub record TooMany (s : Source) (p : Signs) (output : ℕ) : Type 0 where
   pub expansions : Terms
   pub are : AreExpansions s p expansions
   pub passes : PassesAt REDDY_TERMS expansions.outs output
-
--- the expansions, or the first output at which they are too many
-abbrev pub Expands : Source → Signs → Result Terms SynthErr → Type 0
-Expands s p (Ok e) = AreExpansions s p e × (cost e ≤ REDDY_TERMS)
-Expands s p (Err (err.TooManyTerms output)) = TooMany s p output
-Expands s p (Err (err.Pla line what)) = ⊥
-Expands s p (Err err.Memory) = Unit {0}
 
 -- each point with the network's fault-free outputs there
 abbrev pub vectors_of : Network → List Set → List Vector
@@ -46,18 +33,17 @@ vectors_of n points = map (λ x. record { point = x; outs = out n None x }) poin
 abbrev pub file_over : Network → List (List ℕ) → Signs → List Set → VectorFile
 file_over n outputs p points = record { form = Reddy; inputs = n.inputs; outputs = outputs; polarity = p; vectors = vectors_of n points }
 
--- that of the Reddy network of a source's expansions
-abbrev pub reddy_file : Source → Terms → VectorFile
-reddy_file s e = file_over (reddy_net (names_of s) e) s.outputs e.polarity (cascade_tests e)
+-- that of the Reddy network of expansions over the vectors of the cascade
+abbrev pub reddy_file : Names → Terms → VectorFile
+reddy_file names e = file_over (reddy_net names e) names.outputs e.polarity (cascade_tests e)
 
 -- the vectors of the cascade are points of the network's inputs
 abbrev pub AreCascadePoints : Terms → Type 0
 AreCascadePoints e = All (IsPoint (e.polarity.n + 1)) (cascade_tests e)
 
--- what the law of a synthesis asks for of a cover and its expansions
-pub record AreReady (t : Table) (e : Terms) : Type 0 where
-  pub cover : IsCover t
-  pub terms : IsTerms e
+-- what the law of a synthesis asks for of names and expansions
+pub record AreReady (names : Names) (e : Terms) : Type 0 where
+  pub built : CanBuild names e
   pub points : AreCascadePoints e
 
 -- the numbers, and those of the Reddy form

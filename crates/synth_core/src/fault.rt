@@ -1,5 +1,6 @@
 //! The faults of a text that is read.
 
+use blif_read::BlifFault;
 use pla_read::PlaFault;
 use std::fmt;
 
@@ -8,6 +9,8 @@ use std::fmt;
 pub enum TextFault {
     /// A fault of a PLA text.
     Pla(PlaFault),
+    /// A fault of a BLIF text.
+    Blif(BlifFault),
 }
 
 impl fmt::Display for TextFault {
@@ -19,6 +22,7 @@ impl fmt::Display for TextFault {
     fn fmt<W: fmt::Write>(&self, f: &mut fmt::Formatter<W>) -> fmt::Result {
         match self {
             TextFault::Pla(fault) => fault.fmt(f),
+            TextFault::Blif(fault) => fault.fmt(f),
         }
     }
 }

@@ -1,16 +1,15 @@
-//! What is made of a cover's expansions.
-ghost use Rattle.std.specs.Prelude.{◌≡◌, ◌≤◌};
-ghost use Rattle.ae_cover.specs.Cover.{Table, IsCover, source_of};
+//! What is made of a source's expansions.
+ghost use Rattle.ae_base.specs.Source.{Source};
 ghost use Rattle.ae_net.specs.Blif.{blif_text};
-ghost use Rattle.cascade.specs.declared.limits.TheConstants.{REDDY_TERMS};
+ghost use Rattle.ae_net.specs.Names.{Names};
 ghost use Rattle.cascade.specs.Reddy.{reddy_net};
 ghost use Rattle.expansion.specs.Functions.{AreExpansions};
-ghost use Rattle.expansion.specs.Terms.{Terms, IsTerms, cost};
+ghost use Rattle.expansion.specs.Terms.{Terms};
 ghost use Rattle.vec_text.specs.declared.file.Form.TheVariants.{Reddy};
 ghost use Rattle.vec_text.specs.VectorFile.{IsValidVectorFile, vector_text};
 ghost use Rattle.synth_core.specs.declared.made.Summary.{Summary};
 ghost use Rattle.synth_core.specs.Made.{IsSynthesised, names_of};
-ghost use Rattle.synth_core.specs.Steps.{AreCascadePoints, AreReddyNumbers, reddy_file};
+ghost use Rattle.synth_core.specs.Steps.{AreReady, AreReddyNumbers, reddy_file};
 
 use ae_net::{lead_law, one_run};
 use blif_read::said_law;
@@ -20,17 +19,16 @@ use expansion::even_law;
 use fn_store::expansion_law;
 use input_tests::input_law;
 
-/// Of the expansions of a cover's outputs, within the limit on terms: the file over the vectors of the cascade keeps the rules of a
-/// vector file, and the texts of the Reddy network and of that file, with their numbers, are what a synthesis makes of the cover. Here,
+/// Of the names and the expansions of a source, within the limit on terms: the file over the vectors of the cascade keeps the rules of a
+/// vector file, and the texts of the Reddy network and of that file, with their numbers, are what a synthesis makes of the source. Here,
 /// and here alone, what the crates of the cascade say of outputs as the code works them out becomes what a reader is told of runs.
 pub fn synthesis_law()
-    ensures valid { (t : Table) (e : Terms) → IsCover t → IsTerms e → cost e ≤ REDDY_TERMS → AreExpansions (source_of t) e.polarity e → AreCascadePoints e
-        → IsValidVectorFile (reddy_file (source_of t) e) }
-    ensures made { (t : Table) (e : Terms) (summary : Summary) → IsCover t → IsTerms e → cost e ≤ REDDY_TERMS → AreExpansions (source_of t) e.polarity e → AreCascadePoints e
-        → let net = reddy_net (names_of (source_of t)) e in
-        let file = reddy_file (source_of t) e in
-        AreReddyNumbers (source_of t) e net file summary
-        → IsSynthesised Reddy e.polarity (source_of t) e (record { net_text = blif_text net; vec_text = vector_text file; summary = summary }) }
+    ensures valid { (names : Names) (e : Terms) → AreReady names e → IsValidVectorFile (reddy_file names e) }
+    ensures made { (s : Source) (e : Terms) (summary : Summary) → AreReady (names_of s) e → AreExpansions s e.polarity e
+        → let net = reddy_net (names_of s) e in
+        let file = reddy_file (names_of s) e in
+        AreReddyNumbers s e net file summary
+        → IsSynthesised Reddy e.polarity s e (record { net_text = blif_text net; vec_text = vector_text file; summary = summary }) }
 {
     one_run();
     lead_law();

@@ -2,11 +2,11 @@
 #![tactic(auto)]
 
 mod error;
-mod expand;
 mod fault;
 mod laws;
 mod made;
 mod one;
+mod read;
 mod settings;
 mod synthesis;
 

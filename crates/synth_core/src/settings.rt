@@ -11,6 +11,8 @@ use vec_text::Form;
 pub enum SourceKind {
     /// An espresso PLA text.
     Pla,
+    /// A combinational BLIF text.
+    Blif,
 }
 
 /// Which polarity the expansions have.

@@ -1,52 +1,39 @@
 //! The network of a source and the network's vectors.
 ghost use Rattle.std.specs.Prelude.{◌≡◌, ◌≤◌, ◌⊎◌, ℕ, IfOk, IsOk, IsErrOf, Err, length};
 ghost use Rattle.ae_base.specs.declared.limits.TheConstants.{TEXT_BYTES};
-ghost use Rattle.ae_cover.specs.Cover.{source_of};
+ghost use Rattle.ae_base.specs.Cube.{Signs};
+ghost use Rattle.ae_base.specs.Source.{Source};
 ghost use Rattle.ae_net.specs.Blif as blif;
 ghost use Rattle.cascade.specs.declared.limits.TheConstants.{REDDY_TERMS};
 ghost use Rattle.cascade.specs.Reddy.{reddy_net};
+ghost use Rattle.cascade.specs.Shows.{Fits};
 ghost use Rattle.expansion.specs.Functions.{AreExpansions};
 ghost use Rattle.expansion.specs.Terms.{cost};
-ghost use Rattle.pla_read.specs.declared.fault.PlaFault.{PlaFault};
 ghost use Rattle.synth_core.specs.declared.error.SynthErr.TheVariants as synth_err;
-ghost use Rattle.synth_core.specs.declared.fault.TextFault.TheVariants as text;
+ghost use Rattle.synth_core.specs.declared.fault.TextFault.{TextFault};
 ghost use Rattle.synth_core.specs.Asked.{HasTooMany, IsWithin};
+ghost use Rattle.synth_core.specs.Errors.{of_text};
 ghost use Rattle.synth_core.specs.Made.{IsMade, IsSynthesised, names_of, texts_of};
 ghost use Rattle.synth_core.specs.Says.{source_says};
+ghost use Rattle.synth_core.specs.Sourced.{IsSourced, IsWhole, sourced_of};
 ghost use Rattle.synth_core.specs.Steps.{AreReady, AreReddyNumbers, IsMadeOf, TooMany, file_over, reddy_file, vectors_of};
 ghost use Rattle.vec_text.specs.declared.file.Form.TheVariants.{Reddy};
 ghost use Rattle.vec_text.specs.VectorFile.{IsValidVectorFile, vector_text};
 
 use crate::error::SynthErr;
-use crate::expand::expansions;
 use crate::laws::synthesis_law;
 use crate::made::{Made, Summary};
-use crate::settings::{Settings, SourceKind, polarity_of};
+use crate::read::{Sourced, read_source};
+use crate::settings::Settings;
 use ae_base::{Memory, Name, Point, Polarity, Seq, copies};
-use ae_cover::Cover;
 use ae_net::{Net, NetNames, answer, fault_count, scratch_for};
 use blif_write::blif_text;
-use cascade::reddy;
-use expansion::{Expansion, pairs};
+use cascade::{REDDY_TERMS, reddy};
+use expansion::{Expansion, expand, expanded_law, pairs};
 use fn_store::expansion_law;
 use input_tests::cascade_vectors;
-use pla_read::{PlaErr, read_pla};
 use std::alloc::Global;
 use vec_text::{Form, VecFile, Vector, vec_text};
-
-/// The names of a network: a PLA text gives its model none of its own.
-fn net_names(alloc: Global, cover: &Cover) -> Result<NetNames, Memory>
-    ensures { IfOk result (λ names. names ≡ names_of (source_of cover.now)) }
-{
-    let inputs = copies(alloc, cover.inputs())?;
-    let outputs = copies(alloc, cover.outputs())?;
-    let model = Name::known(alloc, b"andexor")?;
-    Ok(NetNames {
-        model,
-        inputs,
-        outputs,
-    })
-}
 
 /// Each point with the network's fault-free outputs there.
 fn responses(alloc: Global, net: &Net, points: &[Point]) -> Result<Seq<Vector>, Memory>
@@ -87,47 +74,37 @@ fn vector_file(
     })
 }
 
-/// The Reddy network of a cover's expansions.
-fn reddy_of(alloc: Global, cover: &Cover, e: &Expansion) -> Result<Net, Memory>
-    requires expansions { AreExpansions (source_of cover.now) e.now.polarity e.now }
+/// The vector file of the Reddy network of expansions over the vectors of the cascade.
+fn file_of(alloc: Global, names: &NetNames, e: &Expansion, net: &Net) -> Result<VecFile, Memory>
+    requires net { net.now ≡ reddy_net names.now e.now }
+    requires fits { Fits names.now e.now }
     requires cheap { cost e.now ≤ REDDY_TERMS }
-    ensures { IfOk result (λ net. net ≡ reddy_net (names_of (source_of cover.now)) e.now) }
-{
-    let names = net_names(alloc, cover)?;
-    reddy(alloc, &names, e)
-}
-
-/// The vector file of that network over the vectors of the cascade.
-fn file_of(alloc: Global, cover: &Cover, e: &Expansion, net: &Net) -> Result<VecFile, Memory>
-    requires net { net.now ≡ reddy_net (names_of (source_of cover.now)) e.now }
-    requires expansions { AreExpansions (source_of cover.now) e.now.polarity e.now }
-    requires cheap { cost e.now ≤ REDDY_TERMS }
-    ensures file { IfOk result (λ file. file ≡ reddy_file (source_of cover.now) e.now) }
-    ensures ready { IfOk result (λ _. AreReady cover.now e.now) }
+    ensures file { IfOk result (λ file. file ≡ reddy_file names.now e.now) }
+    ensures ready { IfOk result (λ _. AreReady names.now e.now) }
 {
     let points = cascade_vectors(alloc, e)?;
     synthesis_law();
-    vector_file(alloc, net, cover.outputs(), e.polarity(), &points)
+    vector_file(alloc, net, names.outputs(), e.polarity(), &points)
 }
 
-/// The numbers of the network of a cover's expansions and of its vector file.
+/// The numbers of the network of expansions and of its vector file.
 fn summary(
     alloc: Global,
-    cover: &Cover,
+    names: &NetNames,
     e: &Expansion,
     net: &Net,
     file: &VecFile,
 ) -> Result<Summary, Memory>
-    requires inputs { e.now.polarity.n ≡ length cover.now.inputs }
+    requires fits { Fits names.now e.now }
     requires form { file.now.form ≡ Reddy }
     requires polarity { file.now.polarity ≡ e.now.polarity }
-    ensures { IfOk result (λ summary. AreReddyNumbers (source_of cover.now) e.now net.now file.now summary) }
+    ensures { IfOk result (λ summary. (s : Source) → names.now ≡ names_of s → AreReddyNumbers s e.now net.now file.now summary) }
 {
     let faults = fault_count(alloc, net)?;
     Ok(Summary {
         form: Form::Reddy,
         inputs: e.inputs(),
-        outputs: cover.outputs().len() as u32,
+        outputs: names.outputs().len() as u32,
         polarity: e.polarity(),
         terms: pairs(e),
         cubes: 0,
@@ -151,54 +128,46 @@ fn made_of(alloc: Global, net: &Net, file: &VecFile, summary: Summary) -> Result
     })
 }
 
-/// The texts of the network of a cover's expansions and of its vectors.
-fn texts(alloc: Global, cover: &Cover, e: &Expansion) -> Result<Made, Memory>
-    requires expansions { AreExpansions (source_of cover.now) e.now.polarity e.now }
+/// The texts of the network of expansions and of its vectors.
+fn texts(alloc: Global, names: &NetNames, e: &Expansion) -> Result<Made, Memory>
+    requires fits { Fits names.now e.now }
     requires cheap { cost e.now ≤ REDDY_TERMS }
-    ensures { IfOk result (λ made. IsSynthesised Reddy e.now.polarity (source_of cover.now) e.now (texts_of made)) }
+    ensures { IfOk result (λ made. (s : Source) → names.now ≡ names_of s → AreExpansions s e.now.polarity e.now → IsSynthesised Reddy e.now.polarity s e.now (texts_of made)) }
 {
-    let net = reddy_of(alloc, cover, e)?;
-    let file = file_of(alloc, cover, e, &net)?;
-    let summary = summary(alloc, cover, e, &net, &file)?;
+    let net = reddy(alloc, names, e)?;
+    let file = file_of(alloc, names, e, &net)?;
+    let summary = summary(alloc, names, e, &net, &file)?;
     synthesis_law();
     made_of(alloc, &net, &file, summary)
 }
 
-/// The network of a cover at a polarity of its inputs, and the vectors of the cascade, as texts.
-fn synthesise_cover(alloc: Global, cover: &Cover, polarity: Polarity) -> Result<Made, SynthErr>
-    requires { polarity.n ≡ length cover.now.inputs }
-    ensures made { IfOk result (λ made. IsMadeOf (source_of cover.now) polarity (texts_of made)) }
-    ensures too_many { (output : ℕ) → IsErrOf result (synth_err.TooManyTerms output) → TooMany (source_of cover.now) polarity output }
-    ensures accepted { (line : ℕ) (what : PlaFault) → ¬ (IsErrOf result (synth_err.Pla line what)) }
+/// The network of a source and the vectors of the cascade, as texts.
+fn synthesise_sourced(alloc: Global, sourced: &Sourced) -> Result<Made, SynthErr>
+    requires { IsWhole (sourced_of sourced.now) }
+    ensures made { IfOk result (λ made. (s : Source) (p : Signs) → IsSourced s p (sourced_of sourced.now) → IsMadeOf s p (texts_of made)) }
+    ensures too_many { (output : ℕ) → IsErrOf result (synth_err.TooManyTerms output) → (s : Source) (p : Signs) → IsSourced s p (sourced_of sourced.now) → TooMany s p output }
+    ensures accepted { (line : ℕ) (what : TextFault) → ¬ (IsErrOf result (of_text line what)) }
 {
-    let expansions = expansions(alloc, cover, polarity)?;
-    let made = texts(alloc, cover, &expansions)?;
-    Ok(made)
+    expanded_law();
+    let expansion = expand(alloc, &sourced.functions, &sourced.outputs, REDDY_TERMS)?;
+    Ok(texts(alloc, &sourced.names, &expansion)?)
 }
 
 /// Reads a source of the kind that is asked for, and gives the texts of its network in the form that is asked for and of the network's
-/// vectors, with their numbers. `Pla` comes exactly where the text has a fault, with the first one and its line; `TooManyTerms` exactly
-/// where it has none and the running sum of the expansions' terms passes the limit of the form, with the first output at which it
-/// does; `Memory` for want of memory alone.
+/// vectors, with their numbers. `Pla` and `Blif` come exactly where the text is asked for as of that kind and has a fault, with the first
+/// one and its line; `TooManyTerms` exactly where it has none and the running sum of the expansions' terms passes the limit of the form,
+/// with the first output at which it does; `Memory` for want of memory alone.
 pub fn synthesise(alloc: Global, bytes: &[u8], settings: &Settings) -> Result<Made, SynthErr>
     requires { length bytes.now ≤ TEXT_BYTES }
     ensures made { IfOk result (λ made. IsMade settings.now bytes.now (texts_of made)) }
-    ensures refused { (line : ℕ) (what : PlaFault) → IsErrOf result (synth_err.Pla line what) → source_says settings.now.kind bytes.now ≡ Err (line, text.Pla what) }
+    ensures refused { (line : ℕ) (what : TextFault) → IsErrOf result (of_text line what) → source_says settings.now.kind bytes.now ≡ Err (line, what) }
     ensures too_many { (output : ℕ) → IsErrOf result (synth_err.TooManyTerms output) → HasTooMany settings.now bytes.now output }
     // Each cause has its answer, unless memory is wanting.
-    ensures always_refused { (line : ℕ) (what : PlaFault) → source_says settings.now.kind bytes.now ≡ Err (line, text.Pla what) → IsErrOf result (synth_err.Pla line what) ⊎ IsErrOf result synth_err.Memory }
+    ensures always_refused { (line : ℕ) (what : TextFault) → source_says settings.now.kind bytes.now ≡ Err (line, what) → IsErrOf result (of_text line what) ⊎ IsErrOf result synth_err.Memory }
     ensures always_too_many { (output : ℕ) → HasTooMany settings.now bytes.now output → IsErrOf result (synth_err.TooManyTerms output) ⊎ IsErrOf result synth_err.Memory }
     ensures complete { IsWithin settings.now bytes.now → IsOk result ⊎ IsErrOf result synth_err.Memory }
 {
-    match settings.kind {
-        SourceKind::Pla => match read_pla(alloc, bytes) {
-            Ok(cover) => {
-                let inputs = cover.inputs().len() as u32;
-                expansion_law();
-                synthesise_cover(alloc, &cover, polarity_of(settings.polarity, inputs))
-            }
-            Err(PlaErr::At { line, what }) => Err(SynthErr::Pla { line, what }),
-            Err(PlaErr::Memory) => Err(SynthErr::Memory),
-        },
-    }
+    expansion_law();
+    let sourced = read_source(alloc, bytes, settings)?;
+    synthesise_sourced(alloc, &sourced)
 }

@@ -1,36 +1,51 @@
-use Rattle.std.proofs.Common.{◌≡◌, ◌∙◌, ap, length}
+use Rattle.std.proofs.Common.{◌≡◌, ◌⊎◌, ◌∙◌, length, inl, inr, ap, sym, Err}
+use Rattle.std.proofs.lemmas.Result.{IfOk-weaker}
 use Rattle.synth_core.specs.Asked.{polarity_of}
-use Rattle.synth_core.proofs.Exact.{no_fault, all_made, has_too_many, always_too_many, complete}
+use Rattle.synth_core.specs.Made.{texts_of}
+use Rattle.synth_core.specs.Steps.{IsMadeOf}
+use Rattle.synth_core.specs.Sourced.{IsSourced, sourced_of}
+use Rattle.synth_core.proofs.Sources.{passed_on}
+use Rattle.synth_core.proofs.Exact.{is_refused, is_memory, all_made, has_too_many, always_too_many, complete}
 use Rattle.synth_core.proofs.synthesis.synthesise.Goals as goal
 
-pub returns-in-Ok-clause-made : goal.returns-in-Ok-clause-made
-returns-in-Ok-clause-made c =
-    let settings = c.args.settings.now in
-    let p_is : c.polarity_of.result ≡ polarity_of settings.polarity (length c.in-Ok.cover.inputs) = c.polarity_of.ensures ∙ ap (λ xs. polarity_of settings.polarity (length xs)) c.inputs.ensures.inputs in
-    all_made settings c.args.bytes.now c.in-Ok.cover c.polarity_of.result c.in-Ok.ensures p_is c.synthesise_cover.result c.synthesise_cover.ensures.made
+pub returns-in_err-sourced-clause-always_refused : goal.returns-in_err-sourced-clause-always_refused
+returns-in_err-sourced-clause-always_refused c line what says =
+    let e = c.in_err-sourced.field-0.0 in
+    let is = passed_on c.from_residual.result e c.from_residual.ensures.1 in
+    elim (is_refused c.args.settings.now c.args.bytes.now e c.in_err-sourced.ensures.refused c.in_err-sourced.ensures.no_terms line what says) [
+      | inl fault ↦ inl (is ∙ ap Err fault)
+      | inr memory ↦ inr (is ∙ ap Err memory)
+    ]
 
-pub returns-in-Ok-clause-too_many : goal.returns-in-Ok-clause-too_many
-returns-in-Ok-clause-too_many c output is =
-    let settings = c.args.settings.now in
-    let p_is : c.polarity_of.result ≡ polarity_of settings.polarity (length c.in-Ok.cover.inputs) = c.polarity_of.ensures ∙ ap (λ xs. polarity_of settings.polarity (length xs)) c.inputs.ensures.inputs in
-    has_too_many settings c.args.bytes.now c.in-Ok.cover c.polarity_of.result c.in-Ok.ensures p_is output (c.synthesise_cover.ensures.too_many output is)
+pub returns-in_err-sourced-clause-always_too_many : goal.returns-in_err-sourced-clause-always_too_many
+returns-in_err-sourced-clause-always_too_many c output many =
+    let e = c.in_err-sourced.field-0.0 in
+    inr (passed_on c.from_residual.result e c.from_residual.ensures.1 ∙ ap Err (is_memory c.args.settings.now c.args.bytes.now e c.in_err-sourced.ensures.refused c.in_err-sourced.ensures.no_terms many.source many.expanded.says))
 
-pub returns-in-Ok-clause-always_refused : goal.returns-in-Ok-clause-always_refused
-returns-in-Ok-clause-always_refused c line what fault =
-    let settings = c.args.settings.now in
-    let p_is : c.polarity_of.result ≡ polarity_of settings.polarity (length c.in-Ok.cover.inputs) = c.polarity_of.ensures ∙ ap (λ xs. polarity_of settings.polarity (length xs)) c.inputs.ensures.inputs in
-    absurd (no_fault settings c.args.bytes.now c.in-Ok.cover c.polarity_of.result c.in-Ok.ensures p_is line what fault)
+pub returns-in_err-sourced-clause-complete : goal.returns-in_err-sourced-clause-complete
+returns-in_err-sourced-clause-complete c within =
+    let e = c.in_err-sourced.field-0.0 in
+    inr (passed_on c.from_residual.result e c.from_residual.ensures.1 ∙ ap Err (is_memory c.args.settings.now c.args.bytes.now e c.in_err-sourced.ensures.refused c.in_err-sourced.ensures.no_terms within.source within.expanded.says))
 
-pub returns-in-Ok-clause-always_too_many : goal.returns-in-Ok-clause-always_too_many
-returns-in-Ok-clause-always_too_many c output many =
-    let settings = c.args.settings.now in
-    let p_is : c.polarity_of.result ≡ polarity_of settings.polarity (length c.in-Ok.cover.inputs) = c.polarity_of.ensures ∙ ap (λ xs. polarity_of settings.polarity (length xs)) c.inputs.ensures.inputs in
-    always_too_many settings c.args.bytes.now c.in-Ok.cover c.polarity_of.result c.in-Ok.ensures p_is c.expansion_law.ensures.one
-    c.synthesise_cover.result c.synthesise_cover.ensures.made c.synthesise_cover.ensures.too_many c.synthesise_cover.ensures.accepted output many
+pub returns-clause-made : goal.returns-clause-made
+returns-clause-made c =
+    let is = c.in_ok-sourced.ensures.sourced in
+    all_made c.args.settings.now c.args.bytes.now is.source is.says c.synthesise_sourced.result
+    (IfOk-weaker c.synthesise_sourced.result _ (λ made. IsMadeOf is.source (polarity_of c.args.settings.now.polarity (length is.source.inputs)) (texts_of made)) (λ made law. law is.source _ is.is) c.synthesise_sourced.ensures.made)
 
-pub returns-in-Ok-clause-complete : goal.returns-in-Ok-clause-complete
-returns-in-Ok-clause-complete c within =
-    let settings = c.args.settings.now in
-    let p_is : c.polarity_of.result ≡ polarity_of settings.polarity (length c.in-Ok.cover.inputs) = c.polarity_of.ensures ∙ ap (λ xs. polarity_of settings.polarity (length xs)) c.inputs.ensures.inputs in
-    complete settings c.args.bytes.now c.in-Ok.cover c.polarity_of.result c.in-Ok.ensures p_is c.expansion_law.ensures.one
-    c.synthesise_cover.result c.synthesise_cover.ensures.too_many c.synthesise_cover.ensures.accepted within
+pub returns-clause-too_many : goal.returns-clause-too_many
+returns-clause-too_many c output err =
+    let is = c.in_ok-sourced.ensures.sourced in
+    has_too_many c.args.settings.now c.args.bytes.now is.source is.says output (c.synthesise_sourced.ensures.too_many output err is.source _ is.is)
+
+pub returns-clause-always_too_many : goal.returns-clause-always_too_many
+returns-clause-always_too_many c output many =
+    let is = c.in_ok-sourced.ensures.sourced in
+    always_too_many c.args.settings.now c.args.bytes.now is.source is.says c.expansion_law.ensures.one c.synthesise_sourced.result
+    (IfOk-weaker c.synthesise_sourced.result _ (λ made. IsMadeOf is.source (polarity_of c.args.settings.now.polarity (length is.source.inputs)) (texts_of made)) (λ made law. law is.source _ is.is) c.synthesise_sourced.ensures.made)
+    (λ o e. c.synthesise_sourced.ensures.too_many o e is.source _ is.is) c.synthesise_sourced.ensures.accepted output many
+
+pub returns-clause-complete : goal.returns-clause-complete
+returns-clause-complete c within =
+    let is = c.in_ok-sourced.ensures.sourced in
+    complete c.args.settings.now c.args.bytes.now is.source is.says c.expansion_law.ensures.one c.synthesise_sourced.result (λ o e. c.synthesise_sourced.ensures.too_many o e is.source _ is.is) c.synthesise_sourced.ensures.accepted within

@@ -1,0 +1,123 @@
+-- What is read of a cover and of a network is what the source says.
+use Rattle.std.proofs.Common.{◌≡◌, ◌<◌, ◌≤◌, ◌+◌, ◌-◌, ℕ, zero, suc, Bool, true, false, cond, List, [], ◌∷◌, ◌++◌, length, map, get_or, refl, sym, ap, ◌∙◌, subst, arith}
+use Rattle.std.specs.Prelude.{All, Some, None, Result, Err, IsErrAnd, slice_get}
+use Rattle.std.proofs.lemmas.Result.{err_from_is_err_and}
+use Rattle.std.proofs.lemmas.Bool.{and_parts, leb-true}
+use Rattle.std.proofs.lemmas.Option.{slice_get-get_or}
+use Rattle.std.proofs.lemmas.List.{length-map}
+use Rattle.std.proofs.lemmas.List.Elements.{All-append, All-map, All-weaker}
+use Rattle.ae_base.specs.Mask.{Set, has}
+use Rattle.ae_base.specs.Cube.{Signs}
+use Rattle.ae_base.specs.Name.{is_name, is_source_name}
+use Rattle.ae_base.specs.Source.{Source, Specified, is_on, on_set}
+use Rattle.ae_base.specs.Source.Specified.{On, Off}
+use Rattle.ae_base.specs.declared.limits.TheConstants.{SOURCE_NAME_BYTES}
+use Rattle.ae_cover.specs.Cover.{Table, some_row, is_one, source_of}
+use Rattle.ae_net.specs.Names.{IsNames}
+use Rattle.ae_net.specs.Network.{Network, gate_at}
+use Rattle.ae_net.specs.Out.{out}
+use Rattle.ae_net.specs.Source as net
+use Rattle.ae_net.specs.Valid.{IsValid}
+use Rattle.blif_read.specs.Limits.{KeepsLimits}
+use Rattle.blif_read.specs.declared.fault.NetLimits.TheVariants.{Source as source_limits}
+use Rattle.fn_store.specs.Functions.{Functions, IsLive, Shows, AgreeAt}
+use Rattle.fn_store.specs.Davio.{IsExpansion}
+use Rattle.net_fn.specs.Refs.{ShowEach}
+use Rattle.fn_store.specs.declared.store.FnRef.{FnRef}
+use Rattle.expansion.specs.Stores.{expanded}
+use Rattle.expansion.specs.Functions.{AreExpansions}
+use Rattle.expansion.specs.Terms.{Terms, cost, PassesAt}
+use Rattle.cascade.specs.declared.limits.TheConstants.{REDDY_TERMS}
+use Rattle.cascade.specs.Shows.{Fits}
+use Rattle.vec_text.specs.declared.file.Form.TheVariants.{Reddy}
+use Rattle.expansion.specs.declared.functions.ExpandErr.{ExpandErr}
+use Rattle.expansion.specs.declared.functions.ExpandErr.TheVariants as expand_err
+use Rattle.synth_core.specs.declared.error.SynthErr.TheVariants as err
+use Rattle.synth_core.specs.Errors.{of_expand}
+use Rattle.synth_core.specs.Asked.{polarity_of}
+use Rattle.synth_core.specs.declared.settings.Choice.{Choice}
+use Rattle.synth_core.specs.declared.settings.Choice.TheVariants.{Positive}
+use Rattle.synth_core.specs.Made.{IsSynthesised, Texts, names_of}
+use Rattle.synth_core.specs.Sourced.{Parts, IsSourced, IsWhole}
+use Rattle.synth_core.specs.Steps.{IsMadeOf, TooMany}
+use Rattle.synth_core.proofs.Shown.{listed_distinct, all_listed}
+
+-- ---- which outputs are On
+
+on_if : (b : Bool) (s : Specified) → is_on s ≡ false → is_on (cond b On s) ≡ b
+on_if true s e = refl
+on_if false s e = e
+
+-- an output of a network is On exactly where it shows 1
+on_set_net : (n : Network) (o : ℕ) (x : Set) → has (out n None x) o ≡ on_set (net.source_of n) o x
+on_set_net n o x = sym (on_if (has (out n None x) o) Off refl)
+
+-- ---- names
+
+name_of : (name : List ℕ) → is_source_name name ≡ true → (is_name name ≡ true) × (length name ≤ SOURCE_NAME_BYTES)
+name_of name h = ((and_parts _ _ h).0, leb-true _ _ (and_parts _ _ h).1)
+
+pub net_named : (n : Network) → IsValid n → KeepsLimits source_limits n → IsNames (names_of (net.source_of n))
+net_named n valid keeps = record {
+  model_named = valid.model_named;
+  some_input = valid.some_input;
+  few_inputs = keeps.few_inputs;
+  some_output = omega (arith, valid.some_output, length-map n.outputs (λ s. (gate_at n (s - length n.inputs)).out));
+  few_outputs = omega (arith, keeps.few_outputs, length-map n.outputs (λ s. (gate_at n (s - length n.inputs)).out));
+  distinct = listed_distinct n valid;
+  each = all_listed n valid (λ name. (is_name name ≡ true) × (length name ≤ SOURCE_NAME_BYTES)) (All-weaker (λ name. is_source_name name ≡ true) _ name_of _ keeps.named);
+}
+
+-- ---- what references show
+
+module _ (agree : (s : Functions) (r : FnRef) (f g : Set → Bool) → AgreeAt s.polarity.n f g → Shows s r f → Shows s r g) (functions : Functions) (refs : List FnRef) where
+  pub net_shows : (n : Network) → ShowEach functions refs (λ o x. has (out n None x) o) → ShowEach functions refs (on_set (net.source_of n))
+  net_shows n show = record { each = λ o r at. agree functions r _ _ (λ x point. on_set_net n o x) (show.each o r at) }
+
+pub polarity_inputs : (choice : Choice) (n : ℕ) → (polarity_of choice n).n ≡ n
+polarity_inputs Positive n = refl
+
+-- ---- what is expanded
+
+module _ (s : Source) (p : Signs) (r : Parts) (is : IsSourced s p r)
+    (law : (source : Source) (s : Functions) (refs : List FnRef) → s.polarity.n ≡ length source.inputs → length refs ≡ length source.outputs
+        → ((o : ℕ) (r : FnRef) → slice_get refs o ≡ Some r → Shows s r (on_set source o)) → AreExpansions source s.polarity (expanded s refs)) where
+  are_expansions : AreExpansions s p (expanded r.functions r.outputs)
+  are_expansions =
+      subst (λ q. AreExpansions s q (expanded r.functions r.outputs)) is.polarity
+      (law s r.functions r.outputs (ap (λ q. q.n) is.polarity ∙ is.inputs) is.count is.shows.each)
+
+  pub is_too_many : (output : ℕ) → PassesAt REDDY_TERMS (expanded r.functions r.outputs).outs output → TooMany s p output
+  is_too_many output passes = record { expansions = expanded r.functions r.outputs; are = are_expansions; passes = passes }
+
+  pub is_made_of : (e : Terms) (texts : Texts) → e ≡ expanded r.functions r.outputs → cost e ≤ REDDY_TERMS
+      → ((s : Source) → r.names ≡ names_of s → AreExpansions s e.polarity e → IsSynthesised Reddy e.polarity s e texts) → IsMadeOf s p texts
+  is_made_of e texts same cheap law =
+      let are : AreExpansions s p e = rw same are_expansions in
+      let polarity : e.polarity ≡ p = are.polarity in
+      record {
+        expansions = e;
+        are = are;
+        within = cheap;
+        is_synthesised = subst (λ q. IsSynthesised Reddy q s e texts) polarity (law s is.names (subst (λ q. AreExpansions s q e) (sym polarity) are));
+      }
+
+pub fits_of : (r : Parts) (e : Terms) → IsWhole r → e ≡ expanded r.functions r.outputs → Fits r.names e
+fits_of r e whole same = rw same (record { inputs = whole.inputs; outputs = length-map r.outputs _ ∙ whole.count })
+
+pub are_live : (functions : Functions) (refs : List FnRef) (fs : ℕ → Set → Bool) → ShowEach functions refs fs → All (IsLive functions) refs
+are_live functions refs fs shows = λ k d l. (shows.each k (get_or refs k d) (slice_get-get_or refs k d l)).live
+
+-- what a `?` answers of an error is what the error becomes
+pub passed_on : {T E : Type 0} (r : Result T E) (e : E) → IsErrAnd r (λ y. y ≡ e) → r ≡ Err e
+passed_on r e h = let p = err_from_is_err_and r h in p.1 ∙ ap Err p.2
+
+pub answered : {T E S : Type 0} → (r : Result T S) (becomes : E → S) (e : E) (s : S) → IsErrAnd r (λ y. y ≡ becomes e) → r ≡ Err s → becomes e ≡ s
+answered r becomes e s h is =
+    let p = err_from_is_err_and r h in
+    let same : p.0 ≡ s = cc (p.1, is) in
+    sym p.2 ∙ same
+
+pub too_many_of : (e : ExpandErr) (output : ℕ) → of_expand e ≡ err.TooManyTerms output → e ≡ expand_err.TooManyTerms output
+too_many_of (expand_err.TooManyTerms o) output h = let same : o ≡ output = cc h in ap (λ k. expand_err.TooManyTerms k) same
+too_many_of expand_err.Memory output h = absurd (cc h)
