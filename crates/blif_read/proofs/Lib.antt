@@ -1,8 +1,14 @@
 pub mod Examples
 pub mod Undefined
+pub mod WrittenAgain
+pub mod WrittenFine
+pub mod WrittenGates
 pub mod WrittenLines
 pub mod WrittenNames
 pub mod WrittenPlacing
+pub mod WrittenPlain
+pub mod WrittenRows
+pub mod WrittenStatements
 pub mod Steps
 pub mod Tables
 pub mod Words

@@ -15,5 +15,5 @@ mod statement;
 mod table;
 
 pub use fault::{BlifErr, BlifFault, NetLimits};
-pub use laws::said_law;
+pub use laws::{said_again, said_law};
 pub use read::read_blif;

@@ -10,9 +10,9 @@ ghost use Rattle.blif_read.specs.Limits.{KeepsLimits};
 ghost use Rattle.blif_read.specs.Says.{blif_says};
 ghost use Rattle.blif_read.specs.declared.fault.NetLimits.TheVariants.{Written};
 
-use crate::laws::said_again;
 use ae_base::{Cube, Memory, push_names, push_word};
 use ae_net::{Gate, Net, Sig};
+use blif_read::said_again;
 use std::alloc::Global;
 
 // The name of a signal.

@@ -4,7 +4,7 @@ use ae_base::{cube_laws, member_laws, order_laws, set_laws};
 use ae_cover::clash_laws;
 use ae_lex::{words_law, written_lines};
 use ae_net::{fault_laws, lead_law, one_run};
-use blif_write::said_again;
+use blif_read::said_again;
 use cascade::reddy_law;
 use expansion::even_law;
 use fn_store::expansion_law;

@@ -29,10 +29,10 @@ use Rattle.blif_read.proofs.Places.{AllBelow}
 use Rattle.blif_read.proofs.WrittenNames.{AreFresh, not_among, fresh, fresh_split, names_apart, places_back, signals_apart}
 use Rattle.blif_read.proofs.WrittenPlacing.{placed_in_order, all_placed}
 use Rattle.blif_read.proofs.WrittenLines.{AreFine, fine_lines, Stands, one_more, not_ended, inputs_fine, outputs_fine, pin_names-snoc, said_numbered, first_none, whole}
-use Rattle.blif_write.proofs.Statements.{gate_words, gate_said, head_said, net_said, said_net, any_gates, unplaced_gates, covers_net}
-use Rattle.blif_write.proofs.Plain.{IsFit, net_plain}
-use Rattle.blif_write.proofs.Gates.{AreValid, valid_gates, AreNames, all_named, none_unknown, gates_fit, gates_known, in_order, outs_unplaced, gates_back}
-use Rattle.blif_write.proofs.Fine.{stands_gates, gates_fine}
+use Rattle.blif_read.proofs.WrittenStatements.{gate_words, gate_said, head_said, net_said, said_net, any_gates, unplaced_gates, covers_net}
+use Rattle.blif_read.proofs.WrittenPlain.{IsFit, net_plain}
+use Rattle.blif_read.proofs.WrittenGates.{AreValid, valid_gates, AreNames, all_named, none_unknown, gates_fit, gates_known, in_order, outs_unplaced, gates_back}
+use Rattle.blif_read.proofs.WrittenFine.{stands_gates, gates_fine}
 
 -- ---- what is known of a network that is written
 

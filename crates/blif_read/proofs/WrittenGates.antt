@@ -18,9 +18,9 @@ use Rattle.blif_read.proofs.Nets.{gate_in}
 use Rattle.blif_read.proofs.Places.{AllBelow}
 use Rattle.blif_read.proofs.WrittenNames.{among_at, places_back}
 use Rattle.blif_read.proofs.WrittenPlacing.{IsInOrder}
-use Rattle.blif_write.proofs.Rows.{row_chars, rows_back, on_back}
-use Rattle.blif_write.proofs.Statements.{unplaced_gate, unplaced_gates, after}
-use Rattle.blif_write.proofs.Plain.{IsFit}
+use Rattle.blif_read.proofs.WrittenRows.{row_chars, rows_back, on_back}
+use Rattle.blif_read.proofs.WrittenStatements.{unplaced_gate, unplaced_gates, after}
+use Rattle.blif_read.proofs.WrittenPlain.{IsFit}
 
 -- ---- valid gates, by recursion
 

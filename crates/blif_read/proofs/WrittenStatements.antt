@@ -21,7 +21,7 @@ use Rattle.blif_read.specs.Says.{rows_at, cover_of, covers}
 use Rattle.blif_read.specs.Step.{says_of}
 use Rattle.blif_read.specs.Build.{rows_of}
 use Rattle.blif_read.proofs.WrittenLines.{gate_name-snoc, pin_names-snoc}
-use Rattle.blif_write.proofs.Rows.{row_chars}
+use Rattle.blif_read.proofs.WrittenRows.{row_chars}
 
 -- ---- what each line says
 

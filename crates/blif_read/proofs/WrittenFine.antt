@@ -18,9 +18,9 @@ use Rattle.blif_read.specs.Faults.{names_fault, row_fault, line_fault}
 use Rattle.blif_read.proofs.WrittenNames.{AreFresh}
 use Rattle.blif_read.proofs.Steps.{open_cover, open-append}
 use Rattle.blif_read.proofs.WrittenLines.{AreFine, fine_append, Stands, stands_row, stands_names, not_ended, gate_name-snoc, names_fine, EndWith, end_more, row_fine}
-use Rattle.blif_write.proofs.Rows.{row_chars, row_end-row_chars, is_row-row_chars}
-use Rattle.blif_write.proofs.Statements.{row_said, gate_words, gate_said}
-use Rattle.blif_write.proofs.Plain.{IsFit}
+use Rattle.blif_read.proofs.WrittenRows.{row_chars, row_end-row_chars, is_row-row_chars}
+use Rattle.blif_read.proofs.WrittenStatements.{row_said, gate_words, gate_said}
+use Rattle.blif_read.proofs.WrittenPlain.{IsFit}
 
 -- ---- rows
 
