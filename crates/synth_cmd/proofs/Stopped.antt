@@ -4,11 +4,12 @@ use Rattle.std.specs.Prelude.{IsErrAnd}
 use Rattle.std.proofs.lemmas.Result.{err_from_is_err_and}
 use Rattle.ae_outside.specs.Counts.{Tally}
 use Rattle.ae_outside.specs.Files.{Shelf}
-use Rattle.pla_read.specs.declared.fault.PlaFault.{PlaFault}
 use Rattle.synth_core.specs.Asked.{HasTooMany}
+use Rattle.synth_core.specs.Errors.{of_text}
 use Rattle.synth_core.specs.Says.{source_says}
 use Rattle.synth_core.specs.declared.error.SynthErr.{SynthErr}
 use Rattle.synth_core.specs.declared.error.SynthErr.TheVariants as synth_err
+use Rattle.synth_core.specs.declared.fault.TextFault.{TextFault}
 use Rattle.synth_core.specs.declared.fault.TextFault.TheVariants as text
 use Rattle.synth_core.specs.declared.settings.Settings.{Settings}
 use Rattle.synth_cmd.specs.Outcome.{Cause}
@@ -29,12 +30,15 @@ answered r becomes e s h is =
 
 -- a source that is refused has the cause that the error tells
 pub synth_cause : (settings : Settings) (Was : List ℕ → Type 0) (held : Option Shelf) (before now : Tally) (name bytes : List ℕ) (e : SynthErr) (r : Refusal) → Was bytes
-    → ((line : ℕ) (what : PlaFault) → e ≡ synth_err.Pla line what → source_says settings.kind bytes ≡ Err (line, text.Pla what))
+    → ((line : ℕ) (what : TextFault) → e ≡ of_text line what → source_says settings.kind bytes ≡ Err (line, what))
     → ((output : ℕ) → e ≡ synth_err.TooManyTerms output → HasTooMany settings bytes output)
     → of_synth e ≡ source_err.Refused r → Cause settings Was held before now name r
 synth_cause settings Was held before now name bytes (synth_err.Pla line what) r was says many is =
     let same : Text line (text.Pla what) ≡ r = cc in
-    subst (Cause settings Was held before now name) same (bytes, was, says line what refl)
+    subst (Cause settings Was held before now name) same (bytes, was, says line (text.Pla what) refl)
+synth_cause settings Was held before now name bytes (synth_err.Blif line what) r was says many is =
+    let same : Text line (text.Blif what) ≡ r = cc in
+    subst (Cause settings Was held before now name) same (bytes, was, says line (text.Blif what) refl)
 synth_cause settings Was held before now name bytes (synth_err.TooManyTerms output) r was says many is =
     let same : TooManyTerms output ≡ r = cc in
     subst (Cause settings Was held before now name) same (bytes, was, many output refl)

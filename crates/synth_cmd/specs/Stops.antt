@@ -21,6 +21,7 @@ of_read read.Memory = source_err.Memory
 -- a source that is not synthesised
 abbrev pub of_synth : SynthErr → SourceErr
 of_synth (synth_err.Pla line what) = source_err.Refused (Text line (text.Pla what))
+of_synth (synth_err.Blif line what) = source_err.Refused (Text line (text.Blif what))
 of_synth (synth_err.TooManyTerms output) = source_err.Refused (TooManyTerms output)
 of_synth synth_err.Memory = source_err.Memory
 

@@ -34,6 +34,10 @@ impl From<SynthErr> for SourceErr {
                 let what = TextFault::Pla(what);
                 SourceErr::Refused(Refusal::Text { line, what })
             }
+            SynthErr::Blif { line, what } => {
+                let what = TextFault::Blif(what);
+                SourceErr::Refused(Refusal::Text { line, what })
+            }
             SynthErr::TooManyTerms { output } => {
                 SourceErr::Refused(Refusal::TooManyTerms { output })
             }

@@ -12,8 +12,7 @@ ghost use Rattle.synth_core.specs.Made.{IsSynthesised, names_of};
 ghost use Rattle.synth_core.specs.Steps.{AreReady, AreReddyNumbers, reddy_file};
 
 use ae_net::{lead_law, one_run};
-use blif_read::said_law;
-use blif_write::said_again;
+use blif_read::{said_again, said_law};
 use cascade::reddy_law;
 use expansion::even_law;
 use fn_store::expansion_law;
