@@ -25,6 +25,8 @@ mod placing;
 #[cfg(test)]
 mod sets;
 #[cfg(test)]
+mod stores;
+#[cfg(test)]
 mod synthesis;
 #[cfg(test)]
 mod tables;
