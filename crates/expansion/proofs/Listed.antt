@@ -5,7 +5,7 @@ use Rattle.std.specs.List.{sum_by}
 use Rattle.std.proofs.lemmas.List.{length-map, length-take-le, map-append, take-map}
 use Rattle.std.proofs.lemmas.List.Elements.{All-map, All-weaker}
 use Rattle.std.proofs.lemmas.List.Sums.{sum_by-append, sum_by-cons}
-use Rattle.std.proofs.lemmas.Option.{slice_get-map}
+use Rattle.std.proofs.lemmas.Option.{slice_get-get_or, slice_get-map}
 use Rattle.std.proofs.Math.Seq.{take-length, take-suc}
 use Rattle.ae_base.specs.Mask.{Set, first, inside}
 use Rattle.ae_base.specs.Cube.{Signs, IsSigns}
@@ -77,6 +77,9 @@ list_of s refs o ts e = by_ref (slice_get refs o) refl (sym (slice_get-map (λ q
     by_ref : (q : Option FnRef) → slice_get refs o ≡ q → option_map (λ q. s.terms q.at) q ≡ Some ts → IsListOf s refs o ts
     by_ref None f g = absurd (cc g)
     by_ref (Some r) f g = record { ref = r; there = f; terms = sym (cc g) }
+
+pub all_live : (source : Source) (s : Functions) (refs : List FnRef) → ((o : ℕ) (r : FnRef) → slice_get refs o ≡ Some r → Shows s r (on_set source o)) → All (IsLive s) refs
+all_live source s refs shows = λ o r l. (shows o (get_or refs o r) (slice_get-get_or refs o r l)).live
 
 pub source_expanded : (source : Source) (s : Functions) (refs : List FnRef) → s.polarity.n ≡ length source.inputs → length refs ≡ length source.outputs
     → ((o : ℕ) (r : FnRef) → slice_get refs o ≡ Some r → Shows s r (on_set source o)) → AreExpansions source s.polarity (expanded s refs)

@@ -1,10 +1,10 @@
 //! Which inputs of a source are used, which are even, and how a store's functions give a source's expansions.
-ghost use Rattle.std.specs.Prelude.{◌≡◌, ◌↔◌, ℕ, Bool, true, Some, List, length, slice_get};
+ghost use Rattle.std.specs.Prelude.{◌≡◌, ◌↔◌, ℕ, Bool, true, Some, List, length, slice_get, All};
 ghost use Rattle.ae_base.specs.Mask.{Set, has};
 ghost use Rattle.ae_base.specs.Cube.{Signs};
 ghost use Rattle.ae_base.specs.Source.{Source, IsUsed, on_set};
 ghost use Rattle.fn_store.specs.Davio.{IsExpansion};
-ghost use Rattle.fn_store.specs.Functions.{Functions, Shows};
+ghost use Rattle.fn_store.specs.Functions.{Functions, IsLive, Shows};
 ghost use Rattle.fn_store.specs.declared.store.FnRef.{FnRef};
 ghost use Rattle.expansion.specs.Even.{AreEven, even_inputs};
 ghost use Rattle.expansion.specs.Functions.{AreExpansions};
@@ -21,10 +21,11 @@ pub fn even_law()
 }
 
 /// Each list of `expanded` is the expansion of each function that its reference shows. So where the references show what a source
-/// specifies for its outputs, the lists are the expansions of the source.
+/// specifies for its outputs, they are live, and the lists are the expansions of the source.
 pub fn expanded_law()
     ensures each { (s : Functions) (refs : List FnRef) (o : ℕ) (r : FnRef) (ts : List Set) (f : Set → Bool) → slice_get refs o ≡ Some r → slice_get (expanded s refs).outs o ≡ Some ts
         → Shows s r f → IsExpansion s.polarity f ts }
+    ensures live { (source : Source) (s : Functions) (refs : List FnRef) → ((o : ℕ) (r : FnRef) → slice_get refs o ≡ Some r → Shows s r (on_set source o)) → All (IsLive s) refs }
     ensures source { (source : Source) (s : Functions) (refs : List FnRef) → s.polarity.n ≡ length source.inputs → length refs ≡ length source.outputs
         → ((o : ℕ) (r : FnRef) → slice_get refs o ≡ Some r → Shows s r (on_set source o)) → AreExpansions source s.polarity (expanded s refs) }
 {}
