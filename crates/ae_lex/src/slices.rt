@@ -7,7 +7,7 @@ ghost use Rattle.ae_lex.specs.Words as spec;
 
 use crate::laws::words_law;
 use crate::scan::lines;
-use crate::text::{Line, Style};
+use crate::text::{Line, LineList, Style};
 use ae_base::{Memory, Seq, TEXT_BYTES};
 use std::alloc::Global;
 use std::marker::Model;
@@ -80,17 +80,18 @@ fn word_line<'a>(alloc: Global, bytes: &'a [u8], line: &Line) -> Result<WordLine
     })
 }
 
+/// The lines in words. The spans of each are dropped as soon as its words are cut.
 fn cut_lines<'a>(
     alloc: Global,
     bytes: &'a [u8],
-    lines: &[Line],
+    lines: Vec<Line>,
 ) -> Result<Seq<WordLine<'a>>, Memory>
-    requires { All (λ line. All (IsInside bytes.now) line.words) lines.now }
-    ensures { IfOk result (λ list. list ≡ map (spec.cut_line bytes.now) lines.now) }
+    requires { All (λ line. All (IsInside bytes.now) line.words) lines.items }
+    ensures { IfOk result (λ list. list ≡ map (spec.cut_line bytes.now) lines.items) }
 {
     let mut list = Seq::new(alloc);
     for line in lines {
-        list.push(word_line(alloc, bytes, line)?)?;
+        list.push(word_line(alloc, bytes, &line)?)?;
     }
     Ok(list)
 }
@@ -104,10 +105,7 @@ pub fn word_lines<'a>(alloc: Global, bytes: &'a [u8], style: Style) -> Result<Wo
     ensures last { IfOk result (λ found. found.last ≡ spec.last_line bytes.now) }
 {
     words_law();
-    let found = lines(alloc, bytes, style)?;
-    let list = cut_lines(alloc, bytes, found.list.as_slice())?;
-    Ok(WordLines {
-        list,
-        last: found.last,
-    })
+    let LineList { list, last } = lines(alloc, bytes, style)?;
+    let list = cut_lines(alloc, bytes, list.into_vec())?;
+    Ok(WordLines { list, last })
 }

@@ -1,6 +1,6 @@
-use Rattle.std.proofs.Common.{◌≡◌, map, take}
+use Rattle.std.proofs.Common.{◌≡◌, map}
 use Rattle.ae_lex.specs.Words.{cut_line}
 use Rattle.ae_lex.proofs.slices.cut_lines.Given as goal
 
 abbrev pub invariant-loop-line : goal.invariant-loop-line
-invariant-loop-line l = l.list ≡ map (cut_line l.bytes) (take l.line-index l.lines)
+invariant-loop-line l = l.list ≡ map (cut_line l.bytes) l.yielded
