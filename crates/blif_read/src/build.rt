@@ -53,14 +53,10 @@ fn row_chars(alloc: Global, line: &WordLine<'_>) -> Result<Option<Seq<u8>>, Memo
     ensures { IfOk result (λ found. found ≡ spec.row_chars (statement.said line.now.words)) }
 {
     match line.words() {
-        [] => Ok(None),
-        [first, others @ ..] => {
-            if head_of(first) == Head::Row {
-                Ok(Some(Seq::from_vec(joined(alloc, first, others)?)))
-            } else {
-                Ok(None)
-            }
+        [first, others @ ..] if head_of(first) == Head::Row => {
+            Ok(Some(Seq::from_vec(joined(alloc, first, others)?)))
         }
+        _ => Ok(None),
     }
 }
 
@@ -83,10 +79,10 @@ fn rows_at(alloc: Global, lines: &[WordLine<'_>], pins: u32) -> Result<Seq<Cube>
 fn is_on(alloc: Global, lines: &[WordLine<'_>]) -> Result<bool, Memory>
     ensures { IfOk result (λ on. on ≡ says.is_on (spec.rows_of lines.now)) }
 {
-    if lines.is_empty() {
+    let [first, ..] = lines else {
         return Ok(true);
-    }
-    match row_chars(alloc, &lines[0])? {
+    };
+    match row_chars(alloc, first)? {
         Some(chars) => Ok(row_end(chars.as_slice()) == b'1'),
         None => Ok(true),
     }

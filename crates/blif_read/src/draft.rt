@@ -79,14 +79,8 @@ pub fn names_of<'a, 'b>(words: &'a [&'b [u8]]) -> Option<&'a [&'b [u8]]>
     ensures { MatchOption result (spec.is_names (statement.said (texts words.now)) ≡ false) (λ ws. statement.said (texts words.now) ≡ statement.Said.Names (texts ws.now)) }
 {
     match words {
-        [] => None,
-        [first, others @ ..] => {
-            if head_of(first) == Head::Names {
-                Some(others)
-            } else {
-                None
-            }
-        }
+        [first, others @ ..] if head_of(first) == Head::Names => Some(others),
+        _ => None,
     }
 }
 
@@ -96,14 +90,8 @@ fn outputs_of<'a, 'b>(words: &'a [&'b [u8]]) -> Option<&'a [&'b [u8]]>
     ensures { MatchOption result (spec.is_outputs (statement.said (texts words.now)) ≡ false) (λ ws. statement.said (texts words.now) ≡ statement.Said.Outputs (texts ws.now)) }
 {
     match words {
-        [] => None,
-        [first, others @ ..] => {
-            if head_of(first) == Head::Outputs {
-                Some(others)
-            } else {
-                None
-            }
-        }
+        [first, others @ ..] if head_of(first) == Head::Outputs => Some(others),
+        _ => None,
     }
 }
 
