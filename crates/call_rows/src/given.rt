@@ -7,13 +7,17 @@ use ae_base::{Cube, Mask, Memory, Name, Polarity, Seq, TEXT_BYTES, WIDTH};
 use ae_cover::Cover;
 use ae_net::{Gate, Net, NetNames};
 use blif_read::{BlifErr, NetLimits, read_blif};
-use expansion::Expansion;
-use fn_store::{cubes_expansion, expansion_law};
+use expansion::{Expansion, expand};
+use fn_store::{FnStore, TermLists};
+use net_fn::some_cube;
 use pla_read::{PlaErr, read_pla};
 use std::alloc::Global;
 
 /// The most inputs of an expansion of these tests.
 pub const FEW: u32 = 8;
+
+/// The most terms of one.
+const FEW_TERMS: u64 = 256;
 
 /// The set of these numbers.
 pub fn set(list: &[u32]) -> Mask {
@@ -161,7 +165,12 @@ pub fn terms_of(alloc: Global, f: &Function) -> Result<Vec<Mask>, Memory> {
         return Err(Memory);
     }
     let cubes = products(alloc, f.n, f.products)?;
-    cubes_expansion(alloc, polarity(f.n, set(f.plain)), &cubes)
+    let mut store = TermLists::new(alloc, polarity(f.n, set(f.plain)))?;
+    let function = some_cube(alloc, &mut store, &cubes)?;
+    match store.terms_upto(function, FEW_TERMS) {
+        Ok(terms) => Ok(terms),
+        Err(_) => Err(Memory),
+    }
 }
 
 /// The expansion of a list of cubes.
@@ -172,14 +181,12 @@ pub fn expansion_over(alloc: Global, p: Polarity, cubes: &[Cube]) -> Result<Expa
     ensures outputs { IfOk result (λ e. length e.outs ≡ 1) }
     ensures cheap { IfOk result (λ e. cost e ≤ 256) }
 {
-    let terms = cubes_expansion(alloc, p, cubes)?;
-    if terms.len() > 256 {
-        return Err(Memory);
+    let mut store = TermLists::new(alloc, p)?;
+    let function = some_cube(alloc, &mut store, cubes)?;
+    match expand(alloc, &store, &[function], FEW_TERMS) {
+        Ok(expansion) => Ok(expansion),
+        Err(_) => Err(Memory),
     }
-    expansion_law();
-    let mut outs = Seq::new(alloc);
-    outs.push(Seq::from_vec(terms))?;
-    Ok(Expansion { polarity: p, outs })
 }
 
 /// The expansion of the function, as the one output.

@@ -7,6 +7,8 @@ mod cascades;
 #[cfg(test)]
 mod covers;
 #[cfg(test)]
+mod cube_lists;
+#[cfg(test)]
 mod even_inputs;
 #[cfg(test)]
 mod expansions;
@@ -30,8 +32,6 @@ mod stores;
 mod synthesis;
 #[cfg(test)]
 mod tables;
-#[cfg(test)]
-mod term_lists;
 #[cfg(test)]
 mod text_lines;
 #[cfg(test)]

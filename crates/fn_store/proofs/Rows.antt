@@ -15,7 +15,7 @@ use Rattle.fn_store.specs.Scratch.{Means}
 use Rattle.fn_store.proofs.Lists.{from_Ordered, and-differ, exor_of-append}
 use Rattle.fn_store.proofs.Products.{inside-put, product-with, product-empty, product-literals, literals-product}
 use Rattle.fn_store.proofs.Expansions.{terms_inside, means}
-use Rattle.fn_store.proofs.CubeSteps.{Means-agree, Means-exor, IsExpansion-means}
+use Rattle.fn_store.proofs.Means.{Means-agree, Means-exor, IsExpansion-means}
 use Rattle.fn_store.proofs.Shown.{IsExpansion-agree}
 
 -- ---- an expansion means its function

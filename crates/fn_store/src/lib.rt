@@ -2,15 +2,13 @@
 #![tactic(auto)]
 
 mod combine;
-mod cubes;
 mod laws;
 mod point;
 mod store;
 mod term_lists;
 mod terms;
 
-pub use cubes::cubes_expansion;
 pub use laws::{expansion_law, store_laws};
 pub use store::{FnRef, FnStore, TermsErr};
 pub use term_lists::TermLists;
-pub use terms::{LIST_TERMS, exor, times_literal};
+pub use terms::LIST_TERMS;

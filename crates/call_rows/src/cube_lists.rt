@@ -1,8 +1,7 @@
-//! The calls of `fn_store`: expansions as lists of terms.
+//! The functions of lists of cubes, by their expansions.
 
-use crate::given::{AND, Function, MAJORITY, are_sets, set, terms_of};
+use crate::given::{AND, Function, MAJORITY, are_sets, terms_of};
 use ae_base::Memory;
-use fn_store::{exor, times_literal};
 use std::alloc::Global;
 use std::test::Fail;
 
@@ -79,24 +78,5 @@ fn first_other(alloc: Global) -> Result<Option<usize>, Memory> {
 fn expansions(rt: HostRuntime) -> Result<(), Fail> {
     let other = first_other(rt.alloc())?;
     assert_eq!(rt; other, None);
-    Ok(())
-}
-
-fn are_added(alloc: Global) -> Result<bool, Memory> {
-    let terms = exor(alloc, &[set(&[]), set(&[0])], &[set(&[0]), set(&[1])])?;
-    Ok(are_sets(&terms, &[&[], &[1]]))
-}
-
-fn are_multiplied(alloc: Global) -> Result<bool, Memory> {
-    let terms = times_literal(alloc, &[set(&[]), set(&[0]), set(&[1])], 0)?;
-    Ok(are_sets(&terms, &[&[0, 1]]))
-}
-
-#[test]
-fn sums_and_products(rt: HostRuntime) -> Result<(), Fail> {
-    let alloc = rt.alloc();
-    let added = are_added(alloc)?;
-    let multiplied = are_multiplied(alloc)?;
-    assert!(rt; added && multiplied);
     Ok(())
 }
