@@ -4,7 +4,7 @@ ghost use Rattle.fn_store.specs.Functions.{IsLive, Keeps};
 
 use crate::given::{are_sets, set};
 use ae_base::{Memory, Polarity};
-use expansion::{ExpandErr, expand, pairs};
+use expansion::{ExpandErr, expand};
 use fn_store::{FnRef, FnStore, TermLists, TermsErr};
 use std::alloc::Global;
 use std::test::Fail;
@@ -124,39 +124,20 @@ fn points(rt: HostRuntime) -> Result<(), Fail> {
     Ok(())
 }
 
-/// Whether the functions have as many terms in all as the limit.
-fn have_all_terms<S: FnStore>(
+/// The first output at which the functions' terms pass the limit, where they do.
+fn first_over<S: FnStore>(
     alloc: Global,
     store: &S,
     refs: &[FnRef],
     limit: u64,
-) -> Result<bool, Memory>
+) -> Result<Option<u32>, Memory>
     requires live { All (IsLive (S.functions store.now)) refs.now }
     requires few { length refs.now ≤ 3 }
     requires limit { limit ≤ 9 }
 {
     match expand(alloc, store, refs, limit) {
-        Ok(e) => Ok(e.lists().len() == refs.len() && pairs(&e) == limit),
-        Err(ExpandErr::TooManyTerms { .. }) => Ok(false),
-        Err(ExpandErr::Memory) => Err(Memory),
-    }
-}
-
-/// Whether the functions' terms pass the limit first at this output.
-fn pass_at<S: FnStore>(
-    alloc: Global,
-    store: &S,
-    refs: &[FnRef],
-    limit: u64,
-    at: u32,
-) -> Result<bool, Memory>
-    requires live { All (IsLive (S.functions store.now)) refs.now }
-    requires few { length refs.now ≤ 3 }
-    requires limit { limit ≤ 9 }
-{
-    match expand(alloc, store, refs, limit) {
-        Ok(_) => Ok(false),
-        Err(ExpandErr::TooManyTerms { output }) => Ok(output == at),
+        Ok(_) => Ok(None),
+        Err(ExpandErr::TooManyTerms { output }) => Ok(Some(output)),
         Err(ExpandErr::Memory) => Err(Memory),
     }
 }
@@ -168,10 +149,10 @@ fn keep_limits<S: FnStore>(alloc: Global, store: &mut S) -> Result<bool, Memory>
 {
     let product = product(store, (false, false, false))?;
     let refs = [store.one(), product, store.zero()];
-    let all = have_all_terms(alloc, store, &refs, 9)?;
-    let second = pass_at(alloc, store, &refs, 8, 1)?;
-    let first = pass_at(alloc, store, &refs, 0, 0)?;
-    Ok(all && second && first)
+    let nine = first_over(alloc, store, &refs, 9)?;
+    let eight = first_over(alloc, store, &refs, 8)?;
+    let none = first_over(alloc, store, &refs, 0)?;
+    Ok(nine == None && eight == Some(1) && none == Some(0))
 }
 
 #[test]
