@@ -12,7 +12,7 @@ use std::alloc::Global;
 use std::marker::Model;
 
 /// A network in the making: its inputs, at most `NET_LINES`, and the gates so far, at most `GATES`. Each call that adds a gate answers
-/// the gate's signal, which is then a pin of later gates or an output. `Memory` comes only for want of memory, and leaves all as it was.
+/// the gate's signal, for the pins of later gates and for the outputs. `Memory` comes only for want of memory, and leaves all as it was.
 #[derive(Drop)]
 pub struct NetBuilder {
     alloc: Global,
@@ -121,7 +121,7 @@ impl NetBuilder {
         self.push(gate)
     }
 
-    /// The network of the inputs and the gates, whose output ports show these signals.
+    /// The network of this name, whose output ports show these signals. All in all it must be valid, as every `Net` is.
     pub fn finish(self, model: Name, outputs: Seq<Sig>) -> Net
         requires { IsValid (spec.network self model outputs) }
         ensures { result ≡ spec.network self model outputs }

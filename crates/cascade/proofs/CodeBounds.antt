@@ -19,8 +19,8 @@ use Rattle.cascade.proofs.GatesValid.{turned_below}
 use Rattle.cascade.proofs.Law.{Stands, length-control_gates}
 use Rattle.cascade.proofs.Valid.{few_turned, few_wide, few_lines, length-inverters, length-and_gates, wide_stand, all_stand, valid}
 
-pub is_plan : (plan : Plan) (e : Terms) → IsTerms e → cost e ≤ REDDY_TERMS → plan.lead ≤ SOURCE_NAME_BYTES + 1 → plan.turned.items ≡ turned e → plan.wide.items ≡ wide_terms e → plan.ands ≡ and_place e → IsPlan plan e
-is_plan plan e terms cheap short turned_is wide_is ands_is = record {
+pub is_plan : (plan : Plan) → let e = plan.expansion.now in IsTerms e → cost e ≤ REDDY_TERMS → plan.lead ≤ SOURCE_NAME_BYTES + 1 → plan.turned.items ≡ turned e → plan.wide.items ≡ wide_terms e → plan.ands ≡ and_place e → IsPlan plan
+is_plan plan terms cheap short turned_is wide_is ands_is = let e = plan.expansion.now in record {
   terms = terms;
   short = short;
   few_inputs = terms.signs.0;

@@ -81,17 +81,17 @@ length_at_le (ts ∷ tss) (suc o) d l = omega (arith, length-append ts (flat_map
 pub length_le_cost : (e : Terms) (o : ℕ) (ts : List Set) → o < length e.outs → ts ≡ get_or e.outs o ts → length ts ≤ cost e
 length_le_cost e o ts l ts_is = omega (arith, ap length ts_is, length_at_le e.outs o ts l, length-flat_map (λ (us : List Set). us) e.outs)
 
-pub has_room : (e : Terms) (outs : List (List Set)) (x i o place : ℕ) (ts : List Set) (c : Chain) → outs ≡ e.outs → x + all_inner (drop o outs) ≡ all_inner outs → i ≡ place + (x + o) → o < length outs → length outs ≤ NET_LINES → place ≤ NET_LINES + 1 + REDDY_TERMS → cost e ≤ REDDY_TERMS
-    → ts ≡ get_or outs o ts → IsChain c e x ts → HasRoom c i
-has_room e outs x i o place ts c outs_is inner places l few low cheap ts_is made =
+pub has_room : (e : Terms) (outs : List (List Set)) (x i o place : ℕ) (ts : List Set) (name : List ℕ) (c : Chain) → outs ≡ e.outs → x + all_inner (drop o outs) ≡ all_inner outs → i ≡ place + (x + o) → o < length outs → length outs ≤ NET_LINES → place ≤ NET_LINES + 1 + REDDY_TERMS → cost e ≤ REDDY_TERMS
+    → ts ≡ get_or outs o ts → IsChain c e name x ts → HasRoom c i
+has_room e outs x i o place ts name c outs_is inner places l few low cheap ts_is made =
     let all : all_inner outs ≤ cost e = omega (arith, few_of_all e, ap all_inner outs_is) in
     let at : length ts ≤ cost e = length_le_cost e o ts (omega (arith, l, ap length outs_is)) (ts_is ∙ ap (λ (tss : List (List Set)). get_or tss o ts) outs_is) in
     let terms : length c.terms.items ≤ length ts = omega (arith, ap length made.terms, length_rest_le ts) in
     record { inner = omega (arith, made.inner); gates = omega arith }
 
 -- the gates so far, once the chain c of the o-th output is made, and the chains that are left
-pub chains_more : (k : ℕ) (e : Terms) (x o : ℕ) (tss : List (List Set)) (outs : List (List ℕ)) (ts : List Set) (out : List ℕ) (c : Chain) (now new all : List Gate) → o < length tss → o < length outs → ts ≡ get_or tss o ts → out ≡ get_or outs o out → IsChain c e x ts
-    → new ≡ now ++ chain k e out c.inner (length now) c.start c.terms.items → now ++ chains k e x (length now) (drop o tss) (drop o outs) ≡ all
+pub chains_more : (k : ℕ) (e : Terms) (x o : ℕ) (tss : List (List Set)) (outs : List (List ℕ)) (ts : List Set) (out : List ℕ) (c : Chain) (now new all : List Gate) → o < length tss → o < length outs → ts ≡ get_or tss o ts → out ≡ get_or outs o out → IsChain c e out x ts
+    → new ≡ now ++ chain k e c.out.now c.inner (length now) c.start c.terms.items → now ++ chains k e x (length now) (drop o tss) (drop o outs) ≡ all
     → (length new ≡ suc (length now + inner_gates ts)) × (new ++ chains k e (x + inner_gates ts) (length new) (drop (o + 1) tss) (drop (o + 1) outs) ≡ all)
 chains_more k e x o tss outs ts out c now new all l m ts_is out_is made new_is h = (
   size,
@@ -102,7 +102,7 @@ chains_more k e x o tss outs ts out c now new all l m ts_is out_is made new_is h
     links = chain k e out x (length now) (start e ts) (rest ts)
 
     is : new ≡ now ++ links
-    is = rw (made.inner, made.start, made.terms) at new_is
+    is = rw (made.out, made.inner, made.start, made.terms) at new_is
 
     size : length new ≡ suc (length now + inner_gates ts)
     size = omega (arith, ap length is, length-append now links, length-chain k e out x (length now) (start e ts) (rest ts))

@@ -34,8 +34,8 @@ pub IsInOrder-wide_terms : (e : Terms) → IsInOrder (wide_terms e)
 unfolding wide_terms
 IsInOrder-wide_terms e = in_order-order (filter is_wide (flat_map (λ ts. ts) e.outs))
 
-pub plan_in_order : (plan : Plan) (e : Terms) → IsPlan plan e → IsInOrder plan.wide.items
-plan_in_order plan e is = subst IsInOrder (sym is.wide) (IsInOrder-wide_terms e)
+pub plan_in_order : (plan : Plan) → IsPlan plan → IsInOrder plan.wide.items
+plan_in_order plan is = subst IsInOrder (sym is.wide) (IsInOrder-wide_terms plan.expansion.now)
 
 -- ---- a sort
 

@@ -31,27 +31,26 @@ fn input_names(alloc: Global, lead: u32, names: &NetNames) -> Result<Seq<Name>, 
 /// Adds the chains of all outputs, and answers the signals of their ends.
 fn push_outputs(
     alloc: Global,
-    plan: &Plan,
-    e: &Expansion,
+    plan: &Plan<'_>,
     names: &[Name],
     net: &mut NetBuilder,
 ) -> Result<Seq<Sig>, Memory>
-    requires plan { IsPlan plan.now e.now }
+    requires plan { IsPlan plan.now }
     requires low { length net.old.gates ≤ NET_LINES + 1 + REDDY_TERMS }
-    requires cheap { cost e.now ≤ REDDY_TERMS }
-    requires fits { length e.now.outs ≡ length names.now }
+    requires cheap { cost plan.now.expansion.now ≤ REDDY_TERMS }
+    requires fits { length plan.now.expansion.now.outs ≡ length names.now }
     requires few_outputs { length names.now ≤ NET_LINES }
-    requires inputs { length net.old.inputs ≡ spec.lines e.now }
-    ensures gates { OnOk result (net.new.gates ≡ net.old.gates ++ spec.chains plan.now.lead e.now 0 (length net.old.gates) e.now.outs names.now) }
+    requires inputs { length net.old.inputs ≡ spec.lines plan.now.expansion.now }
+    ensures gates { OnOk result (net.new.gates ≡ net.old.gates ++ spec.chains plan.now.lead plan.now.expansion.now 0 (length net.old.gates) plan.now.expansion.now.outs names.now) }
     ensures inputs { net.new.inputs ≡ net.old.inputs }
-    ensures ports { IfOk result (λ ports. ports ≡ spec.ends e.now (length net.old.gates) e.now.outs) }
+    ensures ports { IfOk result (λ ports. ports ≡ spec.ends plan.now.expansion.now (length net.old.gates) plan.now.expansion.now.outs) }
 {
-    let outs = e.lists();
+    let outs = plan.expansion.lists();
     let mut ports = Seq::new(alloc);
     let mut inner = 0;
     for o in 0..outs.len() {
-        let chain = chain_of(alloc, plan, e, inner, outs[o].as_slice())?;
-        ports.push(push_chain(alloc, plan, e, &names[o], &chain, net)?)?;
+        let chain = chain_of(alloc, plan, &names[o], inner, outs[o].as_slice())?;
+        ports.push(push_chain(alloc, plan, &chain, net)?)?;
         inner += chain.terms.len().saturating_sub(1);
     }
     Ok(ports)
@@ -67,16 +66,17 @@ fn and_place(turned: &[u32], outs: &[Seq<Term>]) -> u32
 }
 
 /// What is worked out before the gates are made.
-fn plan(alloc: Global, lead: u32, e: &Expansion) -> Result<Plan, Memory>
+fn plan<'a>(alloc: Global, lead: u32, e: &'a Expansion) -> Result<Plan<'a>, Memory>
     requires short { lead ≤ SOURCE_NAME_BYTES + 1 }
     requires cheap { cost e.now ≤ REDDY_TERMS }
-    ensures { IfOk result (λ plan. IsPlan plan e.now × (plan.lead ≡ lead)) }
+    ensures { IfOk result (λ plan. IsPlan plan × (plan.lead ≡ lead) × (plan.expansion.now ≡ e.now)) }
 {
     let outs = e.lists();
     let turned = turned(alloc, e)?;
     let wide = wide_terms(alloc, e)?;
     let ands = and_place(turned.as_slice(), outs);
     Ok(Plan {
+        expansion: e,
         lead,
         turned,
         wide,
@@ -90,22 +90,21 @@ fn push_gates(
     alloc: Global,
     plan: &Plan,
     names: &NetNames,
-    e: &Expansion,
     net: &mut NetBuilder,
 ) -> Result<Seq<Sig>, Memory>
-    requires plan { IsPlan plan.now e.now }
-    requires fits { Fits names.now e.now }
-    requires cheap { cost e.now ≤ REDDY_TERMS }
+    requires plan { IsPlan plan.now }
+    requires fits { Fits names.now plan.now.expansion.now }
+    requires cheap { cost plan.now.expansion.now ≤ REDDY_TERMS }
     requires no_gates { net.old.gates ≡ [] }
-    requires inputs { length net.old.inputs ≡ spec.lines e.now }
-    ensures gates { OnOk result (net.new.gates ≡ spec.gates plan.now.lead names.now e.now) }
+    requires inputs { length net.old.inputs ≡ spec.lines plan.now.expansion.now }
+    ensures gates { OnOk result (net.new.gates ≡ spec.gates plan.now.lead names.now plan.now.expansion.now) }
     ensures inputs { net.new.inputs ≡ net.old.inputs }
-    ensures ports { IfOk result (λ ports. ports ≡ spec.ends e.now (spec.chain_place e.now) e.now.outs) }
+    ensures ports { IfOk result (λ ports. ports ≡ spec.ends plan.now.expansion.now (spec.chain_place plan.now.expansion.now) plan.now.expansion.now.outs) }
 {
-    push_inverters(alloc, plan, e, net)?;
-    push_control(alloc, plan, e, net)?;
-    push_ands(alloc, plan, e, net)?;
-    push_outputs(alloc, plan, e, names.outputs(), net)
+    push_inverters(alloc, plan, net)?;
+    push_control(alloc, plan, net)?;
+    push_ands(alloc, plan, net)?;
+    push_outputs(alloc, plan, names.outputs(), net)
 }
 
 /// The Reddy network, `lead` being the number of underscores that inner names begin with.
@@ -122,7 +121,7 @@ fn reddy_with(alloc: Global, lead: u32, names: &NetNames, e: &Expansion) -> Resu
     let model = names.model().copy(alloc)?;
     let inputs = input_names(alloc, lead, names)?;
     let mut net = NetBuilder::new(alloc, inputs);
-    let outputs = push_gates(alloc, &plan, names, e, &mut net)?;
+    let outputs = push_gates(alloc, &plan, names, &mut net)?;
     Ok(net.finish(model, outputs))
 }
 

@@ -11,7 +11,9 @@ use expansion::Expansion;
 
 /// What is worked out before the gates are made.
 #[derive(Drop)]
-pub struct Plan {
+pub struct Plan<'a> {
+    /// The expansions whose network is built.
+    pub expansion: &'a Expansion,
     /// The number of underscores that inner names begin with.
     pub lead: u32,
     /// The inputs that have an inverter, in order.
@@ -50,11 +52,11 @@ fn place_of_term(list: &[Term], t: Term) -> usize
 
 /// The signal of the literal of an input.
 #[tactic(auto, unfolding(crate::specs::Reddy::literal_signal))]
-pub fn literal_signal(plan: &Plan, e: &Expansion, j: u32) -> u32
-    requires { IsPlan plan.now e.now }
-    ensures { result ≡ spec.literal_signal e.now j }
+pub fn literal_signal(plan: &Plan<'_>, j: u32) -> u32
+    requires { IsPlan plan.now }
+    ensures { result ≡ spec.literal_signal plan.now.expansion.now j }
 {
-    let polarity = e.polarity();
+    let polarity = plan.expansion.polarity();
     if polarity.plain.has(j) {
         j
     } else {
@@ -79,27 +81,27 @@ pub fn is_wide(t: Term) -> bool
 
 /// The signal of a term.
 #[tactic(auto, using(crate::proofs::Ordered::plan_in_order), unfolding(crate::specs::Reddy::term_signal))]
-pub fn term_signal(plan: &Plan, e: &Expansion, t: Term) -> u32
-    requires plan { IsPlan plan.now e.now }
-    requires below { inside t (first e.now.polarity.n) ≡ true }
-    ensures { result ≡ spec.term_signal e.now t }
+pub fn term_signal(plan: &Plan<'_>, t: Term) -> u32
+    requires plan { IsPlan plan.now }
+    requires below { inside t (first plan.now.expansion.now.polarity.n) ≡ true }
+    ensures { result ≡ spec.term_signal plan.now.expansion.now t }
 {
     if is_wide(t) {
-        e.inputs() + 1 + (plan.ands + place_of_term(&plan.wide, t) as u32)
+        plan.expansion.inputs() + 1 + (plan.ands + place_of_term(&plan.wide, t) as u32)
     } else {
-        literal_signal(plan, e, first_member(t))
+        literal_signal(plan, first_member(t))
     }
 }
 
 /// Where the chain of an output starts: at the inverter of the control where the output has the empty term, else at the control.
 #[tactic(auto, unfolding(crate::specs::Reddy::start))]
-pub fn start(plan: &Plan, e: &Expansion, terms: &[Term]) -> u32
-    requires { IsPlan plan.now e.now }
-    ensures { result ≡ spec.start e.now terms.now }
+pub fn start(plan: &Plan<'_>, terms: &[Term]) -> u32
+    requires { IsPlan plan.now }
+    ensures { result ≡ spec.start plan.now.expansion.now terms.now }
 {
     if has_one(terms) {
-        e.inputs() + 1 + plan.turned.len() as u32
+        plan.expansion.inputs() + 1 + plan.turned.len() as u32
     } else {
-        e.inputs()
+        plan.expansion.inputs()
     }
 }

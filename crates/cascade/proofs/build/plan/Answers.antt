@@ -8,7 +8,8 @@ and_place-ands-requires c = omega (arith, ap length (c.as_slice.ensures.value âˆ
 
 pub returns : goal.returns
 returns c = (
-  is_plan _ c.args.e.now c.lists-outs.ensures.valid c.requires.cheap c.requires.short c.in_ok-turned.ensures c.in_ok-wide.ensures
+  is_plan _ c.lists-outs.ensures.valid c.requires.cheap c.requires.short c.in_ok-turned.ensures c.in_ok-wide.ensures
       (c.and_place-ands.ensures c.args.e.now (c.as_slice.ensures.value âˆ™ c.in_ok-turned.ensures) c.lists-outs.ensures.lists),
+  refl,
   refl,
 )

@@ -8,12 +8,12 @@ push_chain-requires-clause-room c =
     let outs = c.lists-outs.result.now in
     let ts = c.as_slice.result.now in
     let here : ts ≡ get_or outs c.loop-o.o ts = c.as_slice.ensures ∙ c.index-outs-o.is ∙ ap (get_or outs c.loop-o.o) (sym c.as_slice.ensures) in
-    has_room c.args.e.now outs c.loop-o.inner (length c.loop-o.net.gates) c.loop-o.o (length c.args.net.now.gates) ts c.in_ok-chain.chain c.lists-outs.ensures.lists c.loop-o.invariant.inner c.loop-o.invariant.count c.loop-o-test.true
+    has_room c.args.plan.now.expansion.now outs c.loop-o.inner (length c.loop-o.net.gates) c.loop-o.o (length c.args.net.now.gates) ts c.index-names-o.result c.in_ok-chain.chain c.lists-outs.ensures.lists c.loop-o.invariant.inner c.loop-o.invariant.count c.loop-o-test.true
     (omega (arith, ap length c.lists-outs.ensures.lists, c.requires.fits, c.requires.few_outputs)) c.requires.low c.requires.cheap here c.in_ok-chain.ensures
 
 pub loop-o-preserved : goal.loop-o-preserved
 loop-o-preserved c =
-    let e = c.args.e.now in
+    let e = c.args.plan.now.expansion.now in
     let outs = c.lists-outs.result.now in
     let ts = c.as_slice.result.now in
     let here : ts ≡ get_or outs c.loop-o.o ts = c.as_slice.ensures ∙ c.index-outs-o.is ∙ ap (get_or outs c.loop-o.o) (sym c.as_slice.ensures) in

@@ -9,8 +9,8 @@ use Rattle.cascade.proofs.parts.push_ands.Given as goal
 
 abbrev pub invariant-loop-i : goal.invariant-loop-i
 invariant-loop-i l = record {
-  gates : l.net.gates ++ gates_for (λ i t. and_gate (inner l.plan.lead (codes "t" ++ decimal (suc i))) (map (literal_signal l.e) (members t))) (0 + l.i) (drop l.i l.plan.wide.items)
-      ≡ l.initial.net.gates ++ gates_for (λ i t. and_gate (inner l.plan.lead (codes "t" ++ decimal (suc i))) (map (literal_signal l.e) (members t))) 0 l.plan.wide.items;
+  gates : l.net.gates ++ gates_for (λ i t. and_gate (inner l.plan.lead (codes "t" ++ decimal (suc i))) (map (literal_signal l.plan.expansion.now) (members t))) (0 + l.i) (drop l.i l.plan.wide.items)
+      ≡ l.initial.net.gates ++ gates_for (λ i t. and_gate (inner l.plan.lead (codes "t" ++ decimal (suc i))) (map (literal_signal l.plan.expansion.now) (members t))) 0 l.plan.wide.items;
   inputs : l.net.inputs ≡ l.initial.net.inputs;
   count : length l.net.gates ≡ length l.initial.net.gates + l.i;
 }
