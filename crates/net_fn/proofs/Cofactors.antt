@@ -1,20 +1,20 @@
 -- Cubes with an input at a value: which function they have, and which inputs they read.
-use Rattle.std.proofs.Common.{◌≡◌, ◌≢◌, ℕ, ◌+◌, ◌<◌, ◌≤◌, Bool, true, false, not, ◌&&◌, ◌||◌, ◌⊎◌, cond, inl, inr, List, [], ◌∷◌, map, take, length, get_or, refl, sym, ap, ap₂, ◌∙◌, arith, eq-eqb, ne_eqb, None, Some}
-use Rattle.std.specs.Prelude.{filter}
-use Rattle.std.specs.List.{AllByRecursion}
-use Rattle.std.proofs.lemmas.Bool.{cases_eq, cases_lt, cases_Bool, false≢true, and_parts, and_from, or_parts, not-true}
+use Rattle.std.proofs.Common.{◌≡◌, ◌≢◌, ℕ, ◌+◌, ◌<◌, ◌≤◌, Bool, true, false, not, ◌&&◌, ◌||◌, ◌⊎◌, cond, inl, inr, List, [], ◌∷◌, map, take, length, get_or, refl, sym, ap, ap₂, ◌∙◌, arith, eq-eqb, eqb-true, ne_eqb, None, Some}
+use Rattle.std.specs.Prelude.{All, filter}
+use Rattle.std.specs.List.{list_any, AllByRecursion}
+use Rattle.std.proofs.lemmas.Bool.{cases_eq, cases_lt, cases_Bool, false≢true, and_parts, and_from, or_parts, not-true, lt-ltb}
 use Rattle.std.proofs.lemmas.List.Elements.{recursion_from_All, All-from_recursion}
 use Rattle.std.proofs.lemmas.List.Folds.{list_any_more}
-use Rattle.ae_base.specs.Mask.{Set, has, first, without, either, least}
+use Rattle.ae_base.specs.Mask.{Set, has, empty, first, without, where_below, either, least}
 use Rattle.ae_base.specs.Cube.{Signs, Product, IsOver, EachHolds, holds, is_free}
-use Rattle.ae_base.proofs.Sets.{has-either, has-without, inside-has, has-inside, inside-below}
+use Rattle.ae_base.proofs.Sets.{same_set, has-empty, has-either, has-without, inside-has, has-inside, has-where_below, inside-below}
 use Rattle.ae_base.proofs.Members.{least-is, least-empty}
 use Rattle.ae_base.proofs.Products.{holds-has, has-holds}
-use Rattle.ae_base.proofs.Truth.{same_truth}
+use Rattle.ae_base.proofs.Truth.{same_truth, or-true}
 use Rattle.fn_store.specs.Davio.{put, low, high}
 use Rattle.fn_store.specs.Cubes.{some_holds}
 use Rattle.fn_store.proofs.Coefficients.{put-same, put-other}
-use Rattle.net_fn.specs.Cofactor.{allows, rest, cofactor, is_read, AreFrom}
+use Rattle.net_fn.specs.Cofactor.{allows, rest, cofactor, is_read, is_whole, AreFrom}
 
 -- ---- one cube
 
@@ -151,24 +151,37 @@ AreFrom-cofactor n from j v cubes are next = record {
   free = λ k l. cofactor-read j k v cubes (elim (cases_eq k j) [ inl e ↦ inl e | inr ne ↦ inr (next.none k (omega (arith, l, ne))) ]);
 }
 
--- ---- no input is read
+-- ---- no literals, no cubes
 
-none-holds : (c : Product) (x : Set) → ((k : ℕ) → not (is_free c k) ≡ false) → holds c x ≡ true
-none-holds c x h = has-holds c x (
-  (λ k m. absurd (false≢true (sym (h k) ∙ rw m refl))),
-  (λ k m. absurd (false≢true (sym (h k) ∙ by_neg (has c.pos k) (has c.neg k) m))),
-)
+none-holds : (c : Product) (x : Set) → is_whole c ≡ true → holds c x ≡ true
+none-holds c x h =
+    let parts = and_parts _ _ h in
+    has-holds c x (
+      (λ k m. absurd (false≢true (sym (has-empty k) ∙ ap (λ s. has s k) (sym (eqb-true c.pos empty parts.0)) ∙ m))),
+      (λ k m. absurd (false≢true (sym (has-empty k) ∙ ap (λ s. has s k) (sym (eqb-true c.neg empty parts.1)) ∙ m))),
+    )
+
+pub whole-holds : (cubes : List Product) → list_any is_whole cubes ≡ true → (x : Set) → true ≡ some_holds cubes x
+whole-holds [] h x = absurd (false≢true h)
+whole-holds (c ∷ cubes) h x = elim (cases_Bool (is_whole c)) [ inl e ↦ rw (none-holds c x e) refl | inr e ↦ sym (or-true (holds c x)) ∙ ap (λ b. holds c x || b) (whole-holds cubes (rw e at h) x) ]
+
+-- a product that reads no input has no literals
+whole-free : (c : Product) → ((k : ℕ) → not (is_free c k) ≡ false) → is_whole c ≡ true
+whole-free c h =
+    let none = λ (k : ℕ). and_parts (not (has c.pos k)) (not (has c.neg k)) (free (is_free c k) (h k)) in
+    and_from _ _
+    (eq-eqb c.pos empty (same_set c.pos empty (λ k. not-true _ (none k).0 ∙ sym (has-empty k))))
+    (eq-eqb c.neg empty (same_set c.neg empty (λ k. not-true _ (none k).1 ∙ sym (has-empty k))))
   where
-    by_neg : (a b : Bool) → b ≡ true → not (not a && not b) ≡ true
-    by_neg true b e = refl
-    by_neg false true e = refl
-    by_neg false false e = e
+    free : (b : Bool) → not b ≡ false → b ≡ true
+    free true e = refl
+    free false e = sym e
 
-pub none-read : (cubes : List Product) (read : Set) → ((k : ℕ) → has read k ≡ is_read cubes k) → least read ≡ None → 0 < length cubes → (x : Set) → true ≡ some_holds cubes x
-none-read [] read same e l x = absurd (omega (arith, l))
-none-read (c ∷ cubes) read same e l x =
+pub none-left : (cubes : List Product) (read : Set) → ((k : ℕ) → has read k ≡ is_read cubes k) → least read ≡ None → list_any is_whole cubes ≡ false → (x : Set) → false ≡ some_holds cubes x
+none-left [] read same e whole x = refl
+none-left (c ∷ cubes) read same e whole x =
     let free = λ (k : ℕ). (or_parts (not (is_free c k)) (is_read cubes k) (sym (same k) ∙ least-empty read e k)).0 in
-    rw (none-holds c x free) refl
+    absurd (false≢true (sym (or_parts (is_whole c) (list_any is_whole cubes) whole).0 ∙ whole-free c free))
 
 -- ---- all inputs that are read
 
@@ -192,3 +205,22 @@ some-low p j plain cubes cs e f x = ap (λ (ds : List Product). some_holds ds x)
 
 pub some-high : (p : Signs) (j : ℕ) (plain : Bool) (cubes cs : List Product) → plain ≡ has p.plain j → cs ≡ cofactor j plain cubes → (x : Set) → some_holds cs x ≡ some_holds cubes (high p j x)
 some-high p j plain cubes cs e f x = ap (λ (ds : List Product). some_holds ds x) f ∙ some-cofactor j plain x cubes ∙ ap (λ v. some_holds cubes (put j v x)) e
+
+-- ---- inputs as references see them
+
+-- cubes over n inputs read no others
+pub some-inputs : (n : ℕ) (cubes : List Product) (x : Set) → All (IsOver n) cubes → some_holds cubes (where_below n (λ k. has x k)) ≡ some_holds cubes x
+some-inputs n cubes x over = each cubes (recursion_from_All (IsOver n) cubes over)
+  where
+    at : (k : ℕ) → k < n → has (where_below n (λ k. has x k)) k ≡ has x k
+    at k l = has-where_below n (λ k. has x k) k ∙ ap (λ b. b && has x k) (lt-ltb k n l)
+
+    one : (c : Product) → IsOver n c → holds c (where_below n (λ k. has x k)) ≡ holds c x
+    one c o =
+        same_truth _ _
+        (λ h. let parts = holds-has c _ h in has-holds c x ((λ k m. sym (at k (inside-below n c.pos o.1 k m)) ∙ parts.0 k m), (λ k m. sym (at k (inside-below n c.neg o.2 k m)) ∙ parts.1 k m)))
+        (λ h. let parts = holds-has c x h in has-holds c _ ((λ k m. at k (inside-below n c.pos o.1 k m) ∙ parts.0 k m), (λ k m. at k (inside-below n c.neg o.2 k m) ∙ parts.1 k m)))
+
+    each : (cubes : List Product) → AllByRecursion (IsOver n) cubes → some_holds cubes (where_below n (λ k. has x k)) ≡ some_holds cubes x
+    each [] h = refl
+    each (c ∷ cubes) h = ap₂ (λ a b. a || b) (one c h.0) (each cubes h.1)

@@ -3,6 +3,7 @@ use Rattle.std.proofs.Common.{rules, Bool, List, Some, add-one, ap, arith, false
 use Rattle.std.specs.List.{slice_get}
 use Rattle.std.proofs.lemmas.Bool.{cases_eq, false≢true, and_parts, and_from, lt-ltb, not-true}
 use Rattle.std.proofs.lemmas.List.Folds.{list_any_more}
+use Rattle.std.proofs.Math.Bool.{and_assoc}
 use Rattle.std.proofs.Math.Seq.{take-length}
 use Rattle.ae_base.specs.Mask.{Set, has, where_below}
 use Rattle.ae_base.specs.Cube.{Product, IsOver, IsProduct, holds}
@@ -77,32 +78,39 @@ holds-upto c v n over =
     at k l = has-where_below n v k ∙ ap (λ b. b && v k) (lt-ltb k n l)
 
 -- what stands after the first i references
-pub record Done (start now : Functions) (refs : List FnRef) (c : Product) (all : FnRef) (i : ℕ) : Type 0 where
+pub record Done (start now : Functions) (refs : List FnRef) (c : Product) (first all : FnRef) (i : ℕ) : Type 0 where
   pub keeps : Keeps start now
   pub live : IsLive now all
-  pub shows : (fs : ℕ → Set → Bool) → ShowEach start refs fs → Shows now all (λ x. upto c (λ k. fs k x) i)
+  pub shows : (f : Set → Bool) (fs : ℕ → Set → Bool) → Shows start first f → ShowEach start refs fs → Shows now all (λ x. f x && upto c (λ k. fs k x) i)
 
-pub Done-start : (start : Functions) (refs : List FnRef) (c : Product) (all : FnRef) → Keeps start start → Shows start all (λ x. true) → Done start start refs c all 0
+pub Done-start : (start : Functions) (refs : List FnRef) (c : Product) (first : FnRef) → Keeps start start → IsLive start first → Done start start refs c first first 0
 unfolding upto
-Done-start start refs c all keeps one = record { keeps = keeps; live = one.live; shows = λ fs each. one }
+Done-start start refs c first keeps live = record { keeps = keeps; live = live; shows = λ f fs h each. Shows-same start first f (λ x. f x && true) (λ x. and-true (f x)) h }
+  where
+    and-true : (b : Bool) → b ≡ (b && true)
+    and-true true = refl
+    and-true false = refl
 
 pub live_at : (start now : Functions) (refs : List FnRef) (i : ℕ) (r : FnRef) → AreLive start refs → Keeps start now → slice_get refs i ≡ Some r → IsLive now r
 live_at start now refs i r live keeps at = keeps.live r (live.each i r at)
 
-pub Done-step : (start now next : Functions) (refs : List FnRef) (c : Product) (all more r : FnRef) (i : ℕ) → slice_get refs i ≡ Some r → Done start now refs c all i
-    → ((f g : Set → Bool) → Shows now all f → Shows now r g → Shows next more (λ x. f x && agrees c i (g x))) → IsLive next more → Keeps now next → Done start next refs c more (i + 1)
+pub Done-step : (start now next : Functions) (refs : List FnRef) (c : Product) (first all more r : FnRef) (i : ℕ) → slice_get refs i ≡ Some r → Done start now refs c first all i
+    → ((f g : Set → Bool) → Shows now all f → Shows now r g → Shows next more (λ x. f x && agrees c i (g x))) → IsLive next more → Keeps now next → Done start next refs c first more (i + 1)
 unfolding upto
-Done-step start now next refs c all more r i at done step live keeps = record {
+Done-step start now next refs c first all more r i at done step live keeps = record {
   keeps = search rules;
   live = live;
-  shows = λ fs each.
-      rw add-one (step (λ x. upto c (λ k. fs k x) i) (fs i) (done.shows fs each) (Shows-kept start now done.keeps r (fs i) (each.each i r at)));
+  shows = λ f fs h each.
+      rw add-one
+      (Shows-same next more (λ x. (f x && upto c (λ k. fs k x) i) && agrees c i (fs i x)) (λ x. f x && (upto c (λ k. fs k x) i && agrees c i (fs i x)))
+      (λ x. and_assoc (f x) (upto c (λ k. fs k x) i) (agrees c i (fs i x)))
+      (step (λ x. f x && upto c (λ k. fs k x) i) (fs i) (done.shows f fs h each) (Shows-kept start now done.keeps r (fs i) (each.each i r at))));
 }
 
-pub Done-end : (start now : Functions) (refs : List FnRef) (c : Product) (all : FnRef) (i n : ℕ) → i ≡ n → IsOver n c → Done start now refs c all i
-    → (fs : ℕ → Set → Bool) → ShowEach start refs fs → Shows now all (λ x. holds c (ones_at n fs x))
-Done-end start now refs c all i n e over done fs each =
-    Shows-same now all (λ x. upto c (λ k. fs k x) i) (λ x. holds c (ones_at n fs x)) (λ x. ap (upto c (λ k. fs k x)) e ∙ holds-upto c (λ k. fs k x) n over) (done.shows fs each)
+pub Done-end : (start now : Functions) (refs : List FnRef) (c : Product) (first all : FnRef) (i n : ℕ) → i ≡ n → IsOver n c → Done start now refs c first all i
+    → (f : Set → Bool) (fs : ℕ → Set → Bool) → Shows start first f → ShowEach start refs fs → Shows now all (λ x. f x && holds c (ones_at n fs x))
+Done-end start now refs c first all i n e over done f fs h each =
+    Shows-same now all (λ x. f x && upto c (λ k. fs k x) i) (λ x. f x && holds c (ones_at n fs x)) (λ x. ap (λ b. f x && b) (ap (upto c (λ k. fs k x)) e ∙ holds-upto c (λ k. fs k x) n over)) (done.shows f fs h each)
 
 -- ---- the first i products
 

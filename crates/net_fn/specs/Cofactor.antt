@@ -1,7 +1,7 @@
 -- The cubes of an output of a cover, and cubes with an input at a value. For private contracts alone.
-use Rattle.std.specs.Prelude.{◌≡◌, ℕ, ◌<◌, Bool, false, not, if◌then◌else◌, List, map, filter, All}
+use Rattle.std.specs.Prelude.{◌≡◌, ℕ, ◌<◌, ◌==◌, ◌&&◌, Bool, false, not, if◌then◌else◌, List, map, filter, All}
 use Rattle.std.specs.List.{list_any}
-use Rattle.ae_base.specs.Mask.{has, without}
+use Rattle.ae_base.specs.Mask.{empty, has, without}
 use Rattle.ae_base.specs.Cube.{Product, IsOver, is_free}
 use Rattle.ae_cover.specs.declared.parts.Row.{Row}
 use Rattle.ae_cover.specs.Cover.{has_mark, is_one}
@@ -13,6 +13,10 @@ cubes_of o rows = map (λ row. row.cube) (filter (has_mark is_one o) rows)
 -- the product does not exclude the value of input j
 abbrev pub allows : ℕ → Bool → Product → Bool
 allows j v c = not (if v then has c.neg j else has c.pos j)
+
+-- the product has no literals
+abbrev pub is_whole : Product → Bool
+is_whole c = (c.pos == empty) && (c.neg == empty)
 
 -- without the literal of input j
 abbrev pub rest : ℕ → Product → Product

@@ -9,6 +9,5 @@ mod products;
 
 pub use covers::cover_values;
 pub use cubes::some_cube;
-pub use joins::{join, or};
 pub use nets::{net_values, signal_values};
-pub use products::{input, product_of, some_product};
+pub use products::{input, some_product};

@@ -7,9 +7,9 @@ ghost use Rattle.fn_store.specs.Functions.{IsLive, Shows, Keeps};
 ghost use Rattle.net_fn.specs.Literals.{agrees};
 ghost use Rattle.net_fn.specs.Refs.{AreLive, ShowEach, ones_at};
 
-use crate::joins::or;
 use ae_base::{Cube, Memory, WIDTH};
 use fn_store::{FnRef, FnStore};
+use std::alloc::Global;
 
 /// The function of an input: its literal, or the complement of its literal.
 pub fn input<S: FnStore>(store: &mut S, j: u32) -> Result<FnRef, Memory>
@@ -26,18 +26,24 @@ pub fn input<S: FnStore>(store: &mut S, j: u32) -> Result<FnRef, Memory>
     }
 }
 
-/// The function that is 1 where a product holds of the references' values: its plain literals name references that are 1, and its
-/// complemented ones references that are 0.
-pub fn product_of<S: FnStore>(store: &mut S, product: Cube, refs: &[FnRef]) -> Result<FnRef, Memory>
+/// The product of a function and of the literals of a product: its plain literals name references, and its complemented ones their
+/// complements.
+fn times_product<S: FnStore>(
+    store: &mut S,
+    first: FnRef,
+    product: Cube,
+    refs: &[FnRef],
+) -> Result<FnRef, Memory>
+    requires first { IsLive (S.functions store.old) first }
     requires live { AreLive (S.functions store.old) refs.now }
     requires few { length refs.now ≤ WIDTH }
     requires over { IsOver (length refs.now) product }
-    ensures shows { IfOk result (λ r. (fs : ℕ → Set → Bool) → ShowEach (S.functions store.old) refs.now fs
-        → Shows (S.functions store.new) r (λ x. holds product (ones_at (length refs.now) fs x))) }
+    ensures shows { IfOk result (λ r. (f : Set → Bool) (fs : ℕ → Set → Bool) → Shows (S.functions store.old) first f → ShowEach (S.functions store.old) refs.now fs
+        → Shows (S.functions store.new) r (λ x. f x && holds product (ones_at (length refs.now) fs x))) }
     ensures live { IfOk result (IsLive (S.functions store.new)) }
     ensures keeps { Keeps (S.functions store.old) (S.functions store.new) }
 {
-    let mut all = store.one();
+    let mut all = first;
     for (k, r) in refs.iter().enumerate() {
         all = times(store, all, product, k as u32, *r)?;
     }
@@ -90,7 +96,8 @@ pub fn some_product<S: FnStore>(
     Ok(some)
 }
 
-/// The OR of a function and of a product of the references.
+/// The OR of a function and of a product of the references, as their EXOR where the product is taken of what is left: each of its
+/// literals keeps that small, which the AND of both would not.
 fn or_product<S: FnStore>(
     store: &mut S,
     some: FnRef,
@@ -106,6 +113,21 @@ fn or_product<S: FnStore>(
     ensures live { IfOk result (IsLive (S.functions store.new)) }
     ensures keeps { Keeps (S.functions store.old) (S.functions store.new) }
 {
-    let also = product_of(store, product, refs)?;
-    or(store, some, also)
+    let rest = store.not(some)?;
+    let also = times_product(store, rest, product, refs)?;
+    store.xor(some, also)
+}
+
+/// The functions of all inputs.
+pub(crate) fn all_inputs<S: FnStore>(alloc: Global, store: &mut S) -> Result<Vec<FnRef>, Memory>
+    ensures count { IfOk result (λ refs. length refs.items ≡ (S.functions store.old).polarity.n) }
+    ensures few { IfOk result (λ refs. length refs.items ≤ WIDTH) }
+    ensures shows { IfOk result (λ refs. ShowEach (S.functions store.new) refs.items (λ j x. has x j)) }
+    ensures keeps { Keeps (S.functions store.old) (S.functions store.new) }
+{
+    let mut refs = Vec::new(alloc);
+    for j in 0..store.polarity().n {
+        refs.push(input(store, j)?)?;
+    }
+    Ok(refs)
 }
