@@ -2,7 +2,7 @@
 
 use crate::given::{AND_OF_OUTER, are_sets, expansion_of, set};
 use ae_base::Memory;
-use expansion::{Expansion, is_used, pairs, used_inputs};
+use expansion::{Expansion, pairs, used_inputs};
 use std::alloc::Global;
 use std::test::Fail;
 
@@ -20,8 +20,6 @@ fn is_and_of_outer(alloc: Global) -> Result<bool, Memory> {
             && pairs(&e) == 1
             && e.inputs() == 3
             && e.polarity().plain == set(&[0, 1, 2])
-            && is_used(&e, 0)
-            && !is_used(&e, 1)
             && used_inputs(&e) == set(&[0, 2]),
     )
 }

@@ -11,4 +11,4 @@ pub use expansion::{Expansion, pairs};
 pub use functions::{ExpandErr, expand};
 pub use laws::{even_law, expanded_law};
 pub use limits::{LISTS, TERMS};
-pub use used::{is_used, used_inputs};
+pub use used::used_inputs;

@@ -7,22 +7,6 @@ ghost use Rattle.expansion.specs.Terms as spec;
 use crate::expansion::Expansion;
 use ae_base::{Mask, Seq, Term};
 
-/// Whether some of the terms holds the input.
-fn some_holds(terms: &[Term], j: u32) -> bool
-    ensures { result ≡ list_any (λ t. has t j) terms.now }
-{
-    terms.iter().any(|t| t.has(j))
-}
-
-/// Whether some term of some output holds the input. It takes no memory.
-pub fn is_used(e: &Expansion, j: u32) -> bool
-    ensures { result ≡ spec.is_used e.now j }
-{
-    e.lists()
-        .iter()
-        .any(|terms| some_holds(terms.as_slice(), j))
-}
-
 /// The set, with the inputs that some of the terms holds.
 fn with_terms(held: Mask, terms: &[Term]) -> Mask
     ensures { (j : ℕ) → has result j ≡ (has held j || list_any (λ t. has t j) terms.now) }
