@@ -6,7 +6,7 @@ use Rattle.std.proofs.lemmas.Bool.{and_parts}
 use Rattle.std.proofs.lemmas.List.Elements.{All-from_recursion}
 use Rattle.ae_base.specs.Mask.{Set, differ, first, inside}
 use Rattle.ae_base.specs.Cube.{Signs}
-use Rattle.ae_base.specs.Terms.{IsInOrder, product, exor_of, value}
+use Rattle.ae_base.specs.Terms.{IsInOrder, product, exor_of}
 use Rattle.fn_store.specs.Davio.{IsExpansion}
 use Rattle.fn_store.specs.Scratch.{Means}
 use Rattle.fn_store.proofs.Expansions.{only}
