@@ -1,0 +1,123 @@
+-- What places have, while nodes are added.
+use Rattle.std.proofs.Common.{◌≡◌, ℕ, ◌+◌, ◌-◌, ◌<◌, suc, zero, true, false, ◌&&◌, ◌⊎◌, inl, inr, List, [], ◌∷◌, ◌++◌, length, take, drop, get_or, slice_get, Some, refl, ap, ap₂, sym, ◌∙◌, arith, length-append}
+use Rattle.std.proofs.Math.ListN.{get_or-append}
+use Rattle.std.proofs.Math.Seq.{get_or-append_seam, drop-cons}
+use Rattle.std.proofs.lemmas.List.{take-append-drop, length-take}
+use Rattle.std.proofs.lemmas.Option.{slice_get_within, slice_get-get_or, get_or_from_slice_get}
+use Rattle.ae_base.specs.Mask.{Set, differ}
+use Rattle.ae_base.specs.Cube.{Signs}
+use Rattle.ae_base.specs.Terms.{literal}
+use Rattle.davio_dd.specs.declared.node.Node.{Node}
+use Rattle.davio_dd.specs.Diagram.{entries_from, entry, place_value, top, IsDiagram, IsPlace}
+use Rattle.davio_dd.specs.Scratch.{IsNode}
+
+-- ---- entries
+
+length-entries : {A : Type 0} (z : A) (rule : Node → A → A → A) (es : List A) (ns : List Node) → length (entries_from z rule es ns) ≡ length es + length ns
+unfolding entries_from
+length-entries z rule es [] = omega arith
+length-entries z rule es (n ∷ ns) =
+    let e = rule n (get_or es n.low z) (get_or es n.high z) in
+    omega (arith, length-entries z rule (es ++ e ∷ []) ns, length-append es (e ∷ []))
+
+entries-keep : {A : Type 0} (z : A) (rule : Node → A → A → A) (es : List A) (ns : List Node) (i : ℕ) → i < length es → get_or (entries_from z rule es ns) i z ≡ get_or es i z
+unfolding entries_from
+entries-keep z rule es [] i lt = refl
+entries-keep z rule es (n ∷ ns) i lt =
+    let e = rule n (get_or es n.low z) (get_or es n.high z) in
+    entries-keep z rule (es ++ e ∷ []) ns i (omega (arith, length-append es (e ∷ []))) ∙ get_or-append es (e ∷ []) z i lt
+
+entries-append : {A : Type 0} (z : A) (rule : Node → A → A → A) (es : List A) (xs ys : List Node) → entries_from z rule es (xs ++ ys) ≡ entries_from z rule (entries_from z rule es xs) ys
+unfolding entries_from
+entries-append z rule es [] ys = refl
+entries-append z rule es (x ∷ xs) ys = entries-append z rule (es ++ rule x (get_or es x.low z) (get_or es x.high z) ∷ []) xs ys
+
+-- a place keeps its entry
+pub entry-grows : {A : Type 0} (z o : A) (rule : Node → A → A → A) (nodes more : List Node) (at : ℕ) → IsPlace nodes at → entry z o rule (nodes ++ more) at ≡ entry z o rule nodes at
+unfolding entry
+entry-grows z o rule nodes more at lt =
+    ap (λ es. get_or es at z) (entries-append z rule (z ∷ o ∷ []) nodes more)
+    ∙ entries-keep z rule (entries_from z rule (z ∷ o ∷ []) nodes) more at (omega (arith, length-entries z rule (z ∷ o ∷ []) nodes))
+
+pub entry-zero : {A : Type 0} (z o : A) (rule : Node → A → A → A) (nodes : List Node) → entry z o rule nodes 0 ≡ z
+unfolding entry
+entry-zero z o rule nodes = entries-keep z rule (z ∷ o ∷ []) nodes 0 (omega arith)
+
+pub entry-one : {A : Type 0} (z o : A) (rule : Node → A → A → A) (nodes : List Node) → entry z o rule nodes 1 ≡ o
+unfolding entry
+entry-one z o rule nodes = entries-keep z rule (z ∷ o ∷ []) nodes 1 (omega arith)
+
+entry-seam : {A : Type 0} (z o : A) (rule : Node → A → A → A) (front : List Node) (node : Node) (rest : List Node) → node.low < length front + 2 → node.high < length front + 2
+    → entry z o rule (front ++ node ∷ rest) (length front + 2) ≡ rule node (entry z o rule (front ++ node ∷ rest) node.low) (entry z o rule (front ++ node ∷ rest) node.high)
+unfolding entry entries_from
+entry-seam z o rule front node rest low high =
+    let es = entries_from z rule (z ∷ o ∷ []) front in
+    let e = rule node (get_or es node.low z) (get_or es node.high z) in
+    let long : length front + 2 ≡ length es = omega (arith, length-entries z rule (z ∷ o ∷ []) front) in
+    ap (λ fs. get_or fs (length front + 2) z) (entries-append z rule (z ∷ o ∷ []) front (node ∷ rest))
+    ∙ ap (λ i. get_or (entries_from z rule (es ++ e ∷ []) rest) i z) long
+    ∙ entries-keep z rule (es ++ e ∷ []) rest (length es) (omega (arith, length-append es (e ∷ [])))
+    ∙ get_or-append_seam es e [] z
+    ∙ sym (ap₂ (rule node) (entry-grows z o rule front (node ∷ rest) node.low low) (entry-grows z o rule front (node ∷ rest) node.high high))
+
+pub around : (nodes : List Node) (k : ℕ) (node : Node) → slice_get nodes k ≡ Some node → nodes ≡ take k nodes ++ node ∷ drop (suc k) nodes
+around nodes k node got =
+    let lt : k < length nodes = slice_get_within nodes k node got in
+    sym (take-append-drop k nodes) ∙ ap (λ l. take k nodes ++ l) (drop-cons nodes k node lt ∙ ap (λ n. n ∷ drop (suc k) nodes) (get_or_from_slice_get nodes k node node got))
+
+-- a node's place, by its parts
+pub entry-node : {A : Type 0} (z o : A) (rule : Node → A → A → A) (nodes : List Node) (k : ℕ) (node : Node) → slice_get nodes k ≡ Some node → node.low < k + 2 → node.high < k + 2
+    → entry z o rule nodes (k + 2) ≡ rule node (entry z o rule nodes node.low) (entry z o rule nodes node.high)
+entry-node z o rule nodes k node got low high =
+    let lt : k < length nodes = slice_get_within nodes k node got in
+    let long : length (take k nodes) ≡ k = simp length-take (omega arith) in
+    let whole = around nodes k node got in
+    ap₂ (λ ns i. entry z o rule ns (i + 2)) whole (sym long)
+    ∙ entry-seam z o rule (take k nodes) node (drop (suc k) nodes) (omega (arith, long)) (omega (arith, long))
+    ∙ ap (λ ns. rule node (entry z o rule ns node.low) (entry z o rule ns node.high)) (sym whole)
+
+-- ---- values, terms and tops
+
+pub value-zero : (p : Signs) (nodes : List Node) (x : Set) → place_value p nodes 0 x ≡ false
+unfolding place_value
+value-zero p nodes x = entry-zero false true _ nodes
+
+pub value-one : (p : Signs) (nodes : List Node) (x : Set) → place_value p nodes 1 x ≡ true
+unfolding place_value
+value-one p nodes x = entry-one false true _ nodes
+
+pub value-node : (p : Signs) (n : ℕ) (nodes : List Node) → IsDiagram n nodes → (k : ℕ) (node : Node) → slice_get nodes k ≡ Some node → (x : Set)
+    → place_value p nodes (k + 2) x ≡ differ (place_value p nodes node.low x) (literal p node.input x && place_value p nodes node.high x)
+unfolding place_value
+value-node p n nodes is k node got x = entry-node false true _ nodes k node got (is.low k node got) (is.high k node got)
+
+pub top-zero : (n : ℕ) (nodes : List Node) → top n nodes 0 ≡ n
+unfolding top
+top-zero n nodes = entry-zero n n _ nodes
+
+pub top-one : (n : ℕ) (nodes : List Node) → top n nodes 1 ≡ n
+unfolding top
+top-one n nodes = entry-one n n _ nodes
+
+pub top-node : (n : ℕ) (nodes : List Node) → IsDiagram n nodes → (k : ℕ) (node : Node) → slice_get nodes k ≡ Some node → top n nodes (k + 2) ≡ node.input
+unfolding top
+top-node n nodes is k node got = entry-node n n _ nodes k node got (is.low k node got) (is.high k node got)
+
+-- ---- a place is a constant or a node
+
+pub record IsNodeAt (nodes : List Node) (at : ℕ) : Type 0 where
+  pub k : ℕ
+  pub node : Node
+  pub got : slice_get nodes k ≡ Some node
+  pub place : at ≡ k + 2
+
+none : Node
+none = record { input = 0; low = 0; high = 0 }
+
+pub place-cases : (nodes : List Node) (at : ℕ) → IsPlace nodes at → (at ≡ 0) ⊎ ((at ≡ 1) ⊎ IsNodeAt nodes at)
+place-cases nodes zero l = inl refl
+place-cases nodes (suc zero) l = inr (inl refl)
+place-cases nodes (suc (suc k)) l = inr (inr (record { k = k; node = get_or nodes k none; got = slice_get-get_or nodes k none (omega arith); place = omega arith }))
+
+unfoldable pub node_at : (n : ℕ) (nodes : List Node) (at : ℕ) (node : Node) → IsNode n nodes at node → IsNodeAt nodes at
+node_at n nodes at node h = record { k = at - 2; node = node; got = h.got; place = omega (arith, h.two) }

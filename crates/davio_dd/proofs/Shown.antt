@@ -1,0 +1,103 @@
+-- The diagram as a store: what its references show, and that they keep it while nodes are added.
+use Rattle.std.proofs.Common.{◌≡◌, ℕ, ◌+◌, ◌<◌, Bool, true, false, ◌&&◌, List, length, Option, None, Some, refl, sym, ap, ap₂, ◌∙◌, lt-ltb, arith}
+use Rattle.std.specs.Option.{MatchOption, is_some}
+use Rattle.std.proofs.lemmas.Bool.{false≢true, ltb-true}
+use Rattle.ae_base.specs.Mask.{Set, differ}
+use Rattle.ae_base.specs.Cube.{Signs}
+use Rattle.ae_base.specs.Terms.{literal, value, in_order}
+use Rattle.fn_store.specs.declared.store.FnRef.{FnRef}
+use Rattle.fn_store.specs.Functions.{IsLive, Shows, Keeps, AllShow, AgreeAt}
+use Rattle.fn_store.proofs.Expansions.{means}
+use Rattle.davio_dd.specs.declared.node.Node.{Node}
+use Rattle.davio_dd.specs.Diagram.{place_value, place_terms, IsDiagram, IsPlace, IsAnswer, functions_of}
+use Rattle.davio_dd.specs.Scratch.{Grows}
+use Rattle.davio_dd.proofs.Places.{value-zero, value-one}
+use Rattle.davio_dd.proofs.Canonical.{same_place}
+use Rattle.davio_dd.proofs.Growing.{value-grows, terms-grows, length-grows}
+use Rattle.davio_dd.proofs.Terms.{terms-once, value-in_order, place-expansion}
+use Rattle.davio_dd.proofs.Once.{length-in_order}
+
+-- ---- places and functions
+
+pub live-place : (p : Signs) (nodes : List Node) (r : FnRef) → IsLive (functions_of p nodes) r → IsPlace nodes r.at
+live-place p nodes r live = ltb-true r.at (length nodes + 2) live
+
+pub place-live : (p : Signs) (nodes : List Node) (r : FnRef) → IsPlace nodes r.at → IsLive (functions_of p nodes) r
+place-live p nodes r place = lt-ltb r.at (length nodes + 2) place
+
+-- a place shows each function that has its value at each point, and no other
+pub Shows-value : (p : Signs) (nodes : List Node) → IsDiagram p.n nodes → (r : FnRef) → IsPlace nodes r.at → (f : Set → Bool) → AgreeAt p.n (place_value p nodes r.at) f → Shows (functions_of p nodes) r f
+Shows-value p nodes is r place f same = record { live = place-live p nodes r place; is = place-expansion p nodes is r.at place f same }
+
+pub value-Shows : (p : Signs) (nodes : List Node) → IsDiagram p.n nodes → (r : FnRef) (f : Set → Bool) → Shows (functions_of p nodes) r f → AgreeAt p.n (place_value p nodes r.at) f
+value-Shows p nodes is r f h x point = sym (value-in_order p nodes is r.at (live-place p nodes r h.live) x) ∙ means p f (in_order (place_terms nodes r.at)) h.is x point
+
+pub all-Shows : (p : Signs) (nodes : List Node) → IsDiagram p.n nodes → AllShow (functions_of p nodes)
+all-Shows p nodes is r live =
+    let place = live-place p nodes r live in
+    Shows-value p nodes is r place (value p (in_order (place_terms nodes r.at))) (λ x point. sym (value-in_order p nodes is r.at place x))
+
+-- ---- the constants
+
+pub zero-Shows : (p : Signs) (nodes : List Node) → IsDiagram p.n nodes → Shows (functions_of p nodes) (record { at = 0 }) (λ x. false)
+zero-Shows p nodes is = Shows-value p nodes is (record { at = 0 }) (omega arith) (λ x. false) (λ x point. value-zero p nodes x)
+
+pub one-Shows : (p : Signs) (nodes : List Node) → IsDiagram p.n nodes → Shows (functions_of p nodes) (record { at = 1 }) (λ x. true)
+one-Shows p nodes is = Shows-value p nodes is (record { at = 1 }) (omega arith) (λ x. true) (λ x point. value-one p nodes x)
+
+-- ---- while nodes are added
+
+pub Keeps-grows : (p p1 : Signs) (n0 n1 : List Node) → p1 ≡ p → Grows n0 n1 → Keeps (functions_of p n0) (functions_of p1 n1)
+Keeps-grows p p1 n0 n1 e g = record {
+  polarity = e;
+  live = λ r l. place-live p1 n1 r (omega (arith, length-grows n0 n1 g, live-place p n0 r l));
+  terms = λ r l. ap in_order (terms-grows n0 n1 g r.at (live-place p n0 r l));
+}
+
+-- the answer to an operation of two places shows the operation of their functions
+pub answer-Shows : (op : Bool → Bool → Bool) (p p1 : Signs) (n0 n1 : List Node) → IsDiagram p.n n0 → IsDiagram p1.n n1 → p1 ≡ p → Grows n0 n1 → (a b r : FnRef) → IsAnswer op p1 n1 a.at b.at r.at
+    → (f g : Set → Bool) → Shows (functions_of p n0) a f → Shows (functions_of p n0) b g → Shows (functions_of p1 n1) r (λ x. op (f x) (g x))
+answer-Shows op p p1 n0 n1 is0 is1 e g a b r answer f h shows_a shows_b =
+    let first : IsAnswer op p n1 a.at b.at r.at = rw e at answer in
+    let is : IsDiagram p.n n1 = rw e at is1 in
+    rw e (Shows-value p n1 is r first.place (λ x. op (f x) (h x)) (λ x point.
+    first.is x
+    ∙ ap₂ op (value-grows p n0 n1 g a.at (live-place p n0 a shows_a.live) x ∙ value-Shows p n0 is0 a f shows_a x point)
+    (value-grows p n0 n1 g b.at (live-place p n0 b shows_b.live) x ∙ value-Shows p n0 is0 b h shows_b x point)))
+
+and_true : (a : Bool) → (a && true) ≡ a
+and_true true = refl
+and_true false = refl
+
+-- the node of an input over the two constants shows the literal
+pub literal-Shows : (p p1 : Signs) (n0 n1 : List Node) → IsDiagram p1.n n1 → p1 ≡ p → (j : ℕ) (r : FnRef) → IsPlace n1 r.at
+    → ((x : Set) → place_value p1 n1 r.at x ≡ differ (place_value p n0 0 x) (literal p j x && place_value p n0 1 x)) → Shows (functions_of p1 n1) r (literal p j)
+literal-Shows p p1 n0 n1 is e j r place h =
+    Shows-value p1 n1 is r place (literal p j) (λ x point. h x ∙ ap₂ (λ a b. differ a (literal p j x && b)) (value-zero p n0 x) (value-one p n0 x) ∙ and_true (literal p j x))
+
+-- ---- functions that agree
+
+-- references of functions that agree at every point are one place
+pub agree-place : (p : Signs) (nodes : List Node) → IsDiagram p.n nodes → (a b : FnRef) (f g : Set → Bool) → Shows (functions_of p nodes) a f → Shows (functions_of p nodes) b g → AgreeAt p.n f g → a.at ≡ b.at
+agree-place p nodes is a b f g shows_a shows_b same =
+    same_place p nodes is a.at b.at (live-place p nodes a shows_a.live) (live-place p nodes b shows_b.live)
+    (λ x point. value-Shows p nodes is a f shows_a x point ∙ same x point ∙ sym (value-Shows p nodes is b g shows_b x point))
+
+pub place-agree : (p : Signs) (nodes : List Node) → IsDiagram p.n nodes → (a b : FnRef) (f g : Set → Bool) → Shows (functions_of p nodes) a f → Shows (functions_of p nodes) b g → a.at ≡ b.at → AgreeAt p.n f g
+place-agree p nodes is a b f g shows_a shows_b e x point =
+    sym (value-Shows p nodes is a f shows_a x point) ∙ ap (λ (at : ℕ). place_value p nodes at x) e ∙ value-Shows p nodes is b g shows_b x point
+
+-- ---- how many terms there are
+
+length-terms : (p : Signs) (nodes : List Node) → IsDiagram p.n nodes → (r : FnRef) → IsLive (functions_of p nodes) r → length (in_order (place_terms nodes r.at)) ≡ length (place_terms nodes r.at)
+length-terms p nodes is r live = length-in_order (place_terms nodes r.at) (terms-once p.n nodes is r.at (live-place p nodes r live))
+
+pub more-terms : (p : Signs) (nodes : List Node) → IsDiagram p.n nodes → (r : FnRef) → IsLive (functions_of p nodes) r → (k : ℕ) (left : Option ℕ)
+    → MatchOption left (k < length (place_terms nodes r.at)) (λ rest. rest + length (place_terms nodes r.at) ≡ k) → is_some left ≡ false → k < length (in_order (place_terms nodes r.at))
+more-terms p nodes is r live k None h e = omega (arith, h, length-terms p nodes is r live)
+more-terms p nodes is r live k (Some rest) h e = absurd (false≢true (sym e))
+
+pub no-more-terms : (p : Signs) (nodes : List Node) → IsDiagram p.n nodes → (r : FnRef) → IsLive (functions_of p nodes) r → (k : ℕ) (left : Option ℕ)
+    → MatchOption left (k < length (place_terms nodes r.at)) (λ rest. rest + length (place_terms nodes r.at) ≡ k) → is_some left ≡ true → k < length (in_order (place_terms nodes r.at)) → ⊥
+no-more-terms p nodes is r live k None h e l = false≢true e
+no-more-terms p nodes is r live k (Some rest) h e l = omega (arith, h, l, length-terms p nodes is r live)
