@@ -6,22 +6,20 @@ use Rattle.ae_base.specs.declared.limits.TheConstants.{SOURCE_LINES}
 use Rattle.ae_net.specs.Names.{Names}
 use Rattle.fn_store.specs.Functions.{Functions, IsLive}
 use Rattle.net_fn.specs.Refs.{ShowEach}
-use Rattle.fn_store.specs.Lists.{functions_of}
 use Rattle.fn_store.specs.declared.store.FnRef.{FnRef}
 use Rattle.synth_core.specs.Asked.{polarity_of}
 use Rattle.synth_core.specs.Made.{names_of}
 use Rattle.synth_core.specs.Says.{source_says}
-use Rattle.synth_core.specs.declared.read.Sourced.{Sourced}
 use Rattle.synth_core.specs.declared.settings.Settings.{Settings}
 
--- names, a store of functions, and references of it
+-- names, what a store of functions shows, and references of it
 pub record Parts : Type 0 where
   pub names : Names
   pub functions : Functions
   pub outputs : List FnRef
 
-abbrev pub sourced_of : Sourced → Parts
-sourced_of r = record { names = r.names; functions = functions_of r.functions; outputs = r.outputs.items }
+abbrev pub parts : Names → Functions → List FnRef → Parts
+parts names functions outputs = record { names = names; functions = functions; outputs = outputs }
 
 -- The names are those of the source, and the references show its outputs' functions, in a store at a polarity of its inputs.
 pub record IsSourced (s : Source) (p : Signs) (r : Parts) : Type 0 where

@@ -12,7 +12,7 @@ ghost use Rattle.synth_core.specs.Asked.{polarity_of};
 ghost use Rattle.synth_core.specs.Errors.{of_text};
 ghost use Rattle.synth_core.specs.Made.{names_of};
 ghost use Rattle.synth_core.specs.Says.{source_says};
-ghost use Rattle.synth_core.specs.Sourced.{IsSourced, IsWhole, SaysSourced, sourced_of};
+ghost use Rattle.synth_core.specs.Sourced.{IsSourced, IsWhole, SaysSourced, parts};
 
 use crate::error::SynthErr;
 use crate::settings::{Choice, Settings, SourceKind, polarity_of};
@@ -20,20 +20,21 @@ use ae_base::{Memory, Name, Seq, copies};
 use ae_cover::Cover;
 use ae_net::{Net, NetNames};
 use blif_read::{NetLimits, read_blif, said_law};
-use fn_store::{FnRef, TermLists, store_laws};
+use davio_dd::Davio;
+use fn_store::{FnRef, FnStore, store_laws};
 use net_fn::{cover_values, net_values};
 use pla_read::read_pla;
 use std::alloc::Global;
 
-/// How functions are kept.
-pub type Functions = TermLists;
+/// How functions are kept: nothing else names it.
+pub type Store = Davio;
 
 /// The names of a source, and for each of its outputs in order the function that is 1 exactly where the output is specified On, in a
 /// store at the polarity that is asked for.
 #[derive(Drop)]
 pub struct Sourced {
     pub names: NetNames,
-    pub functions: Functions,
+    pub functions: Store,
     pub outputs: Vec<FnRef>,
 }
 
@@ -53,12 +54,12 @@ fn cover_names(alloc: Global, cover: &Cover) -> Result<NetNames, Memory>
 
 /// The source that a cover is.
 fn cover_source(alloc: Global, cover: &Cover, choice: Choice) -> Result<Sourced, Memory>
-    ensures sourced { IfOk result (λ r. IsSourced (source_of cover.now) (polarity_of choice (length cover.now.inputs)) (sourced_of r)) }
-    ensures whole { IfOk result (λ r. IsWhole (sourced_of r)) }
+    ensures sourced { IfOk result (λ r. IsSourced (source_of cover.now) (polarity_of choice (length cover.now.inputs)) (parts r.names (⟦<Store as FnStore>⟧.functions r.functions) r.outputs.items)) }
+    ensures whole { IfOk result (λ r. IsWhole (parts r.names (⟦<Store as FnStore>⟧.functions r.functions) r.outputs.items)) }
 {
     let names = cover_names(alloc, cover)?;
     let polarity = polarity_of(choice, cover.inputs().len() as u32);
-    let mut functions = Functions::new(alloc, polarity)?;
+    let mut functions = Store::new(alloc, polarity)?;
     let outputs = cover_values(alloc, &mut functions, cover)?;
     Ok(Sourced {
         names,
@@ -97,12 +98,12 @@ fn net_names(alloc: Global, net: &Net) -> Result<NetNames, Memory>
 /// The source that a network is.
 fn net_source(alloc: Global, net: &Net, choice: Choice) -> Result<Sourced, Memory>
     requires { KeepsLimits source_limits net.now }
-    ensures sourced { IfOk result (λ r. IsSourced (net_spec.source_of net.now) (polarity_of choice (length net.now.inputs)) (sourced_of r)) }
-    ensures whole { IfOk result (λ r. IsWhole (sourced_of r)) }
+    ensures sourced { IfOk result (λ r. IsSourced (net_spec.source_of net.now) (polarity_of choice (length net.now.inputs)) (parts r.names (⟦<Store as FnStore>⟧.functions r.functions) r.outputs.items)) }
+    ensures whole { IfOk result (λ r. IsWhole (parts r.names (⟦<Store as FnStore>⟧.functions r.functions) r.outputs.items)) }
 {
     let names = net_names(alloc, net)?;
     let polarity = polarity_of(choice, net.inputs().len() as u32);
-    let mut functions = Functions::new(alloc, polarity)?;
+    let mut functions = Store::new(alloc, polarity)?;
     let outputs = net_values(alloc, &mut functions, net, None)?;
     store_laws();
     Ok(Sourced {
@@ -115,8 +116,8 @@ fn net_source(alloc: Global, net: &Net, choice: Choice) -> Result<Sourced, Memor
 /// Reads a source of the kind that is asked for.
 pub fn read_source(alloc: Global, bytes: &[u8], settings: &Settings) -> Result<Sourced, SynthErr>
     requires { length bytes.now ≤ TEXT_BYTES }
-    ensures sourced { IfOk result (λ r. SaysSourced settings.now bytes.now (sourced_of r)) }
-    ensures whole { IfOk result (λ r. IsWhole (sourced_of r)) }
+    ensures sourced { IfOk result (λ r. SaysSourced settings.now bytes.now (parts r.names (⟦<Store as FnStore>⟧.functions r.functions) r.outputs.items)) }
+    ensures whole { IfOk result (λ r. IsWhole (parts r.names (⟦<Store as FnStore>⟧.functions r.functions) r.outputs.items)) }
     ensures refused { (line : ℕ) (what : TextFault) → IsErrOf result (of_text line what) → source_says settings.now.kind bytes.now ≡ Err (line, what) }
     ensures no_terms { (output : ℕ) → ¬ (IsErrOf result (synth_err.TooManyTerms output)) }
 {

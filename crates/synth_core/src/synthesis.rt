@@ -15,7 +15,7 @@ ghost use Rattle.synth_core.specs.Asked.{HasTooMany, IsWithin};
 ghost use Rattle.synth_core.specs.Errors.{of_text};
 ghost use Rattle.synth_core.specs.Made.{IsMade, IsSynthesised, names_of, texts_of};
 ghost use Rattle.synth_core.specs.Says.{source_says};
-ghost use Rattle.synth_core.specs.Sourced.{IsSourced, IsWhole, sourced_of};
+ghost use Rattle.synth_core.specs.Sourced.{IsSourced, IsWhole, parts};
 ghost use Rattle.synth_core.specs.Steps.{AreReady, AreReddyNumbers, IsMadeOf, TooMany, file_over, reddy_file, vectors_of};
 ghost use Rattle.vec_text.specs.declared.file.Form.TheVariants.{Reddy};
 ghost use Rattle.vec_text.specs.VectorFile.{IsValidVectorFile, vector_text};
@@ -23,14 +23,14 @@ ghost use Rattle.vec_text.specs.VectorFile.{IsValidVectorFile, vector_text};
 use crate::error::SynthErr;
 use crate::laws::synthesis_law;
 use crate::made::{Made, Summary};
-use crate::read::{Sourced, read_source};
+use crate::read::read_source;
 use crate::settings::Settings;
 use ae_base::{Memory, Name, Point, Polarity, Seq, copies};
 use ae_net::{Net, NetNames, answer, fault_count, scratch_for};
 use blif_write::blif_text;
 use cascade::{REDDY_TERMS, reddy};
 use expansion::{Expansion, expand, expanded_law, pairs};
-use fn_store::expansion_law;
+use fn_store::{FnRef, FnStore, expansion_law};
 use input_tests::cascade_vectors;
 use std::alloc::Global;
 use vec_text::{Form, VecFile, Vector, vec_text};
@@ -141,16 +141,21 @@ fn texts(alloc: Global, names: &NetNames, e: &Expansion) -> Result<Made, Memory>
     made_of(alloc, &net, &file, summary)
 }
 
-/// The network of a source and the vectors of the cascade, as texts.
-fn synthesise_sourced(alloc: Global, sourced: &Sourced) -> Result<Made, SynthErr>
-    requires { IsWhole (sourced_of sourced.now) }
-    ensures made { IfOk result (λ made. (s : Source) (p : Signs) → IsSourced s p (sourced_of sourced.now) → IsMadeOf s p (texts_of made)) }
-    ensures too_many { (output : ℕ) → IsErrOf result (synth_err.TooManyTerms output) → (s : Source) (p : Signs) → IsSourced s p (sourced_of sourced.now) → TooMany s p output }
+/// The network of a source and the vectors of the cascade, as texts: of its names, and of its outputs' functions in any store.
+fn synthesise_functions<S: FnStore>(
+    alloc: Global,
+    names: &NetNames,
+    store: &S,
+    outputs: &[FnRef],
+) -> Result<Made, SynthErr>
+    requires { IsWhole (parts names.now (S.functions store.now) outputs.now) }
+    ensures made { IfOk result (λ made. (s : Source) (p : Signs) → IsSourced s p (parts names.now (S.functions store.now) outputs.now) → IsMadeOf s p (texts_of made)) }
+    ensures too_many { (output : ℕ) → IsErrOf result (synth_err.TooManyTerms output) → (s : Source) (p : Signs) → IsSourced s p (parts names.now (S.functions store.now) outputs.now) → TooMany s p output }
     ensures accepted { (line : ℕ) (what : TextFault) → ¬ (IsErrOf result (of_text line what)) }
 {
     expanded_law();
-    let expansion = expand(alloc, &sourced.functions, &sourced.outputs, REDDY_TERMS)?;
-    Ok(texts(alloc, &sourced.names, &expansion)?)
+    let expansion = expand(alloc, store, outputs, REDDY_TERMS)?;
+    Ok(texts(alloc, names, &expansion)?)
 }
 
 /// Reads a source of the kind that is asked for, and gives the texts of its network in the form that is asked for and of the network's
@@ -169,5 +174,5 @@ pub fn synthesise(alloc: Global, bytes: &[u8], settings: &Settings) -> Result<Ma
 {
     expansion_law();
     let sourced = read_source(alloc, bytes, settings)?;
-    synthesise_sourced(alloc, &sourced)
+    synthesise_functions(alloc, &sourced.names, &sourced.functions, &sourced.outputs)
 }

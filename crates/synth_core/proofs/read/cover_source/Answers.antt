@@ -1,5 +1,4 @@
 use Rattle.std.proofs.Common.{◌≡◌, ◌≤◌, length, ap, sym, ◌∙◌, arith}
-use Rattle.fn_store.specs.Lists.{functions_of}
 use Rattle.synth_core.specs.Asked.{polarity_of}
 use Rattle.synth_core.proofs.Sources.{polarity_inputs, are_live}
 use Rattle.synth_core.proofs.read.cover_source.Goals as goal
@@ -17,6 +16,6 @@ pub returns-clause-whole : goal.returns-clause-whole
 returns-clause-whole c = record {
   inputs = ap (λ p. p.n) (c.cover_values.ensures.keeps.polarity ∙ c.in_ok-functions.ensures ∙ c.polarity_of-polarity.ensures ∙ ap (λ names. polarity_of c.args.choice (length names)) c.inputs.ensures.inputs) ∙ polarity_inputs c.args.choice (length c.args.cover.now.inputs) ∙ ap (λ names. length names.inputs) (sym c.in_ok-names.ensures);
   count = c.in_ok-outputs.ensures.count ∙ ap (λ names. length names.outputs) (sym c.in_ok-names.ensures);
-  live = are_live (functions_of c.cover_values.new.store) c.in_ok-outputs.outputs.items _ c.in_ok-outputs.ensures.source;
+  live = are_live _ c.in_ok-outputs.outputs.items _ c.in_ok-outputs.ensures.source;
   few = omega (arith, c.in_ok-outputs.ensures.count, c.inputs.ensures.cover.outputs.1);
 }

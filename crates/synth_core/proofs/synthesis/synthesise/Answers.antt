@@ -3,7 +3,6 @@ use Rattle.std.proofs.lemmas.Result.{IfOk-weaker}
 use Rattle.synth_core.specs.Asked.{polarity_of}
 use Rattle.synth_core.specs.Made.{texts_of}
 use Rattle.synth_core.specs.Steps.{IsMadeOf}
-use Rattle.synth_core.specs.Sourced.{IsSourced, sourced_of}
 use Rattle.synth_core.proofs.Sources.{passed_on}
 use Rattle.synth_core.proofs.Exact.{is_refused, is_memory, all_made, has_too_many, always_too_many, complete}
 use Rattle.synth_core.proofs.synthesis.synthesise.Goals as goal
@@ -30,22 +29,22 @@ returns-in_err-sourced-clause-complete c within =
 pub returns-clause-made : goal.returns-clause-made
 returns-clause-made c =
     let is = c.in_ok-sourced.ensures.sourced in
-    all_made c.args.settings.now c.args.bytes.now is.source is.says c.synthesise_sourced.result
-    (IfOk-weaker c.synthesise_sourced.result _ (λ made. IsMadeOf is.source (polarity_of c.args.settings.now.polarity (length is.source.inputs)) (texts_of made)) (λ made law. law is.source _ is.is) c.synthesise_sourced.ensures.made)
+    all_made c.args.settings.now c.args.bytes.now is.source is.says c.synthesise_functions.result
+    (IfOk-weaker c.synthesise_functions.result _ (λ made. IsMadeOf is.source (polarity_of c.args.settings.now.polarity (length is.source.inputs)) (texts_of made)) (λ made law. law is.source (polarity_of c.args.settings.now.polarity (length is.source.inputs)) (rw c.deref.ensures.value is.is)) c.synthesise_functions.ensures.made)
 
 pub returns-clause-too_many : goal.returns-clause-too_many
 returns-clause-too_many c output err =
     let is = c.in_ok-sourced.ensures.sourced in
-    has_too_many c.args.settings.now c.args.bytes.now is.source is.says output (c.synthesise_sourced.ensures.too_many output err is.source _ is.is)
+    has_too_many c.args.settings.now c.args.bytes.now is.source is.says output (c.synthesise_functions.ensures.too_many output err is.source (polarity_of c.args.settings.now.polarity (length is.source.inputs)) (rw c.deref.ensures.value is.is))
 
 pub returns-clause-always_too_many : goal.returns-clause-always_too_many
 returns-clause-always_too_many c output many =
     let is = c.in_ok-sourced.ensures.sourced in
-    always_too_many c.args.settings.now c.args.bytes.now is.source is.says c.expansion_law.ensures.one c.synthesise_sourced.result
-    (IfOk-weaker c.synthesise_sourced.result _ (λ made. IsMadeOf is.source (polarity_of c.args.settings.now.polarity (length is.source.inputs)) (texts_of made)) (λ made law. law is.source _ is.is) c.synthesise_sourced.ensures.made)
-    (λ o e. c.synthesise_sourced.ensures.too_many o e is.source _ is.is) c.synthesise_sourced.ensures.accepted output many
+    always_too_many c.args.settings.now c.args.bytes.now is.source is.says c.expansion_law.ensures.one c.synthesise_functions.result
+    (IfOk-weaker c.synthesise_functions.result _ (λ made. IsMadeOf is.source (polarity_of c.args.settings.now.polarity (length is.source.inputs)) (texts_of made)) (λ made law. law is.source (polarity_of c.args.settings.now.polarity (length is.source.inputs)) (rw c.deref.ensures.value is.is)) c.synthesise_functions.ensures.made)
+    (λ o e. c.synthesise_functions.ensures.too_many o e is.source (polarity_of c.args.settings.now.polarity (length is.source.inputs)) (rw c.deref.ensures.value is.is)) c.synthesise_functions.ensures.accepted output many
 
 pub returns-clause-complete : goal.returns-clause-complete
 returns-clause-complete c within =
     let is = c.in_ok-sourced.ensures.sourced in
-    complete c.args.settings.now c.args.bytes.now is.source is.says c.expansion_law.ensures.one c.synthesise_sourced.result (λ o e. c.synthesise_sourced.ensures.too_many o e is.source _ is.is) c.synthesise_sourced.ensures.accepted within
+    complete c.args.settings.now c.args.bytes.now is.source is.says c.expansion_law.ensures.one c.synthesise_functions.result (λ o e. c.synthesise_functions.ensures.too_many o e is.source (polarity_of c.args.settings.now.polarity (length is.source.inputs)) (rw c.deref.ensures.value is.is)) c.synthesise_functions.ensures.accepted within
