@@ -61,14 +61,14 @@ fn some_from<S: FnStore>(
     join(store, j, low, high)
 }
 
-/// Whether many inputs are left and at most half of the cubes read this one, so that most would go to both sides of a split. It is a
-/// matter of time alone.
+/// Whether many inputs are left and at most a quarter of the cubes read this one, so that most would go to both sides of a split. It is
+/// a matter of time alone.
 fn is_sparse(cubes: &[Cube], j: u32, n: u32) -> bool {
     let readers = cubes
         .iter()
         .filter(|c| c.pos.has(j) || c.neg.has(j))
         .count();
-    n.saturating_sub(j) > FEW_INPUTS && readers <= cubes.len() / 2
+    n.saturating_sub(j) > FEW_INPUTS && readers <= cubes.len() / 4
 }
 
 /// The same cube by cube, as a sum of the products of inputs.
