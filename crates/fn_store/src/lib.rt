@@ -3,12 +3,14 @@
 
 mod combine;
 mod laws;
+mod operations;
 mod point;
 mod store;
 mod term_lists;
 mod terms;
 
 pub use laws::{expansion_law, store_laws};
+pub use operations::{Op, replay, replay_law};
 pub use store::{FnRef, FnStore, TermsErr};
 pub use term_lists::TermLists;
 pub use terms::LIST_TERMS;
