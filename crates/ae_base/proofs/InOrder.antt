@@ -33,7 +33,7 @@ in_order-head t (s ∷ ts) h u e =
       | inr later ↦ less_trans t s u first (in_order-head s ts (in_order-tail t (s ∷ ts) h) u later)
     ]
 
-not_listed : (t : Set) (ts : List Set) → IsInOrder (t ∷ ts) → list_any (λ v. eqb v t) ts ≡ false
+pub not_listed : (t : Set) (ts : List Set) → IsInOrder (t ∷ ts) → list_any (λ v. eqb v t) ts ≡ false
 not_listed t ts h = elim (cases_Bool (list_any (λ v. eqb v t) ts)) [ inl e ↦ absurd (less_irreflexive t (in_order-head t ts h t e)) | inr e ↦ e ]
 
 listed_first : (t : Set) (ts : List Set) → list_any (λ v. eqb v t) (t ∷ ts) ≡ true
@@ -107,6 +107,18 @@ placed-order t (u ∷ us) order = by_same (eqb t u) refl (is_lt (cmp_terms t u))
         AllPairs-cons (λ s y. cmp_terms s y ≡ Less) t (u ∷ us) (All-from_recursion _ (u ∷ us) (less_is t u f, later_terms t u us (less_is t u f) above)) order
     by_same false e false f h =
         AllPairs-cons (λ s y. cmp_terms s y ≡ Less) u (placed t us) (All-from_recursion _ (placed t us) (each_placed (λ y. cmp_terms u y ≡ Less) t us (less_from_sorted u t f (λ same. false≢true (sym e ∙ eq-eqb t u (sym same)))) above)) h
+
+-- ---- in order, by recursion
+
+abbrev pub Ordered : List Set → Type 0
+Ordered [] = Unit {0}
+Ordered (t ∷ ts) = AllByRecursion (λ u. cmp_terms t u ≡ Less) ts × Ordered ts
+
+pub from_Ordered : (ts : List Set) → Ordered ts → IsInOrder ts
+from_Ordered [] h = λ i j d l k. absurd (omega (arith, k))
+from_Ordered (t ∷ ts) (h, hs) = AllPairs-cons (λ s t. cmp_terms s t ≡ Less) t ts (All-from_recursion (λ u. cmp_terms t u ≡ Less) ts h) (from_Ordered ts hs)
+
+-- ---- terms that are put in order
 
 pub in_order-order : (ts : List Set) → IsInOrder (in_order ts)
 in_order-order [] = λ i j d l k. absurd (omega (arith, k, l))

@@ -1,14 +1,11 @@
 -- What it means for a product to hold at a point.
 use Rattle.std.proofs.Common.{◌≡◌, Bool, true, false, ◌&&◌, refl, sym, ◌∙◌, eqb-true, eq-eqb}
-use Rattle.std.proofs.lemmas.Bool.{and_from, and_parts, false≢true}
+use Rattle.std.proofs.lemmas.Bool.{and_from, and_parts}
 use Rattle.ae_base.specs.Mask.{Set, both, inside}
 use Rattle.ae_base.specs.Cube.{Product, EachHolds, holds}
 use Rattle.ae_base.proofs.Sets.{inside-has, has-inside, has-both}
 use Rattle.ae_base.proofs.Members.{len-zero, len-none}
-
-no_and : (a b : Bool) → (a && b) ≡ false → a ≡ true → b ≡ false
-no_and true b h e = h
-no_and false b h e = absurd (false≢true e)
+use Rattle.ae_base.proofs.Truth.{no_and}
 
 and_none : (a b : Bool) → (a ≡ true → b ≡ false) → (a && b) ≡ false
 and_none true b h = h refl

@@ -1,4 +1,5 @@
 pub mod Cube
+pub mod Lists
 pub mod Mask
 pub mod Name
 pub mod Order

@@ -10,6 +10,7 @@ use Rattle.std.proofs.lemmas.Slice.Zip.{get_or-zip, length-zip}
 use Rattle.std.proofs.lemmas.List.Elements.{All-get_or}
 use Rattle.ae_base.specs.Cube.{meet}
 use Rattle.ae_base.proofs.Meets.{common, left_holds, right_holds, common_is_point, meets}
+use Rattle.ae_base.proofs.Results.{or_none}
 use Rattle.ae_cover.specs.declared.parts.Mark.{Mark}
 use Rattle.ae_cover.specs.declared.parts.Mark.TheVariants.{One, Zero, Dash, Void}
 use Rattle.ae_cover.specs.declared.parts.Row.{Row}
@@ -27,10 +28,6 @@ pub record AnswersAt {X : Type 0} (n : ℕ) (f : ℕ → Option X) (x : X) : Typ
   pub below : at < n
   pub is : f at ≡ Some x
   pub none : (j : ℕ) → j < at → f j ≡ None
-
-or_none : {X : Type 0} (o p : Option X) → option_or o p ≡ None → (o ≡ None) × (p ≡ None)
-or_none None p e = (refl, e)
-or_none (Some x) p e = absurd cc
 
 or_some : {X : Type 0} (o p : Option X) (x : X) → option_or o p ≡ Some x → (o ≡ Some x) ⊎ ((o ≡ None) × (p ≡ Some x))
 or_some None p x e = inr (refl, e)

@@ -6,6 +6,7 @@ use Rattle.std.proofs.lemmas.Bool.{cases_Bool, false≢true}
 use Rattle.std.proofs.lemmas.List.Elements.{Contains-append_left, Contains-append_right, Contains-append_cases}
 use Rattle.std.proofs.lemmas.List.Folds.{Any-from_list_any}
 use Rattle.std.proofs.lemmas.Option.{slice_get_within, slice_get-get_or, get_or_from_slice_get}
+use Rattle.ae_base.proofs.Distinct.{Distinct, AllPairs-from_Distinct, Distinct-append, Distinct-map, Distinct-filter, Distinct-range, Distinct-flat_map, each_always, each-map, each-flat_map, each_weaker, each-append}
 use Rattle.ae_net.specs.declared.net.Gate.{Gate}
 use Rattle.ae_net.specs.declared.net.Place.{Place}
 use Rattle.ae_net.specs.declared.net.Place.TheVariants.{Stem, Pin, Port}
@@ -13,8 +14,7 @@ use Rattle.ae_net.specs.declared.net.Fault.{Fault}
 use Rattle.ae_net.specs.Faults.{is_read, is_read_by, IsPlace, stems, pins_of, pins, ports, both_values, fault_list}
 use Rattle.ae_net.specs.Network.{Network, signals, gate_at}
 use Rattle.ae_net.specs.Valid.{IsValid, IsDistinct}
-use Rattle.ae_net.proofs.Contained.{nothing_in_none, Contains-cases, Contains-map, Contains-from_map, Contains-filter, Contains-from_filter, Contains-flat_map, Contains-from_flat_map, Contains-range, Contains-from_range}
-use Rattle.ae_net.proofs.Distinct.{Distinct, AllPairs-from_Distinct, Distinct-append, Distinct-map, Distinct-filter, Distinct-range, Distinct-flat_map, each_always, each-map, each-flat_map, each_weaker, each-append}
+use Rattle.ae_base.proofs.Contained.{nothing_in_none, Contains-cases, Contains-map, Contains-from_map, Contains-filter, Contains-from_filter, Contains-flat_map, Contains-from_flat_map, Contains-range, Contains-from_range}
 
 -- ---- places
 

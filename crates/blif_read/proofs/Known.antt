@@ -2,8 +2,8 @@
 use Rattle.std.proofs.Common.{◌≡◌, ℕ, true, false, not, List, [], ◌∷◌, ◌++◌, None}
 use Rattle.std.specs.List.{AllByRecursion}
 use Rattle.std.proofs.lemmas.Bool.{or_parts, not-false}
+use Rattle.ae_base.proofs.Distinct.{each-append}
 use Rattle.ae_lex.specs.Words.{WordLine}
-use Rattle.ae_net.proofs.Distinct.{each-append}
 use Rattle.blif_read.specs.Words.{is_among}
 use Rattle.blif_read.specs.Statement.{Said, said, pin_names}
 use Rattle.blif_read.specs.Statement.Said.{Model, Inputs, Outputs, Names, End, Unsupported, Unknown, Row}

@@ -4,8 +4,8 @@ use Rattle.std.specs.Prelude.{slice_index_or, codes}
 use Rattle.std.specs.List.{list_any, flat_map, AllByRecursion}
 use Rattle.std.proofs.lemmas.Bool.{cases_Bool, not-false}
 use Rattle.ae_base.specs.Name.{is_name}
+use Rattle.ae_base.proofs.Distinct.{each-append}
 use Rattle.ae_lex.specs.Words.{WordLine}
-use Rattle.ae_net.proofs.Distinct.{each-append}
 use Rattle.blif_read.specs.declared.fault.NetLimits.{NetLimits}
 use Rattle.blif_read.specs.Statement.{Said, said}
 use Rattle.blif_read.specs.Statement.Said.{Model, Inputs, Outputs, Names, End, Unsupported, Unknown, Row}

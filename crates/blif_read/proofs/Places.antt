@@ -4,8 +4,8 @@ use Rattle.std.specs.Prelude.{bytes_eq}
 use Rattle.std.specs.List.{AllByRecursion}
 use Rattle.std.proofs.lemmas.Bool.{cases_Bool, cases_eq, eq-eqb, ne_eqb, false≢true}
 use Rattle.std.proofs.lemmas.Slice.Eq.{bytes_eq-Decides}
+use Rattle.ae_base.proofs.Distinct.{each-append}
 use Rattle.ae_net.specs.Valid.{IsDistinct}
-use Rattle.ae_net.proofs.Distinct.{each-append}
 use Rattle.blif_read.specs.Words.{is_among}
 use Rattle.ae_net.specs.Named.{place_of}
 use Rattle.blif_read.proofs.WrittenNames.{bytes_apart, bytes_same, names_apart}

@@ -10,6 +10,7 @@ use Rattle.std.proofs.lemmas.List.FromFn.{length-map-range_with_len, get_or-map-
 use Rattle.std.proofs.lemmas.Option.{slice_get-get_or}
 use Rattle.ae_base.specs.Name.{is_name}
 use Rattle.ae_base.specs.declared.limits.TheConstants.{WRITTEN_LINES}
+use Rattle.ae_base.proofs.Results.{or_none}
 use Rattle.ae_lex.specs.declared.text.Style.TheVariants.{Blif}
 use Rattle.ae_lex.specs.Words.{WordLine, word_lines, last_line}
 use Rattle.ae_net.specs.declared.net.Gate.{Gate}
@@ -30,7 +31,6 @@ use Rattle.blif_read.specs.Says.{covers, lines_say, unless_faulty, blif_says}
 use Rattle.blif_read.specs.Step.{seen_by, says_of}
 use Rattle.blif_read.specs.Build.{AreFaultless, AreDrafted, IsPlan, drafts_of, gates_among, rank_in, drawn, placed_net, undefined, shows_unknown, reads_unknown, first_line}
 use Rattle.blif_read.proofs.Ranks.{rank_cons}
-use Rattle.blif_read.proofs.Sound.{or_none}
 use Rattle.blif_read.proofs.Places.{AllBelow}
 use Rattle.blif_read.proofs.Link.{cases_Option}
 use Rattle.blif_read.proofs.Nets.{net_in}

@@ -8,6 +8,7 @@ use Rattle.std.proofs.lemmas.List.Elements.{All-push}
 use Rattle.std.proofs.lemmas.List.Quantifiers.{all_pairs_push}
 use Rattle.std.proofs.lemmas.List.Folds.{list_any-append, list_any_at}
 use Rattle.ae_base.specs.declared.limits.TheConstants.{PINS, GATES}
+use Rattle.ae_base.proofs.Results.{or_none}
 use Rattle.ae_lex.specs.Words.{WordLine}
 use Rattle.ae_net.specs.Valid.{IsDistinct}
 use Rattle.blif_read.specs.declared.fault.NetLimits.{NetLimits}
@@ -41,10 +42,6 @@ still_new w i vs f h = λ k d lt.
 pub first_none : {X : Type 0} (b : Bool) (f : X) (rest : Option X) → cond b (Some f) rest ≡ None → (b ≡ false) × (rest ≡ None)
 first_none true f rest h = absurd cc
 first_none false f rest h = (refl, h)
-
-pub or_none : {X : Type 0} (a b : Option X) → option_or a b ≡ None → (a ≡ None) × (b ≡ None)
-or_none None b h = (refl, h)
-or_none (Some x) b h = absurd cc
 
 -- ---- what is sound
 

@@ -5,10 +5,10 @@ use Rattle.std.specs.List.{flat_map, list_any, AllByRecursion}
 use Rattle.std.proofs.lemmas.List.{append_assoc, append-nil, length-append, length-map, get_or_append_left}
 use Rattle.std.proofs.lemmas.List.Elements.{recursion_from_All}
 use Rattle.ae_base.specs.Name.{is_name}
+use Rattle.ae_base.proofs.Distinct.{each-append}
 use Rattle.ae_lex.specs.Words.{numbered, last_line, word_lines}
 use Rattle.ae_lex.specs.declared.text.Style.TheVariants.{Blif}
 use Rattle.ae_lex.proofs.Written.{lines_written}
-use Rattle.ae_net.proofs.Distinct.{each-append}
 use Rattle.ae_net.specs.declared.net.Gate.{Gate}
 use Rattle.ae_net.specs.Network.{Network}
 use Rattle.ae_net.specs.Valid.{IsValid, IsDistinct}

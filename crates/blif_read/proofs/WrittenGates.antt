@@ -7,7 +7,7 @@ use Rattle.std.proofs.lemmas.List.{append_assoc, length-append, get_or_append_le
 use Rattle.std.proofs.lemmas.List.Elements.{All-from_recursion, recursion_from_All}
 use Rattle.ae_base.specs.Cube.{Product}
 use Rattle.ae_base.specs.Name.{is_name}
-use Rattle.ae_net.proofs.Distinct.{each_weaker}
+use Rattle.ae_base.proofs.Distinct.{each_weaker}
 use Rattle.ae_net.specs.declared.net.Gate.{Gate}
 use Rattle.ae_net.specs.Blif.{name_of}
 use Rattle.ae_net.specs.Valid.{IsGate, IsDistinct}

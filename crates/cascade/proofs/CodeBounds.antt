@@ -4,11 +4,11 @@ use Rattle.std.specs.Prelude.{codes}
 use Rattle.std.proofs.lemmas.List.Elements.{All-from_recursion, recursion_from_All}
 use Rattle.ae_base.specs.Mask.{first, inside}
 use Rattle.ae_base.specs.declared.limits.TheConstants.{NET_LINES, SOURCE_NAME_BYTES}
+use Rattle.ae_base.proofs.Distinct.{each_weaker}
 use Rattle.ae_net.specs.Lead.{lead}
 use Rattle.ae_net.specs.Names.{Names, IsNames, inner}
 use Rattle.ae_net.specs.Valid.{IsValid}
 use Rattle.ae_net.specs.declared.net.Gate.{Gate}
-use Rattle.ae_net.proofs.Distinct.{each_weaker}
 use Rattle.expansion.specs.Terms.{Terms, IsTerms, cost}
 use Rattle.cascade.specs.Plan.{IsPlan}
 use Rattle.cascade.specs.Reddy.{lines, turned, inverters, control_gates, wide_terms, and_place, chain_place, and_gates, chains, ends, gates, reddy_net}

@@ -9,6 +9,9 @@ use Rattle.std.proofs.lemmas.List.Concat.{length-flat_map}
 use Rattle.std.proofs.lemmas.List.Elements.{All-from_recursion, recursion_from_All}
 use Rattle.ae_base.specs.Mask.{empty, Set, first, inside, members}
 use Rattle.ae_base.specs.declared.limits.TheConstants.{NET_LINES, PINS}
+use Rattle.ae_base.proofs.Members.{length-members}
+use Rattle.ae_base.proofs.Elements.{length_filter_le}
+use Rattle.ae_base.proofs.Distinct.{each-filter}
 use Rattle.ae_net.specs.Gates.{exor}
 use Rattle.ae_net.specs.Names.{inner}
 use Rattle.ae_net.specs.declared.net.Gate.{Gate}
@@ -18,11 +21,9 @@ use Rattle.cascade.specs.Plan.{IsChain, HasRoom}
 use Rattle.cascade.specs.Reddy.{lines, term_signal, start, rest, inner_gates, chain, chains, ends, gates_for, place_of}
 use Rattle.cascade.specs.declared.limits.TheConstants.{REDDY_TERMS}
 use Rattle.cascade.specs.declared.parts.Chain.{Chain}
-use Rattle.cascade.proofs.GatesValid.{length-members}
 use Rattle.cascade.proofs.Law.{length-chain}
-use Rattle.cascade.proofs.Lists.{length_filter_le}
 use Rattle.cascade.proofs.NamesApart.{all_inner}
-use Rattle.cascade.proofs.Valid.{each_filter, few_of_all}
+use Rattle.cascade.proofs.Valid.{few_of_all}
 
 -- the gates of the elements that are left
 pub gates_for_more : (gate : ℕ → ℕ → Gate) (c : ℕ) (xs : List ℕ) (i : ℕ) (now all : List Gate) → i < length xs → now ++ gates_for gate (c + i) (drop i xs) ≡ all → (now ++ gate (c + i) (get_or xs i 0) ∷ []) ++ gates_for gate (c + (i + 1)) (drop (i + 1) xs) ≡ all
@@ -68,7 +69,7 @@ links_more k e out x i y d n ts now all z same l z_is h =
     ]
 
 pub rest_inside : (n : ℕ) (ts : List Set) → All (λ t. inside t (first n) ≡ true) ts → All (λ t. inside t (first n) ≡ true) (rest ts)
-rest_inside n ts h = All-from_recursion _ (rest ts) (each_filter (λ t. inside t (first n) ≡ true) (λ t. not (eqb t empty)) ts (recursion_from_All _ ts h))
+rest_inside n ts h = All-from_recursion _ (rest ts) (each-filter (λ t. inside t (first n) ≡ true) (λ t. not (eqb t empty)) ts (recursion_from_All _ ts h))
 
 pub length_rest_le : (ts : List Set) → length (rest ts) ≤ length ts
 length_rest_le ts = length_filter_le (λ t. not (eqb t empty)) ts

@@ -1,4 +1,4 @@
--- Elements that stand in a list, and their places.
+-- The places of elements of lists, and the terms that stand in the expansions.
 use Rattle.std.proofs.Common.{◌≡◌, ◌≢◌, ℕ, zero, suc, ◌<◌, Bool, true, false, ◌||◌, cond, inl, inr, List, [], ◌∷◌, length, get_or, refl, sym, ap, ◌∙◌, subst, arith, eqb, eqb-true, eq-eqb, ne_eqb}
 use Rattle.std.specs.Prelude.{Some, All, filter, slice_get}
 use Rattle.std.specs.List.{list_any, flat_map, AllByRecursion}
@@ -11,36 +11,11 @@ use Rattle.ae_base.specs.Mask.{Set, first, inside, members}
 use Rattle.ae_base.proofs.InOrder.{in_order-order, any-in_order}
 use Rattle.ae_base.proofs.Members.{members-increasing}
 use Rattle.ae_base.proofs.Order.{less_apart}
-use Rattle.ae_net.proofs.Distinct.{Distinct, Distinct-from_AllPairs}
+use Rattle.ae_base.proofs.Distinct.{Distinct, Distinct-from_AllPairs}
+use Rattle.ae_base.proofs.Elements.{any_flat, All-get, any_filter_parts, any_found, each_at}
 use Rattle.expansion.specs.Terms.{Terms, IsTerms}
 use Rattle.cascade.specs.Reddy.{place_of, is_wide, wide_terms}
 use Rattle.cascade.proofs.Law.{Stands}
-use Rattle.cascade.proofs.Lists.{any_flat}
-
--- ---- elements
-
-pub any_found : {X : Type 0} (q : X → Bool) (xs : List X) → list_any q xs ≡ true → (i : ℕ) × (x : X) × (slice_get xs i ≡ Some x) × (q x ≡ true)
-any_found q xs h = let at = Any-from_list_any q xs h in (at.0, at.1, slice_get-get_or xs at.0 at.1 at.2 ∙ ap Some at.3, at.4)
-
-pub All-get : {X : Type 0} (P : X → Type 0) (xs : List X) (i : ℕ) (x : X) → All P xs → slice_get xs i ≡ Some x → P x
-All-get P xs i x all there = subst P (get_or_from_slice_get xs i x x there) (all i x (slice_get_within xs i x there))
-
-pub each_at : (P : ℕ → Type 0) (x : ℕ) (xs : List ℕ) → AllByRecursion P xs → list_any (λ y. eqb y x) xs ≡ true → P x
-each_at P x [] h there = absurd (false≢true there)
-each_at P x (y ∷ ys) (h, hs) there = elim (or_cases _ _ there) [ inl e ↦ subst P (eqb-true y x e) h | inr later ↦ each_at P x ys hs later ]
-
--- an element that is kept passes the test, and stood there
-pub any_filter_parts : (p : ℕ → Bool) (x : ℕ) (xs : List ℕ) → list_any (λ y. eqb y x) (filter p xs) ≡ true → (p x ≡ true) × (list_any (λ y. eqb y x) xs ≡ true)
-any_filter_parts p x [] h = absurd (false≢true h)
-any_filter_parts p x (y ∷ ys) h = by_kept (λ k. any_filter_parts p x ys k) (p y) refl h
-  where
-    more : (p x ≡ true) × (list_any (λ z. eqb z x) ys ≡ true) → (p x ≡ true) × ((eqb y x || list_any (λ z. eqb z x) ys) ≡ true)
-    more r = (r.0, or_right _ _ r.1)
-
-    by_kept : (list_any (λ z. eqb z x) (filter p ys) ≡ true → (p x ≡ true) × (list_any (λ z. eqb z x) ys ≡ true)) → (b : Bool) → p y ≡ b → list_any (λ z. eqb z x) (cond b (y ∷ filter p ys) (filter p ys)) ≡ true
-        → (p x ≡ true) × ((eqb y x || list_any (λ z. eqb z x) ys) ≡ true)
-    by_kept later true e k = elim (or_cases _ _ k) [ inl same ↦ (ap p (sym (eqb-true y x same)) ∙ e, or_left _ _ same) | inr l ↦ more (later l) ]
-    by_kept later false e k = more (later k)
 
 -- ---- places
 
@@ -81,10 +56,6 @@ pub wide_apart : (e : Terms) → Distinct (wide_terms e)
 unfolding wide_terms
 wide_apart e = Distinct-from_AllPairs _ (λ i j d l k. less_apart _ _ (in_order-order (filter is_wide (flat_map (λ ts. ts) e.outs)) i j d l k))
 
--- so are the members of a term
-pub members_apart : (t : Set) → Distinct (members t)
-members_apart t = Distinct-from_AllPairs _ (λ i j d l k same. let less = AllPairs-from_increasing (members t) (members-increasing t) i j d l k in absurd (omega (arith, less, same)))
-
 -- ---- terms that stand
 
 pub wide_found : (e : Terms) (t : Set) → list_any (λ u. eqb u t) (wide_terms e) ≡ true → (is_wide t ≡ true) × Stands e t
@@ -96,4 +67,4 @@ wide_found e t there =
 pub stands_inside : (e : Terms) → IsTerms e → (t : Set) → Stands e t → inside t (first e.polarity.n) ≡ true
 stands_inside e terms t stands =
     let out = any_found (λ ts. list_any (λ u. eqb u t) ts) e.outs stands in
-    each_at (λ u. inside u (first e.polarity.n) ≡ true) t out.1 (recursion_from_All _ out.1 (All-get (λ ts. All (λ u. inside u (first e.polarity.n) ≡ true) ts) e.outs out.0 out.1 terms.below out.2)) out.3
+    each_at (λ u. inside u (first e.polarity.n) ≡ true) t out.element (recursion_from_All _ out.element (All-get (λ ts. All (λ u. inside u (first e.polarity.n) ≡ true) ts) e.outs out.place out.element terms.below out.there)) out.passes

@@ -7,13 +7,15 @@ use Rattle.std.proofs.lemmas.Bool.{cases_eq, cases_Bool, false≢true, or_left, 
 use Rattle.std.proofs.lemmas.List.{length-map}
 use Rattle.std.proofs.lemmas.List.Elements.{All-from_recursion, All-map, All-weaker}
 use Rattle.ae_base.specs.Mask.{Set, has, empty, first, inside, members}
-use Rattle.ae_base.proofs.Members.{members-has, members-filter}
+use Rattle.ae_base.proofs.Members.{members-has, members-filter, no_members, first_member, length-members}
 use Rattle.std.proofs.lemmas.List.FromFn.{length-range_with_len}
 use Rattle.ae_net.specs.Valid.{IsGate}
 use Rattle.expansion.specs.Terms.{Terms}
 use Rattle.ae_base.specs.declared.limits.TheConstants.{NET_LINES, SOURCE_NAME_BYTES}
 use Rattle.ae_base.specs.Name.{is_name}
 use Rattle.ae_base.proofs.Sets.{inside-below}
+use Rattle.ae_base.proofs.Elements.{length_filter_le, each_member, range_below}
+use Rattle.ae_base.proofs.Distinct.{each_weaker}
 use Rattle.ae_net.specs.Lead.{IsLetter}
 use Rattle.ae_net.specs.Names.{inner}
 use Rattle.ae_net.proofs.InnerAreNames.{letter_is_name, numbered_is_name}
@@ -22,9 +24,7 @@ use Rattle.cascade.proofs.NamesApart.{all_inner}
 use Rattle.ae_net.specs.Gates.{inverter, and_gate}
 use Rattle.expansion.specs.Terms.{is_used}
 use Rattle.cascade.specs.Reddy.{place_of, gates_for, lines, turned, literal_signal, has_one, control_gates, start, is_wide, wide_terms, and_place, chain_place, term_signal, links, chain, rest, inner_gates, chains}
-use Rattle.cascade.proofs.Lists.{length_filter_le}
-use Rattle.ae_net.proofs.Distinct.{each_weaker}
-use Rattle.cascade.proofs.Law.{Stands, used_since, wide_stands, turned_stands, no_members, length-chain}
+use Rattle.cascade.proofs.Law.{Stands, used_since, wide_stands, turned_stands, length-chain}
 
 -- ---- names
 
@@ -53,20 +53,6 @@ pub and_place_from : (e : Terms) → length (turned e) ≤ and_place e
 unfolding and_place
 and_place_from e = omega arith
 
-first_of_some : (ms : List ℕ) → (ms ≢ []) → list_any (λ m. eqb m (slice_index ms 0)) ms ≡ true
-first_of_some [] some = absurd (some refl)
-first_of_some (m ∷ ms) some = or_left _ _ (eq-eqb m m refl)
-
-pub first_member : (t : Set) → (t ≢ empty) → has t (slice_index (members t) 0) ≡ true
-first_member t some = sym (members-has t (slice_index (members t) 0)) ∙ first_of_some (members t) (λ none. some (no_members t none))
-
-pub each_member : (P : ℕ → Type 0) (ms : List ℕ) → ((j : ℕ) → list_any (λ m. eqb m j) ms ≡ true → P j) → AllByRecursion P ms
-each_member P [] h = tt
-each_member P (m ∷ ms) h = (h m (or_left _ _ (eq-eqb m m refl)), each_member P ms (λ j a. h j (or_right _ _ a)))
-
-pub length-members : (n : ℕ) (t : Set) → inside t (first n) ≡ true → length (members t) ≤ n
-length-members n t below = omega (arith, ap length (members-filter n t below), length_filter_le (has t) (range_with_len 0 n), length-range_with_len 0 n)
-
 -- terms that stand in the expansions
 abbrev pub AllStand : Terms → List Set → Type 0
 AllStand e ts = AllByRecursion (λ t. Stands e t × (inside t (first e.polarity.n) ≡ true)) ts
@@ -94,10 +80,6 @@ AreGates-inverters k i e (j ∷ js) s short small (h, hs) = (
   IsGate-inverter s (inner k (105 ∷ decimal (suc j))) j (numbered k 105 (suc j) short (omega arith, omega arith) (omega (arith, h, small))) h,
   AreGates-inverters k (suc i) e js (suc s) short (omega (arith, small)) (each_weaker (λ x. x < s) (λ x. x < suc s) (λ x l. omega arith) js hs),
 )
-
-pub range_below : (p : ℕ → Bool) (a n b : ℕ) → a + n ≤ b → AllByRecursion (λ j. j < b) (filter p (range_with_len a n))
-range_below p a zero b l = tt
-range_below p a (suc n) b l = elim (cases_Bool (p a)) [ inl e ↦ rw e (omega arith, range_below p (a + 1) n b (omega arith)) | inr e ↦ rw e (range_below p (a + 1) n b (omega arith)) ]
 
 pub turned_below : (e : Terms) → AllByRecursion (λ j. j < lines e) (turned e)
 unfolding turned

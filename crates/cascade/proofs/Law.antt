@@ -9,9 +9,10 @@ use Rattle.std.proofs.lemmas.List.Folds.{list_all-map}
 use Rattle.std.proofs.lemmas.Option.{slice_get_within, get_or_from_slice_get}
 use Rattle.std.specs.declared.cmp.Ordering.TheVariants.{Less}
 use Rattle.std.proofs.Math.Bool.{and-true}
+use Rattle.std.proofs.lemmas.Map.Keys.{any_passes_from_place}
 use Rattle.ae_base.specs.Mask.{Set, differ, has, empty, first, inside, len, members, cmp_terms}
 use Rattle.ae_base.proofs.Sets.{same_set, has-empty, has-where_below, inside-below}
-use Rattle.ae_base.proofs.Members.{members-has, cmp_same, len-members, len-none}
+use Rattle.ae_base.proofs.Members.{members-has, cmp_same, len-members, len-none, no_members}
 use Rattle.ae_net.specs.declared.net.Gate.{Gate}
 use Rattle.ae_net.specs.declared.net.Fault.{Fault}
 use Rattle.ae_net.specs.Network.{Network}
@@ -22,18 +23,17 @@ use Rattle.ae_net.proofs.Runs.{IsRun-run, out_of_run}
 use Rattle.expansion.specs.Terms.{Terms, IsTerms}
 use Rattle.ae_base.specs.Terms.{IsInOrder, literal, product, exor_of, value}
 use Rattle.ae_base.proofs.InOrder.{in_order-tail, any-in_order}
-use Rattle.ae_base.proofs.Truth.{differ-assoc, differ-front}
+use Rattle.ae_base.proofs.Truth.{differ-assoc, differ-front, differ-past}
+use Rattle.ae_base.proofs.Distinct.{each_weaker}
+use Rattle.ae_base.proofs.Elements.{any_weaker, any_flat, any_kept, any_range, list_all_agree, filter_all}
 use Rattle.ae_net.specs.Lead.{lead}
 use Rattle.ae_net.specs.Names.{Names, inner}
 use Rattle.ae_net.specs.Gates.{and_gate}
 use Rattle.expansion.specs.Terms.{is_used}
-use Rattle.expansion.proofs.Lists.{any_at}
 use Rattle.cascade.specs.Reddy.{place_of, gates_for, lines, turned, literal_signal, inverters, has_one, control_gates, start, is_wide, wide_terms, and_place, chain_place, term_signal, and_gates, chain, links, rest, inner_gates, chains, ends, gates, reddy_net}
 use Rattle.cascade.specs.Shows.{Fits as FitsNames}
-use Rattle.ae_net.proofs.Distinct.{each_weaker}
 use Rattle.ae_net.proofs.Follow.{EachGate, EachGate-append, Fits, Follows, Follows-run}
 use Rattle.ae_net.proofs.Tables.{table-inverter, table-and, all_see-none}
-use Rattle.cascade.proofs.Lists.{any_weaker, any_flat, any_kept, any_range, list_all_agree, filter_all}
 use Rattle.cascade.proofs.Values.{EachGate-gates_for, Shows, value-chain}
 
 -- some output has the term
@@ -54,9 +54,6 @@ unfolding turned
 turned_stands e j l used plain = any_kept _ j (and_from _ _ used (ap not plain)) (range_with_len 0 e.polarity.n) (any_range 0 e.polarity.n j (omega arith) (omega arith))
 
 -- ---- a term of one member
-
-pub no_members : (t : Set) → members t ≡ [] → t ≡ empty
-no_members t e = same_set t empty (λ k. sym (members-has t k) ∙ ap (list_any (λ m. eqb m k)) e ∙ sym (has-empty k))
 
 narrow_all : (f : ℕ → Bool) (ms : List ℕ) → length ms ≤ 1 → (ms ≢ []) → f (slice_index ms 0) ≡ list_all f ms
 narrow_all f [] l some = absurd (some refl)
@@ -175,7 +172,7 @@ value-start k e c w control inverted o ts there = by_one (has_one ts) refl
   where
     by_one : (b : Bool) → has_one ts ≡ b → value_of w (cond b (lines e + length (turned e)) e.polarity.n) ≡ differ b c
     by_one true one =
-        let gate = rw (any_at has_one e.outs o ts there one) at inverted in
+        let gate = rw (any_passes_from_place has_one e.outs o ts there one) at inverted in
         gate.0 ∙ table-inverter None w (length (turned e)) _ e.polarity.n ∙ ap not control
     by_one false none = control
 
@@ -235,10 +232,6 @@ built P k names e all =
       outputs = subst (λ p. EachGate P p (chains k e 0 (and_place e + length (wide_terms e)) e.outs names.outputs)) (ap (λ n. and_place e + n) (length-gates_for _ 0 (wide_terms e))) three.1;
     }
 
--- the second before the others
-pub differ-past : (a b c : Bool) → differ (differ a b) c ≡ differ b (differ a c)
-differ-past a b c = differ-assoc a b c ∙ differ-front a b c
-
 -- output o shows its function, complemented where the control is 1
 pub shows : (names : Names) (e : Terms) → IsTerms e → FitsNames names e → IsValid (reddy_net names e) → (x : Set) (o : ℕ) (ts : List Set) → slice_get e.outs o ≡ Some ts
     → has (out (reddy_net names e) None x) o ≡ differ (has x e.polarity.n) (value e.polarity ts x)
@@ -256,7 +249,7 @@ shows names e terms fits valid x o ts there =
     let order = rw (get_or_from_slice_get e.outs o ts [] there) at (terms.order o [] inside_outs) in
     let term = λ (t : Set) (stands : Stands e t) (inner' : inside t (first e.polarity.n) ≡ true) (some : t ≢ empty).
     value-term (lead names) e x w (value-literal (lead names) e x w inputs) t (λ wide. and_fits None (lead names) e w b.ands t stands wide) stands inner' some in
-    let products = shows_rest e w (λ t. product e.polarity t x) term ts (λ t m. any_at (λ us. list_any (λ u. eqb u t) us) e.outs o ts there m) (recursion_from_All _ ts below) in
+    let products = shows_rest e w (λ t. product e.polarity t x) term ts (λ t m. any_passes_from_place (λ us. list_any (λ u. eqb u t) us) e.outs o ts there m) (recursion_from_All _ ts below) in
     ap (λ s. has s o) (out_of_run n None x valid w is)
     ∙ has-where_below (length n.outputs) (λ p. value_of w (slice_index n.outputs p)) o
     ∙ ap (λ c. c && value_of w (slice_index n.outputs o)) (lt-ltb o (length n.outputs) (omega (arith, length-ends e (chain_place e) e.outs)))

@@ -1,4 +1,3 @@
-pub mod Lists
 pub mod Values
 pub mod Law
 pub mod NamesApart

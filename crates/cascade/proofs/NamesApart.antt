@@ -6,12 +6,12 @@ use Rattle.std.specs.Fmt.{decimal}
 use Rattle.std.proofs.lemmas.Bool.{cases_Bool}
 use Rattle.std.proofs.lemmas.List.{map-append}
 use Rattle.ae_base.specs.Mask.{Set}
+use Rattle.ae_base.proofs.Distinct.{Distinct, each_weaker, each-append, each_front, Distinct-append, Distinct-parts}
 use Rattle.ae_net.specs.declared.net.Gate.{Gate}
 use Rattle.expansion.specs.Terms.{Terms}
 use Rattle.ae_net.specs.Names.{Names, is_taken, inner}
 use Rattle.ae_net.specs.Gates.{inverter, and_gate}
 use Rattle.cascade.specs.Reddy.{gates_for, lines, turned, literal_signal, inverters, has_one, control_gates, start, wide_terms, chain_place, and_gates, links, chain, rest, inner_gates, chains, gates}
-use Rattle.ae_net.proofs.Distinct.{Distinct, each_weaker, each-append, each_front, Distinct-append, Distinct-parts}
 use Rattle.ae_net.proofs.InnerNames.{kind, kind-inner, kinds_free, other_kinds, Numbered, later_number, kind-Numbered, Numbered-lower}
 
 abbrev pub outs_of : List Gate → List (List ℕ)

@@ -18,6 +18,7 @@ use Rattle.ae_base.specs.Terms.{IsInOrder, in_order}
 use Rattle.ae_base.proofs.InOrder.{in_order-same, in_order-order, any-in_order}
 use Rattle.ae_base.proofs.Order.{cmp_terms_total, cmp_equal, cmp_same, equal_where_tied, less_apart, less_trans}
 use Rattle.ae_base.proofs.Truth.{same_truth}
+use Rattle.ae_base.proofs.Elements.{any-from_Contains, Contains-from_any}
 use Rattle.expansion.specs.Terms.{Terms}
 use Rattle.cascade.specs.declared.signals.Plan.{Plan}
 use Rattle.cascade.specs.Plan.{IsPlan}
@@ -38,15 +39,6 @@ pub plan_in_order : (plan : Plan) → IsPlan plan → IsInOrder plan.wide.items
 plan_in_order plan is = subst IsInOrder (sym is.wide) (IsInOrder-wide_terms plan.expansion.now)
 
 -- ---- a sort
-
-any-from_Contains : (ts : List Set) (t : Set) → Contains ts t → list_any (λ u. eqb u t) ts ≡ true
-any-from_Contains ts t (k, l, e) = list_any_at (λ u. eqb u t) ts k t l (eq-eqb _ t e)
-
-pub Contains-from_any : (ts : List Set) (t : Set) → list_any (λ u. eqb u t) ts ≡ true → Contains ts t
-Contains-from_any ts t h =
-    let at = Any-from_list_any (λ u. eqb u t) ts h in
-    let same : at.1 ≡ t = eqb-true at.1 t at.4 in
-    subst (Contains ts) same (at.0, at.2, at.3)
 
 -- what `dedup` leaves has the same terms
 any-dedup : (ts : List Set) (t : Set) → list_any (λ u. eqb u t) (dedup nat_eq ts) ≡ list_any (λ u. eqb u t) ts

@@ -14,13 +14,13 @@ use Rattle.ae_net.specs.Lead.{lead}
 use Rattle.ae_net.specs.Names.{Names, IsNames, inner}
 use Rattle.cascade.specs.Reddy.{lines, turned, inverters, has_one, control_gates, start, is_wide, wide_terms, and_place, chain_place, term_signal, and_gates, chain, rest, inner_gates, chains, ends, gates, reddy_net}
 use Rattle.cascade.specs.Shows.{Fits}
-use Rattle.cascade.proofs.Lists.{length_filter_le}
-use Rattle.ae_net.proofs.Distinct.{each_front, Distinct, AllPairs-from_Distinct, Distinct-from_AllPairs, each_weaker, each-append}
 use Rattle.ae_net.proofs.LeadLemmas.{lead_is_lead, lead_few}
 use Rattle.ae_net.proofs.InnerAreNames.{letter_is_name}
 use Rattle.ae_base.specs.declared.limits.TheConstants.{NET_LINES, SOURCE_NAME_BYTES}
 use Rattle.ae_base.specs.Name.{is_name}
 use Rattle.ae_base.proofs.InOrder.{each_placed}
+use Rattle.ae_base.proofs.Elements.{length_filter_le}
+use Rattle.ae_base.proofs.Distinct.{each_front, Distinct, AllPairs-from_Distinct, Distinct-from_AllPairs, each_weaker, each-append, each-filter}
 use Rattle.ae_base.specs.Terms.{placed, in_order}
 use Rattle.cascade.specs.declared.limits.TheConstants.{REDDY_TERMS}
 use Rattle.cascade.proofs.NamesApart.{names_apart, all_inner}
@@ -101,10 +101,6 @@ all_stand e (ts ∷ tss) up (h, hs) = (
   all_stand e tss (λ q m. up q (or_right _ _ m)) hs,
 )
 
-pub each_filter : {X : Type 0} (P : X → Type 0) (p : X → Bool) (xs : List X) → AllByRecursion P xs → AllByRecursion P (filter p xs)
-each_filter P p [] h = tt
-each_filter P p (x ∷ xs) (h, hs) = elim (cases_Bool (p x)) [ inl e ↦ rw e (h, each_filter P p xs hs) | inr e ↦ rw e (each_filter P p xs hs) ]
-
 each_flat : (P : Set → Type 0) (tss : List (List Set)) → AllByRecursion (AllByRecursion P) tss → AllByRecursion P (flat_map (λ ts. ts) tss)
 each_flat P [] h = tt
 each_flat P (ts ∷ tss) (h, hs) = each-append P ts (flat_map (λ us. us) tss) h (each_flat P tss hs)
@@ -115,7 +111,7 @@ each_in_order P (t ∷ ts) (h, hs) = each_placed P t (in_order ts) h (each_in_or
 
 pub wide_stand : (e : Terms) → AllByRecursion (AllStand e) e.outs → AllStand e (wide_terms e)
 unfolding wide_terms
-wide_stand e h = each_in_order _ _ (each_filter _ is_wide (flat_map (λ ts. ts) e.outs) (each_flat _ e.outs h))
+wide_stand e h = each_in_order _ _ (each-filter _ is_wide (flat_map (λ ts. ts) e.outs) (each_flat _ e.outs h))
 
 rest_below : (e : Terms) (ts : List Set) → AllStand e ts → AllByRecursion (λ t. term_signal e t < lines e + chain_place e) (rest ts)
 rest_below e [] h = tt

@@ -7,14 +7,16 @@ use Rattle.std.proofs.lemmas.List.Elements.{All-filter, All-from_recursion, filt
 use Rattle.std.proofs.lemmas.List.Kept.{AllPairs-filter}
 use Rattle.ae_base.specs.Cube.{Signs}
 use Rattle.ae_base.specs.Mask.{members, Set, differ, has, both, xor}
+use Rattle.ae_base.specs.Lists.{without_repeats}
 use Rattle.ae_base.proofs.Members.{members-filter}
 use Rattle.ae_base.proofs.Sets.{inside-from, same_set, has-both, has-xor, has-where_below}
-use Rattle.ae_net.proofs.Distinct.{Distinct, AllPairs-from_Distinct, Distinct-from_AllPairs, each_weaker}
+use Rattle.ae_base.proofs.Distinct.{Distinct, AllPairs-from_Distinct, Distinct-from_AllPairs, each_weaker}
+use Rattle.ae_base.proofs.Elements.{filter_range_agree, filter_all, length_filter_le}
+use Rattle.ae_base.proofs.Once.{added, add_last}
 use Rattle.expansion.specs.Terms.{Terms, is_used, used_inputs}
 use Rattle.expansion.proofs.Even.{has-used}
-use Rattle.cascade.specs.FirstVectors.{literals_at, without_repeats}
+use Rattle.cascade.specs.FirstVectors.{literals_at}
 use Rattle.cascade.specs.Reddy.{turned}
-use Rattle.cascade.proofs.Lists.{filter_range_agree, filter_all, length_filter_le}
 
 pub has-literals_at : (p : Signs) (used : Set) (v : Bool) (k : ℕ) → has (literals_at p used v) k ≡ (ltb k p.n && (has used k && cond (has p.plain k) v (not v)))
 unfolding literals_at
@@ -63,66 +65,6 @@ turned_members e =
     by : (used plain : Bool) → (used && cond plain false true) ≡ (used && not plain)
     by used true = refl
     by used false = refl
-
--- ---- no repeats
-
--- one more element at the end, where it is not there yet
-abbrev pub added : Set → List Set → List Set
-added y xs = cond (list_any (λ x. eqb x y) xs) xs (xs ++ y ∷ [])
-
-abbrev others : Set → List Set → List Set
-others x ys = filter (λ y. not (eqb y x)) ys
-
-other_kept : (x y : Set) (ys : List Set) → eqb x y ≡ false → list_any (λ z. eqb z y) (others x ys) ≡ list_any (λ z. eqb z y) ys
-other_kept x y [] ne = refl
-other_kept x y (z ∷ zs) ne =
-    elim (cases_Bool (eqb z x)) [
-      | inl e ↦ let same : eqb z y ≡ false = ap (λ s. eqb s y) (eqb-true z x e) ∙ ne in rw (e, same) (other_kept x y zs ne)
-      | inr e ↦ rw e (ap (λ b. eqb z y || b) (other_kept x y zs ne))
-    ]
-
-others_more : (x y : Set) (ys : List Set) (b : Bool) → list_any (λ z. eqb z y) ys ≡ b → x ∷ others x (cond b ys (ys ++ y ∷ [])) ≡ added y (x ∷ others x ys)
-others_more x y ys b there =
-    elim (cases_Bool (eqb x y)) [
-      | inl e ↦ rw e (ap (λ l. x ∷ l) (same b (eq-eqb y x (sym (eqb-true x y e)))))
-      | inr e ↦ rw (e, other_kept x y ys e, there) (other b (ne_eqb y x (λ same. false≢true (sym e ∙ eq-eqb x y (sym same)))))
-    ]
-  where
-    same : (b : Bool) → eqb y x ≡ true → others x (cond b ys (ys ++ y ∷ [])) ≡ others x ys
-    same true e = refl
-    same false e = filter-append (λ z. not (eqb z x)) ys (y ∷ []) ∙ rw e (append-nil _)
-
-    other : (b : Bool) → eqb y x ≡ false → x ∷ others x (cond b ys (ys ++ y ∷ [])) ≡ cond b (x ∷ others x ys) (x ∷ others x ys ++ y ∷ [])
-    other true e = refl
-    other false e = ap (λ l. x ∷ l) (filter-append (λ z. not (eqb z x)) ys (y ∷ []) ∙ rw e refl)
-
-pub add_last : (xs : List Set) (y : Set) → without_repeats (xs ++ y ∷ []) ≡ added y (without_repeats xs)
-add_last [] y = refl
-add_last (x ∷ xs) y = ap (λ ys. x ∷ others x ys) (add_last xs y) ∙ others_more x y (without_repeats xs) (list_any (λ z. eqb z y) (without_repeats xs)) refl
-
--- ---- no repeats is for good
-
-pub once_apart : (xs : List Set) → Distinct (without_repeats xs)
-once_apart [] = tt
-once_apart (x ∷ xs) = (
-  each_weaker (λ y. not (eqb y x) ≡ true) (λ y. x ≢ y) (λ y h same. false≢true (sym (ap not (eq-eqb y x (sym same))) ∙ h)) (others x (without_repeats xs)) (recursion_from_All _ _ (filter_passes (λ y. not (eqb y x)) (without_repeats xs))),
-  Distinct-from_AllPairs _ (AllPairs-filter (λ y z. y ≢ z) (λ y. not (eqb y x)) (without_repeats xs) (AllPairs-from_Distinct _ (once_apart xs))),
-)
-
-once_kept : (xs : List Set) → Distinct xs → without_repeats xs ≡ xs
-once_kept [] d = refl
-once_kept (x ∷ xs) (new, d) = ap (λ ys. x ∷ others x ys) (once_kept xs d) ∙ ap (λ ys. x ∷ ys) (filter_all (λ y. not (eqb y x)) xs (each_weaker (λ y. x ≢ y) (λ y. not (eqb y x) ≡ true) (λ y h. ap not (ne_eqb y x (λ same. h (sym same)))) xs new))
-
-pub once_again : (xs : List Set) → without_repeats (without_repeats xs) ≡ without_repeats xs
-once_again xs = once_kept (without_repeats xs) (once_apart xs)
-
-pub each_once : (P : Set → Type 0) (xs : List Set) → AllByRecursion P xs → AllByRecursion P (without_repeats xs)
-each_once P [] h = tt
-each_once P (x ∷ xs) (h, hs) = (h, recursion_from_All P _ (All-filter (λ y. not (eqb y x)) P (without_repeats xs) (All-from_recursion P _ (each_once P xs hs))))
-
-pub length_once_le : (xs : List Set) → length (without_repeats xs) ≤ length xs
-length_once_le [] = omega arith
-length_once_le (x ∷ xs) = omega (arith, length_filter_le (λ y. not (eqb y x)) (without_repeats xs), length_once_le xs)
 
 -- ---- the first four
 

@@ -1,16 +1,12 @@
 -- The first four vectors of the Reddy form.
-use Rattle.std.specs.Prelude.{◌==◌, Bool, true, false, not, ◌&&◌, if◌then◌else◌, List, [], ◌∷◌, filter}
+use Rattle.std.specs.Prelude.{Bool, true, false, not, ◌&&◌, if◌then◌else◌, List, [], ◌∷◌}
+use Rattle.ae_base.specs.Lists.{without_repeats}
 use Rattle.ae_base.specs.Mask.{Set, has, with, where_below}
 use Rattle.ae_base.specs.Cube.{Signs}
 
 -- the vector with the literals of these inputs at v: such an input is v where it is plain, else the complement; the others are 0
 unfoldable pub literals_at : Signs → Set → Bool → Set
 literals_at p used v = where_below p.n (λ j. has used j && (if has p.plain j then v else not v))
-
--- the list without each element that is equal to an earlier one
-abbrev pub without_repeats : List Set → List Set
-without_repeats [] = []
-without_repeats (x ∷ xs) = x ∷ filter (λ y. not (y == x)) (without_repeats xs)
 
 -- control 0 and all literals 0, control 0 and all literals 1, control 1 and all literals 0, control 1 and all literals 1. The control
 -- has the number after the inputs, and the literals are those of the used inputs.

@@ -6,20 +6,21 @@ use Rattle.std.proofs.lemmas.Bool.{and_parts, and_from, cases_Bool, false≢true
 use Rattle.std.proofs.lemmas.List.Elements.{recursion_from_All}
 use Rattle.std.proofs.lemmas.Option.{slice_get-get_or, slice_get_within}
 use Rattle.std.proofs.Math.Bool.{and_assoc}
+use Rattle.std.proofs.lemmas.Map.Keys.{any_passes_from_place}
 use Rattle.ae_base.specs.Mask.{Set, differ, has, empty, with, first, inside}
 use Rattle.ae_base.specs.Cube.{Signs}
 use Rattle.ae_base.specs.Source.{Source, on_set, IsUsed}
 use Rattle.ae_base.specs.Terms.{IsPoint, literal, product, value}
 use Rattle.ae_base.proofs.Sets.{has-empty, has-with, has-xor, has-where_below, inside-below, inside-from}
 use Rattle.ae_base.proofs.Truth.{or-false}
+use Rattle.ae_base.proofs.Exor.{exor_of_agree, odd_count, all_or_others}
+use Rattle.ae_base.proofs.Literals.{product-literals, literals-product, product_false}
+use Rattle.ae_base.proofs.Elements.{Passing, any_found}
 use Rattle.fn_store.specs.Davio.{IsExpansion}
 use Rattle.fn_store.proofs.Expansions.{terms_inside}
-use Rattle.fn_store.proofs.Lists.{exor_of_agree}
-use Rattle.fn_store.proofs.Products.{product-literals, literals-product}
 use Rattle.expansion.specs.Even.{all_high, flipped, IsEven, is_odd, is_even, even_inputs}
 use Rattle.expansion.specs.Functions.{AreExpansions}
 use Rattle.expansion.specs.Terms.{Terms, is_used, used_inputs}
-use Rattle.expansion.proofs.Lists.{Stands, stands, any_at, odd_count, all_or_others}
 
 -- ---- the two points
 
@@ -54,9 +55,6 @@ literal-flipped p j k l = ap (λ b. cond (has p.plain k) b (not b)) (has-flipped
     by_sign false false = refl
 
 -- ---- products at the two points
-
-pub product_false : (p : Signs) (t x : Set) (k : ℕ) → has t k ≡ true → literal p k x ≡ false → product p t x ≡ false
-product_false p t x k m h = elim (cases_Bool (product p t x)) [ inl e ↦ absurd (false≢true (sym h ∙ product-literals p t x e k m)) | inr e ↦ e ]
 
 product-all_high : (p : Signs) (t : Set) → inside t (first p.n) ≡ true → product p t (all_high p) ≡ true
 product-all_high p t below = literals-product p t (all_high p) (λ k m. literal-all_high p k (inside-below p.n t below k m))
@@ -127,7 +125,7 @@ module _ (s : Source) (p : Signs) (e : Terms) (are : AreExpansions s p e) (means
       let there : slice_get e.outs o ≡ Some ts = slice_get-get_or e.outs o [] (omega (arith, are.outputs, within)) in
       kept_from _ _ _ (turned_by means p (on_set s o) ts j (are.each o ts there) l)
       (elim (cases_Bool (odd j ts)) [
-        | inl one ↦ absurd (false≢true (sym even ∙ any_at (odd j) e.outs o ts there one))
+        | inl one ↦ absurd (false≢true (sym even ∙ any_passes_from_place (odd j) e.outs o ts there one))
         | inr none ↦ none
       ])
 
@@ -136,7 +134,7 @@ module _ (s : Source) (p : Signs) (e : Terms) (are : AreExpansions s p e) (means
   not_odd j l same =
       elim (cases_Bool (is_odd e j)) [
         | inl h ↦
-            let at : Stands (odd j) e.outs = stands (odd j) e.outs h in
+            let at : Passing (odd j) e.outs = any_found (odd j) e.outs h in
             let within : at.place < length s.outputs = omega (arith, are.outputs, slice_get_within e.outs at.place at.element at.there) in
             absurd (turned_from _ _ _ (turned_by means p (on_set s at.place) at.element j (are.each at.place at.element at.there) l) (same at.place within) at.passes)
         | inr none ↦ none

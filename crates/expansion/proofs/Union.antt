@@ -9,8 +9,8 @@ use Rattle.std.proofs.lemmas.Option.{get_or_from_slice_get, slice_get_within}
 use Rattle.std.proofs.Math.Bool.{or_assoc}
 use Rattle.ae_base.specs.Mask.{Set, has, either, inside, first, where_below}
 use Rattle.ae_base.proofs.Sets.{has-either, has-where_below, inside-below, same_set}
+use Rattle.ae_base.proofs.Elements.{Passing, any_found, All-get}
 use Rattle.expansion.specs.Terms.{Terms, IsTerms, is_used, used_inputs}
-use Rattle.expansion.proofs.Lists.{Stands, stands}
 
 -- one more term
 pub one_more_term : (ts : List Set) (i : ℕ) (t held now next : Set) → i < length ts → t ≡ get_or ts i t → next ≡ either now t → ((j : ℕ) → has now j ≡ (has held j || list_any (λ t. has t j) (take i ts)))
@@ -25,16 +25,13 @@ pub one_more_list : (outs : List (List Set)) (i : ℕ) (ts : List Set) (now next
 one_more_list outs i ts now next l at h g j =
     g j ∙ ap₂ (λ a b. a || list_any (λ t. has t j) b) (h j) at ∙ sym (list_any_more (λ ts. list_any (λ t. has t j) ts) outs i ts l)
 
-of_place : {X : Type 0} (P : X → Type 0) (xs : List X) (i : ℕ) (x : X) → All P xs → slice_get xs i ≡ Some x → P x
-of_place P xs i x all there = subst P (get_or_from_slice_get xs i x x there) (All-get_or P xs i x (slice_get_within xs i x there) all)
-
 -- what some term holds is an input
 used_below : (e : Terms) → IsTerms e → (j : ℕ) → is_used e j ≡ true → j < e.polarity.n
 used_below e is j h =
-    let list : Stands (λ ts. list_any (λ t. has t j) ts) e.outs = stands (λ ts. list_any (λ t. has t j) ts) e.outs h in
-    let term : Stands (λ t. has t j) list.element = stands (λ t. has t j) list.element list.passes in
-    let over : All (λ t. inside t (first e.polarity.n) ≡ true) list.element = of_place (λ ts. All (λ t. inside t (first e.polarity.n) ≡ true) ts) e.outs list.place list.element is.below list.there in
-    inside-below e.polarity.n term.element (of_place (λ t. inside t (first e.polarity.n) ≡ true) list.element term.place term.element over term.there) j term.passes
+    let list : Passing (λ ts. list_any (λ t. has t j) ts) e.outs = any_found (λ ts. list_any (λ t. has t j) ts) e.outs h in
+    let term : Passing (λ t. has t j) list.element = any_found (λ t. has t j) list.element list.passes in
+    let over : All (λ t. inside t (first e.polarity.n) ≡ true) list.element = All-get (λ ts. All (λ t. inside t (first e.polarity.n) ≡ true) ts) e.outs list.place list.element is.below list.there in
+    inside-below e.polarity.n term.element (All-get (λ t. inside t (first e.polarity.n) ≡ true) list.element term.place term.element over term.there) j term.passes
 
 pub all_used : (e : Terms) (s : Set) → IsTerms e → ((j : ℕ) → has s j ≡ is_used e j) → s ≡ used_inputs e
 unfolding used_inputs

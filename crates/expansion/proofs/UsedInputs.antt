@@ -4,14 +4,15 @@ use Rattle.std.specs.Prelude.{◌↔◌}
 use Rattle.std.specs.List.{list_any}
 use Rattle.std.proofs.lemmas.Bool.{and_parts, and_from, ltb-true, lt-ltb}
 use Rattle.std.proofs.lemmas.Option.{slice_get-get_or, slice_get_within}
+use Rattle.std.proofs.lemmas.Map.Keys.{any_passes_from_place}
 use Rattle.ae_base.specs.Mask.{Set, has, where_below}
 use Rattle.ae_base.specs.Cube.{Signs}
 use Rattle.ae_base.specs.Source.{Source, on_set, IsUsed}
 use Rattle.ae_base.proofs.Sets.{has-where_below}
+use Rattle.ae_base.proofs.Elements.{Passing, any_found}
 use Rattle.fn_store.specs.Davio.{DependsOn, IsExpansion}
 use Rattle.expansion.specs.Functions.{AreExpansions}
 use Rattle.expansion.specs.Terms.{Terms, is_used, used_inputs}
-use Rattle.expansion.proofs.Lists.{Stands, stands, any_at}
 
 -- A function depends on each input that its expansion holds, and on no other.
 abbrev pub HeldIsUsed : Type 0
@@ -24,7 +25,7 @@ module _ (s : Source) (p : Signs) (e : Terms) (are : AreExpansions s p e) (used 
   -- an input that some term holds is used
   held_used : (j : ℕ) → j < p.n → is_used e j ≡ true → IsUsed s j
   held_used j l h =
-      let at : Stands (λ ts. list_any (λ t. has t j) ts) e.outs = stands (λ ts. list_any (λ t. has t j) ts) e.outs h in
+      let at : Passing (λ ts. list_any (λ t. has t j) ts) e.outs = any_found (λ ts. list_any (λ t. has t j) ts) e.outs h in
       let depends : DependsOn p.n (on_set s at.place) j = used p (on_set s at.place) at.element j (are.each at.place at.element at.there) l at.passes in
       record {
         is_input = omega (arith, are.inputs, l);
@@ -43,7 +44,7 @@ module _ (s : Source) (p : Signs) (e : Terms) (are : AreExpansions s p e) (used 
       let there = slice_get-get_or e.outs h.output [] within in
       let depends : DependsOn p.n (on_set s h.output) j = record { point = h.point; is_point = rw are.inputs h.is_point; differs = h.differ } in (
         l,
-        any_at (λ ts. list_any (λ t. has t j) ts) e.outs h.output (get_or e.outs h.output []) there
+        any_passes_from_place (λ ts. list_any (λ t. has t j) ts) e.outs h.output (get_or e.outs h.output []) there
             (unused p (on_set s h.output) (get_or e.outs h.output []) j (are.each h.output (get_or e.outs h.output []) there) l depends),
       )
 

@@ -12,20 +12,21 @@ use Rattle.std.proofs.Math.Bool.{or_assoc}
 use Rattle.ae_base.specs.Mask.{Set, differ, has, empty, with, first, inside, either, xor, members}
 use Rattle.ae_base.specs.Cube.{Signs}
 use Rattle.ae_base.specs.Terms.{IsPoint, exor_of}
+use Rattle.ae_base.specs.Lists.{without_repeats}
 use Rattle.ae_base.proofs.Members.{members-has}
 use Rattle.ae_base.proofs.Sets.{has-xor, has-either, inside-below, inside-from, inside-above}
 use Rattle.ae_base.proofs.Truth.{differ-assoc, differ-false}
+use Rattle.ae_base.proofs.Distinct.{AllPairs-from_Distinct, each-append}
+use Rattle.ae_base.proofs.Exor.{odd_count}
+use Rattle.ae_base.proofs.Elements.{each_member, any_flat}
+use Rattle.ae_base.proofs.Once.{add_last, added, each_once, once_apart}
 use Rattle.ae_net.specs.Valid.{IsDistinct}
-use Rattle.ae_net.proofs.Distinct.{AllPairs-from_Distinct, each-append}
 use Rattle.expansion.specs.Even.{even_inputs}
 use Rattle.expansion.specs.Terms.{Terms, IsTerms, used_inputs}
 use Rattle.expansion.proofs.Even.{has-even}
-use Rattle.expansion.proofs.Lists.{odd_count}
-use Rattle.cascade.specs.FirstVectors.{literals_at, without_repeats}
+use Rattle.cascade.specs.FirstVectors.{literals_at}
 use Rattle.cascade.proofs.Found.{stands_inside}
-use Rattle.cascade.proofs.GatesValid.{each_member}
-use Rattle.cascade.proofs.Lists.{any_flat}
-use Rattle.cascade.proofs.VectorLemmas.{add_last, added, each_once, has-literals_at, once_apart}
+use Rattle.cascade.proofs.VectorLemmas.{has-literals_at}
 use Rattle.input_tests.specs.Added.{all_added}
 use Rattle.input_tests.specs.Inputs.{first_term, term_high, term_but, pair_at, input_vectors_of}
 use Rattle.input_tests.proofs.FirstTerm.{find_member, has-high, has-but}

@@ -14,23 +14,22 @@ use Rattle.ae_base.proofs.Members.{members-has}
 use Rattle.ae_base.proofs.Order.{less_irreflexive, less_trans, order-inside}
 use Rattle.ae_base.proofs.Sets.{has-inside, has-xor}
 use Rattle.ae_base.proofs.InOrder.{in_order-tail}
-use Rattle.ae_base.proofs.Truth.{differ-false, or-false}
+use Rattle.ae_base.proofs.Truth.{differ-false, or-false, differ-not_right, other_way}
+use Rattle.ae_base.proofs.Elements.{all_at, All-get, list_all_agree}
+use Rattle.ae_base.proofs.Exor.{exor_of_agree}
+use Rattle.ae_base.proofs.Literals.{literals-product, product_false}
 use Rattle.ae_net.specs.Names.{Names}
-use Rattle.fn_store.proofs.Lists.{all_at, exor_of_agree}
-use Rattle.fn_store.proofs.Products.{literals-product}
 use Rattle.expansion.specs.Terms.{Terms, is_used, used_inputs}
-use Rattle.expansion.proofs.Even.{has-flipped, product_false}
+use Rattle.expansion.proofs.Even.{has-flipped}
 use Rattle.cascade.specs.FirstVectors.{literals_at}
 use Rattle.cascade.specs.Shows.{CanBuild}
-use Rattle.cascade.proofs.Found.{All-get, stands_inside}
+use Rattle.cascade.proofs.Found.{stands_inside}
 use Rattle.cascade.proofs.Law.{Stands}
-use Rattle.cascade.proofs.Lists.{list_all_agree}
 use Rattle.cascade.proofs.Valid.{terms_stand}
 use Rattle.universal_tests.proofs.AtVectors.{used_part}
 use Rattle.universal_tests.proofs.Line.{Pair}
 use Rattle.universal_tests.proofs.Products.{member_used}
-use Rattle.universal_tests.proofs.Turns.{differ-not_right, stands_at, all_inside}
-use Rattle.universal_tests.proofs.ControlFaults.{other_way}
+use Rattle.universal_tests.proofs.Turns.{stands_at, all_inside}
 use Rattle.input_tests.specs.Inputs.{term_high, term_but}
 
 -- ---- the first term

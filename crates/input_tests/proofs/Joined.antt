@@ -8,9 +8,9 @@ use Rattle.std.proofs.lemmas.List.Elements.{filter-append, filter_passes, recurs
 use Rattle.std.proofs.lemmas.List.Folds.{list_any-append, Any-from_list_any}
 use Rattle.std.proofs.Math.Seq.{take-suc}
 use Rattle.ae_base.specs.Mask.{Set}
+use Rattle.ae_base.proofs.Distinct.{AllPairs-from_Distinct, Distinct-append, Distinct-filter, Distinct-from_AllPairs, each_weaker}
+use Rattle.ae_base.proofs.Elements.{each_member}
 use Rattle.ae_net.specs.Valid.{IsDistinct}
-use Rattle.ae_net.proofs.Distinct.{AllPairs-from_Distinct, Distinct-append, Distinct-filter, Distinct-from_AllPairs, each_weaker}
-use Rattle.cascade.proofs.GatesValid.{each_member}
 use Rattle.input_tests.specs.Whole.{new_ones}
 
 abbrev pub has_it : Set → List Set → Bool

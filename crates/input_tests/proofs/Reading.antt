@@ -6,18 +6,18 @@ use Rattle.std.specs.Fmt.{decimal}
 use Rattle.std.proofs.lemmas.Bool.{cases_Bool, and_parts, false≢true, or_cases, or_left, or_right}
 use Rattle.std.proofs.lemmas.List.Elements.{filter_passes, recursion_from_All}
 use Rattle.ae_base.specs.Mask.{Set, has, empty, members}
-use Rattle.ae_base.proofs.Members.{members-has}
+use Rattle.ae_base.proofs.Members.{members-has, first_member}
 use Rattle.ae_base.proofs.Truth.{or-false}
+use Rattle.ae_base.proofs.Distinct.{each-append, each_weaker}
+use Rattle.ae_base.proofs.Elements.{any_filter_parts, each_member}
 use Rattle.ae_net.specs.declared.net.Gate.{Gate}
 use Rattle.ae_net.specs.Faults.{is_read, is_read_by}
 use Rattle.ae_net.specs.Gates.{inverter, and_gate}
 use Rattle.ae_net.specs.Lead.{lead}
 use Rattle.ae_net.specs.Names.{Names, inner}
-use Rattle.ae_net.proofs.Distinct.{each-append, each_weaker}
 use Rattle.expansion.specs.Terms.{Terms, is_used}
 use Rattle.cascade.specs.Reddy.{place_of, lines, gates_for, turned, literal_signal, inverters, has_one, control_gates, start, is_wide, wide_terms, and_place, chain_place, term_signal, and_gates, links, chain, rest, inner_gates, chains, ends, gates, reddy_net}
-use Rattle.cascade.proofs.Found.{any_filter_parts, wide_found}
-use Rattle.cascade.proofs.GatesValid.{each_member, first_member}
+use Rattle.cascade.proofs.Found.{wide_found}
 use Rattle.cascade.proofs.Law.{Stands, used_since}
 use Rattle.universal_tests.proofs.Literals.{start_late}
 use Rattle.universal_tests.proofs.TwoRuns.{gates_are, outputs_are}

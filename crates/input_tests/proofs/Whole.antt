@@ -7,6 +7,8 @@ use Rattle.std.proofs.lemmas.List.Elements.{Contains-append_left}
 use Rattle.std.proofs.lemmas.List.Folds.{list_any-append}
 use Rattle.ae_base.specs.Mask.{Set, has, len, members}
 use Rattle.ae_base.proofs.Members.{len-members, members-has}
+use Rattle.ae_base.proofs.Elements.{any_kept, length_filter_le, Contains-from_any}
+use Rattle.ae_base.proofs.Once.{length_once_le, unrepeated_has}
 use Rattle.ae_net.specs.declared.net.Place.{Place}
 use Rattle.ae_net.specs.declared.net.Place.TheVariants.{Stem, Pin, Port}
 use Rattle.ae_net.specs.Faults.{IsPlace, is_read}
@@ -15,12 +17,8 @@ use Rattle.expansion.specs.Even.{is_odd, even_inputs}
 use Rattle.expansion.specs.Terms.{Terms, is_used, used_inputs}
 use Rattle.cascade.specs.Reddy.{lines, turned, reddy_net}
 use Rattle.cascade.specs.Shows.{CanBuild}
-use Rattle.cascade.proofs.Lists.{any_kept, length_filter_le}
-use Rattle.cascade.proofs.VectorLemmas.{length_once_le}
-use Rattle.cascade.proofs.Ordered.{Contains-from_any}
 use Rattle.universal_tests.specs.Sites.{IsInverterOf, IsOfLiteral, IsDetected}
 use Rattle.universal_tests.specs.Universal.{universal_vectors}
-use Rattle.universal_tests.proofs.AtVectors.{unrepeated_has}
 use Rattle.universal_tests.proofs.CodeLemmas.{universal_few}
 use Rattle.universal_tests.proofs.Literals.{inverter_used, inverts_of, pair_detects, detects_odd}
 use Rattle.universal_tests.proofs.Line.{Inverts}

@@ -4,9 +4,10 @@ use Rattle.std.specs.Prelude.{ℕ, false, Option, Some, None, List, [], ◌∷�
 use Rattle.std.specs.List.{find, flat_map}
 use Rattle.ae_base.specs.Mask.{Set, has, empty, with, xor, members}
 use Rattle.ae_base.specs.Cube.{Signs}
+use Rattle.ae_base.specs.Lists.{without_repeats}
 use Rattle.expansion.specs.Even.{even_inputs}
 use Rattle.expansion.specs.Terms.{Terms, used_inputs}
-use Rattle.cascade.specs.FirstVectors.{literals_at, without_repeats}
+use Rattle.cascade.specs.FirstVectors.{literals_at}
 
 -- of the first output whose expansion holds the input, the first term that holds it
 abbrev pub first_term : Terms → ℕ → Option Set

@@ -4,9 +4,6 @@ use Rattle.std.specs.Prelude.{Contains}
 use Rattle.ae_outside.specs.Counts.{Tally, CountsAt}
 use Rattle.synth_cmd.specs.Outside.{CountsAmong}
 
-pub is_first : {X : Type 0} (x : X) (xs : List X) → Contains (x ∷ xs) x
-is_first x xs = (0, omega arith, refl)
-
 pub is_second : {X : Type 0} (x y : X) (xs : List X) → Contains (x ∷ y ∷ xs) y
 is_second x y xs = (1, omega arith, refl)
 

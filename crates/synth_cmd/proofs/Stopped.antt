@@ -21,13 +21,6 @@ use Rattle.synth_cmd.specs.declared.stop.TextsErr.TheVariants as texts
 use Rattle.synth_cmd.specs.declared.tell.Refusal.{Refusal}
 use Rattle.synth_cmd.specs.declared.tell.Refusal.TheVariants.{Text, TooManyTerms}
 
--- what a `?` answers of an error is what the error becomes
-pub answered : {T E S : Type 0} → (r : Result T S) (becomes : E → S) (e : E) (s : S) → IsErrAnd r (λ y. y ≡ becomes e) → r ≡ Err s → becomes e ≡ s
-answered r becomes e s h is =
-    let p = err_from_is_err_and r h in
-    let same : p.0 ≡ s = cc (p.1, is) in
-    sym p.2 ∙ same
-
 -- a source that is refused has the cause that the error tells
 pub synth_cause : (settings : Settings) (Was : List ℕ → Type 0) (held : Option Shelf) (before now : Tally) (name bytes : List ℕ) (e : SynthErr) (r : Refusal) → Was bytes
     → ((line : ℕ) (what : TextFault) → e ≡ of_text line what → source_says settings.kind bytes ≡ Err (line, what))

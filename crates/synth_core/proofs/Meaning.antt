@@ -1,12 +1,12 @@
 -- What the network of a source's expansions shows.
 use Rattle.std.proofs.Common.{◌≡◌, ◌<◌, ℕ, Bool, true, false, not, ◌&&◌, ◌||◌, cond, List, [], ◌∷◌, map, refl, sym, ap, ap₂, ◌∙◌, eq-eqb, ne_eqb, arith}
 use Rattle.std.specs.List.{AllByRecursion}
-use Rattle.cascade.proofs.Lists.{list_all_agree}
 use Rattle.ae_base.specs.Mask.{Set, differ, has, first, inside, with, members}
 use Rattle.ae_base.specs.Cube.{Signs}
 use Rattle.ae_base.specs.Terms.{IsPoint, product, value}
 use Rattle.ae_base.proofs.Sets.{has-with, inside-below, inside-above}
 use Rattle.ae_base.proofs.Members.{members-has}
+use Rattle.ae_base.proofs.Elements.{list_all_agree}
 
 -- ---- values at a point and with the control
 

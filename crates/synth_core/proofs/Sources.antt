@@ -12,6 +12,7 @@ use Rattle.ae_base.specs.Name.{is_name, is_source_name}
 use Rattle.ae_base.specs.Source.{Source, Specified, is_on, on_set}
 use Rattle.ae_base.specs.Source.Specified.{On, Off}
 use Rattle.ae_base.specs.declared.limits.TheConstants.{SOURCE_NAME_BYTES}
+use Rattle.ae_base.proofs.Specified.{on_where}
 use Rattle.ae_cover.specs.Cover.{Table, some_row, is_one, source_of}
 use Rattle.ae_net.specs.Names.{IsNames}
 use Rattle.ae_net.specs.Network.{Network, gate_at}
@@ -44,13 +45,9 @@ use Rattle.synth_core.proofs.Shown.{listed_distinct, all_listed}
 
 -- ---- which outputs are On
 
-on_if : (b : Bool) (s : Specified) → is_on s ≡ false → is_on (cond b On s) ≡ b
-on_if true s e = refl
-on_if false s e = e
-
 -- an output of a network is On exactly where it shows 1
 on_set_net : (n : Network) (o : ℕ) (x : Set) → has (out n None x) o ≡ on_set (net.source_of n) o x
-on_set_net n o x = sym (on_if (has (out n None x) o) Off refl)
+on_set_net n o x = sym (on_where (has (out n None x) o) Off refl)
 
 -- ---- names
 
@@ -107,16 +104,6 @@ fits_of r e whole same = rw same (record { inputs = whole.inputs; outputs = leng
 
 pub are_live : (functions : Functions) (refs : List FnRef) (fs : ℕ → Set → Bool) → ShowEach functions refs fs → All (IsLive functions) refs
 are_live functions refs fs shows = λ k d l. (shows.each k (get_or refs k d) (slice_get-get_or refs k d l)).live
-
--- what a `?` answers of an error is what the error becomes
-pub passed_on : {T E : Type 0} (r : Result T E) (e : E) → IsErrAnd r (λ y. y ≡ e) → r ≡ Err e
-passed_on r e h = let p = err_from_is_err_and r h in p.1 ∙ ap Err p.2
-
-pub answered : {T E S : Type 0} → (r : Result T S) (becomes : E → S) (e : E) (s : S) → IsErrAnd r (λ y. y ≡ becomes e) → r ≡ Err s → becomes e ≡ s
-answered r becomes e s h is =
-    let p = err_from_is_err_and r h in
-    let same : p.0 ≡ s = cc (p.1, is) in
-    sym p.2 ∙ same
 
 pub too_many_of : (e : ExpandErr) (output : ℕ) → of_expand e ≡ err.TooManyTerms output → e ≡ expand_err.TooManyTerms output
 too_many_of (expand_err.TooManyTerms o) output h = let same : o ≡ output = cc h in ap (λ k. expand_err.TooManyTerms k) same

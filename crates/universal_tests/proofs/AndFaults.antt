@@ -10,6 +10,9 @@ use Rattle.ae_base.specs.Mask.{Set, has, first, inside, members}
 use Rattle.ae_base.specs.Terms.{literal, product}
 use Rattle.ae_base.proofs.Members.{members-has}
 use Rattle.ae_base.proofs.Sets.{inside-below}
+use Rattle.ae_base.proofs.Elements.{any_found}
+use Rattle.ae_base.proofs.Distinct.{Distinct-members}
+use Rattle.ae_base.proofs.Truth.{not_not}
 use Rattle.ae_net.specs.declared.net.Place.TheVariants.{Stem, Pin}
 use Rattle.ae_net.specs.declared.net.Fault.{Fault}
 use Rattle.ae_net.specs.Network.{Network}
@@ -22,7 +25,7 @@ use Rattle.ae_net.proofs.Tables.{sees, all_see, all_to, all_see-false, table-and
 use Rattle.expansion.specs.Terms.{Terms, is_used, used_inputs}
 use Rattle.cascade.specs.Reddy.{place_of, lines, literal_signal, is_wide, wide_terms, and_place, reddy_net}
 use Rattle.cascade.specs.Shows.{CanBuild}
-use Rattle.cascade.proofs.Found.{any_found, place_at, wide_apart, members_apart, wide_found, stands_inside}
+use Rattle.cascade.proofs.Found.{place_at, wide_apart, wide_found, stands_inside}
 use Rattle.cascade.proofs.GatesValid.{literal_below, and_place_from}
 use Rattle.cascade.proofs.Law.{Stands, and_of, value-literal, used_since}
 use Rattle.cascade.proofs.Values.{EachGate-gates_for}
@@ -32,10 +35,6 @@ use Rattle.universal_tests.proofs.Products.{member_used, product_high, product_a
 use Rattle.universal_tests.proofs.Turns.{and_signal, and_turns, wide_some}
 use Rattle.universal_tests.proofs.TwoRuns.{Both, TwoRuns, two_runs, Differs-gate, plain_inputs, plain_term}
 use Rattle.universal_tests.proofs.AtVectors.{all_at, literal-one_low, Contains-all_at, Contains-one_low}
-
-pub not_not : (b : Bool) → b ≡ not (not b)
-not_not true = refl
-not_not false = refl
 
 -- the term of the AND gate in place p
 pub record OfTerm (e : Terms) (p : ℕ) : Type 0 where
@@ -99,8 +98,8 @@ module _ (names : Names) (e : Terms) (can : CanBuild names e) (p : ℕ) (of : Of
       let two : TwoRuns names e (Some fault) p x (run n (Some fault) x) (run n None x) = two_runs names e can (Some fault) p x within (omega arith) in (
         x,
         listed,
-        Differs-gate names e fault p x found.0 within (slice_get_within e.outs found.0 found.1 found.2)
-            (and_turns names e can (Some fault) p x (run n (Some fault) x) (run n None x) two found.0 found.1 found.2 of.t found.3 of.wide of.place (turns (run n (Some fault) x) (run n None x) two)),
+        Differs-gate names e fault p x found.place within (slice_get_within e.outs found.place found.element found.there)
+            (and_turns names e can (Some fault) p x (run n (Some fault) x) (run n None x) two found.place found.element found.there of.t found.passes of.wide of.place (turns (run n (Some fault) x) (run n None x) two)),
       )
 
   pub and_stem : (u : Bool) → p < length ((reddy_net names e).gates) → IsDetected (reddy_net names e) (universal_vectors e.polarity (used_inputs e)) (record { place = Stem (lines e + p); value = u })
@@ -129,7 +128,7 @@ module _ (names : Names) (e : Terms) (can : CanBuild names e) (p : ℕ) (of : Of
       let j : ℕ = slice_index ms q in
       let m : has of.t j ≡ true = pin_member of.t q l in
       let x : Set = one_low e.polarity (used_inputs e) j in
-      let others = λ (k : ℕ) (lk : k < length ms) (other : k ≢ q) (same : slice_index ms k ≡ j). other (sym (place_at ms (members_apart of.t) k 0 lk) ∙ ap (place_of ms) same ∙ place_at ms (members_apart of.t) q 0 l) in
+      let others = λ (k : ℕ) (lk : k < length ms) (other : k ≢ q) (same : slice_index ms k ≡ j). other (sym (place_at ms (Distinct-members of.t) k 0 lk) ∙ ap (place_of ms) same ∙ place_at ms (Distinct-members of.t) q 0 l) in
       and_detected (record { place = Pin p q; value = true }) x (InGate-pin (lines e) p q true) few (Contains-one_low e.polarity (used_inputs e) j ((member_used e of.t of.stands below j m).1))
       (λ w v two.
       and_faulty (stuck p q true) x w v two

@@ -7,13 +7,14 @@ use Rattle.std.proofs.lemmas.List.Folds.{list_any-append, list_any_at}
 use Rattle.ae_base.specs.Mask.{Set, differ, has, with, members}
 use Rattle.ae_base.specs.Cube.{Signs}
 use Rattle.ae_base.specs.Terms.{literal}
+use Rattle.ae_base.specs.Lists.{without_repeats}
 use Rattle.ae_base.proofs.Members.{members-has}
 use Rattle.ae_base.proofs.Sets.{has-with}
+use Rattle.ae_base.proofs.Elements.{any_kept, Contains-from_any}
+use Rattle.ae_base.proofs.Once.{unrepeated_has}
 use Rattle.expansion.proofs.Even.{has-flipped}
-use Rattle.cascade.specs.FirstVectors.{literals_at, without_repeats, first_vectors}
-use Rattle.cascade.proofs.Lists.{any_kept}
+use Rattle.cascade.specs.FirstVectors.{literals_at, first_vectors}
 use Rattle.cascade.proofs.VectorLemmas.{has-literals_at}
-use Rattle.cascade.proofs.Ordered.{Contains-from_any}
 use Rattle.universal_tests.specs.Universal.{one_low, universal_vectors}
 
 -- all literals at v, and the control at c
@@ -61,14 +62,6 @@ literal-one_low p used j k l u = ap (λ b. cond (has p.plain k) b (not b)) (has-
     by_sign false false = refl
 
 -- ---- the list has them
-
-pub unrepeated_has : (x : Set) (xs : List Set) → list_any (λ y. eqb y x) xs ≡ true → list_any (λ y. eqb y x) (without_repeats xs) ≡ true
-unrepeated_has x [] h = h
-unrepeated_has x (y ∷ ys) h =
-    elim (cases_eq y x) [
-      | inl e ↦ or_left _ _ (eq-eqb y x e)
-      | inr other ↦ or_right _ _ (any_kept (λ z. not (eqb z y)) x (ap not (ne_eqb x y (λ e. other (sym e)))) (without_repeats ys) (unrepeated_has x ys (rw (ne_eqb y x other) at h)))
-    ]
 
 any_append_left : (q : Set → Bool) (xs ys : List Set) → list_any q xs ≡ true → list_any q (xs ++ ys) ≡ true
 any_append_left q xs ys h = list_any-append q xs ys ∙ or_left _ _ h

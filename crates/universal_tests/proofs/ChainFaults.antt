@@ -3,7 +3,8 @@ use Rattle.std.proofs.Common.{◌≡◌, ℕ, zero, suc, ◌+◌, ◌-◌, ◌<�
 use Rattle.std.specs.Prelude.{◌⊎◌, Option, Some, None, slice_get}
 use Rattle.std.proofs.lemmas.Option.{same_Some, slice_get_within}
 use Rattle.ae_base.specs.Mask.{Set, differ, has, empty}
-use Rattle.ae_base.proofs.Truth.{differ-false}
+use Rattle.ae_base.proofs.Truth.{differ-false, not_not, differ-not_right}
+use Rattle.ae_base.proofs.Elements.{each_at}
 use Rattle.ae_net.specs.declared.net.Gate.{Gate}
 use Rattle.ae_net.specs.declared.net.Place.TheVariants.{Stem, Pin}
 use Rattle.ae_net.specs.declared.net.Fault.{Fault}
@@ -19,15 +20,13 @@ use Rattle.ae_net.proofs.Tables.{table-exor, table-buffer}
 use Rattle.expansion.specs.Terms.{Terms, used_inputs}
 use Rattle.cascade.specs.Reddy.{lines, has_one, start, chain_place, term_signal, chain, rest, reddy_net}
 use Rattle.cascade.specs.Shows.{CanBuild}
-use Rattle.cascade.proofs.Found.{each_at}
 use Rattle.cascade.proofs.Law.{shows_rest}
 use Rattle.cascade.proofs.Values.{Shows}
 use Rattle.universal_tests.specs.Sites.{IsDetected}
 use Rattle.universal_tests.specs.Universal.{universal_vectors}
-use Rattle.universal_tests.proofs.AndFaults.{not_not}
 use Rattle.universal_tests.proofs.Chains.{InChain, chain_start, chain_start_from, OfChain, of_chain, Linked, linked, chain_turns, terms_kept}
 use Rattle.universal_tests.proofs.Products.{product_all_at}
-use Rattle.universal_tests.proofs.Turns.{stands_at, all_inside, start_below, chain_after, differ-not_right}
+use Rattle.universal_tests.proofs.Turns.{stands_at, all_inside, start_below, chain_after}
 use Rattle.universal_tests.proofs.TwoRuns.{Both, TwoRuns, two_runs, Differs-gate, plain_start, plain_term}
 use Rattle.universal_tests.proofs.AtVectors.{all_at, control-all_at, Contains-all_at}
 

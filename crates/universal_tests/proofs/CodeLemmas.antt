@@ -5,18 +5,20 @@ use Rattle.std.specs.List.{AllByRecursion}
 use Rattle.ae_base.specs.Mask.{Set, empty, with, xor, first, inside, members}
 use Rattle.ae_base.specs.Cube.{Signs}
 use Rattle.ae_base.specs.Terms.{IsPoint}
-use Rattle.ae_base.proofs.Members.{members-has}
+use Rattle.ae_base.specs.Lists.{without_repeats}
+use Rattle.ae_base.proofs.Members.{members-has, length-members}
 use Rattle.ae_base.proofs.Sets.{has-with, inside-below, inside-from}
+use Rattle.ae_base.proofs.Distinct.{AllPairs-from_Distinct, each-append}
+use Rattle.ae_base.proofs.Elements.{each_member}
+use Rattle.ae_base.proofs.Once.{added, add_last, each_once, length_once_le, once_again, once_apart}
 use Rattle.ae_net.specs.Valid.{IsDistinct}
-use Rattle.ae_net.proofs.Distinct.{AllPairs-from_Distinct, each-append}
 use Rattle.std.proofs.lemmas.Bool.{le-ltb}
 use Rattle.std.proofs.lemmas.List.{length-map, map-append}
 use Rattle.std.proofs.lemmas.List.Elements.{All-from_recursion, All-map, recursion_from_All}
 use Rattle.expansion.specs.Terms.{Terms, used_inputs}
 use Rattle.expansion.proofs.Even.{has-used}
-use Rattle.cascade.specs.FirstVectors.{literals_at, without_repeats, first_vectors}
-use Rattle.cascade.proofs.GatesValid.{each_member, length-members}
-use Rattle.cascade.proofs.VectorLemmas.{added, add_last, each_once, has-literals_at, length_once_le, once_again, once_apart}
+use Rattle.cascade.specs.FirstVectors.{literals_at, first_vectors}
+use Rattle.cascade.proofs.VectorLemmas.{has-literals_at}
 use Rattle.universal_tests.specs.Universal.{one_low, universal_vectors}
 use Rattle.universal_tests.proofs.AtVectors.{has-one_low}
 

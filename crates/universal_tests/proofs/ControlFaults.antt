@@ -17,21 +17,19 @@ use Rattle.ae_net.specs.Out.{run, out}
 use Rattle.ae_net.specs.Run.{seen, value_of}
 use Rattle.ae_base.proofs.Members.{members-has}
 use Rattle.ae_base.proofs.Sets.{inside-below}
-use Rattle.ae_base.proofs.Truth.{differ-false}
+use Rattle.ae_base.proofs.Truth.{differ-false, not_not, other_way}
+use Rattle.ae_base.proofs.Elements.{any_found, All-get, list_all_agree}
 use Rattle.ae_net.proofs.Follow.{EachGate}
 use Rattle.ae_net.proofs.OneGate.{InGate, InGate-stem, InGate-pin, held, stuck, at_stem, at_pin, run_as, has-out, Differs-turned}
 use Rattle.ae_net.proofs.Tables.{table-inverter}
 use Rattle.expansion.specs.Terms.{Terms, used_inputs}
 use Rattle.cascade.specs.Reddy.{lines, turned, has_one, control_gates, rest, reddy_net}
 use Rattle.cascade.specs.Shows.{CanBuild}
-use Rattle.cascade.proofs.Found.{any_found, All-get}
 use Rattle.cascade.proofs.Law.{value-rest, each_rest, shows}
-use Rattle.cascade.proofs.Lists.{list_all_agree}
 use Rattle.cascade.proofs.Ports.{length-outputs}
 use Rattle.cascade.proofs.Shown.{valid}
 use Rattle.universal_tests.specs.Sites.{IsDetected}
 use Rattle.universal_tests.specs.Universal.{universal_vectors}
-use Rattle.universal_tests.proofs.AndFaults.{not_not}
 use Rattle.universal_tests.proofs.Products.{product_low}
 use Rattle.universal_tests.proofs.Turns.{start_turns, stands_at, all_inside}
 use Rattle.universal_tests.proofs.TwoRuns.{Both, TwoRuns, two_runs, inputs_are, Differs-gate}
@@ -67,8 +65,8 @@ module _ (names : Names) (e : Terms) (can : CanBuild names e) (some : list_any h
       turns w v two ∙ not_not c ∙ ap (λ b. not (not b)) (sym (control-all_at e.polarity (used_inputs e) false c)) ∙ ap not (sym (inverter_plain (Some fault) x w v two)) in (
         x,
         Contains-all_at e.polarity (used_inputs e) false c,
-        Differs-gate names e fault (length (turned e)) x found.0 within (slice_get_within e.outs found.0 found.1 found.2)
-            (start_turns names e can (Some fault) (length (turned e)) x w v two found.0 found.1 found.2 found.3 refl turned_here),
+        Differs-gate names e fault (length (turned e)) x found.place within (slice_get_within e.outs found.place found.element found.there)
+            (start_turns names e can (Some fault) (length (turned e)) x w v two found.place found.element found.there found.passes refl turned_here),
       )
 
   pub inverter_stem : (u : Bool) → IsDetected (reddy_net names e) (universal_vectors e.polarity (used_inputs e)) (record { place = Stem (lines e + length (turned e)); value = u })
@@ -84,11 +82,6 @@ module _ (names : Names) (e : Terms) (can : CanBuild names e) (some : list_any h
 -- ---- what the outputs are without a fault
 
 -- an EXOR turns with its first part
-pub other_way : (a b : Bool) → differ a b ≡ not (differ (not a) b)
-other_way true b = refl
-other_way false true = refl
-other_way false false = refl
-
 -- where all literals are 0 only the empty term is 1
 value_low : (names : Names) (e : Terms) → CanBuild names e → (c : Bool) (o : ℕ) (ts : List Set) → slice_get e.outs o ≡ Some ts → value e.polarity ts (all_at e.polarity (used_inputs e) false c) ≡ has_one ts
 value_low names e can c o ts there =

@@ -8,6 +8,8 @@ use Rattle.std.proofs.lemmas.Bool.{cases_eq}
 use Rattle.std.proofs.lemmas.Option.{slice_get_within}
 use Rattle.ae_base.specs.Mask.{Set, differ, has}
 use Rattle.ae_base.specs.Terms.{IsInOrder, literal, product, value}
+use Rattle.ae_base.proofs.Elements.{All-get}
+use Rattle.ae_base.proofs.Truth.{differ-not_right, differ-past}
 use Rattle.ae_net.specs.declared.net.Gate.{Gate}
 use Rattle.ae_net.specs.declared.net.Place.TheVariants.{Stem, Pin}
 use Rattle.ae_net.specs.declared.net.Fault.{Fault}
@@ -23,12 +25,12 @@ use Rattle.ae_net.proofs.Tables.{table-inverter}
 use Rattle.expansion.specs.Terms.{Terms, is_used}
 use Rattle.cascade.specs.Reddy.{place_of, lines, turned, literal_signal, has_one, control_gates, and_place, chain_place, and_gates, rest, ends, reddy_net}
 use Rattle.cascade.specs.Shows.{CanBuild}
-use Rattle.cascade.proofs.Found.{All-get, place_apart}
+use Rattle.cascade.proofs.Found.{place_apart}
 use Rattle.cascade.proofs.GatesValid.{and_place_from}
-use Rattle.cascade.proofs.Law.{Literals, and_fits, shows_rest, turned_stands, value-rest, value-start, value-term, differ-past}
+use Rattle.cascade.proofs.Law.{Literals, and_fits, shows_rest, turned_stands, value-rest, value-start, value-term}
 use Rattle.cascade.proofs.Values.{Shows, EachGate-gates_for}
 use Rattle.universal_tests.proofs.ControlFaults.{is_port, shown}
-use Rattle.universal_tests.proofs.Turns.{chain_after, differ-not_right, stands_at, all_inside}
+use Rattle.universal_tests.proofs.Turns.{chain_after, stands_at, all_inside}
 use Rattle.universal_tests.proofs.TwoRuns.{Both, TwoRuns, two_runs, inputs_are, outputs_are, faulty, faulty_port}
 use Rattle.universal_tests.proofs.AtVectors.{signed_twice}
 

@@ -11,6 +11,9 @@ use Rattle.std.proofs.lemmas.Option.{same_Some, slice_get_within}
 use Rattle.ae_base.specs.Mask.{Set, has, empty, len, members}
 use Rattle.ae_base.specs.Source.{Source, IsUsed}
 use Rattle.ae_base.proofs.Members.{len-members}
+use Rattle.ae_base.proofs.Distinct.{Distinct, Distinct-from_AllPairs}
+use Rattle.ae_base.proofs.Exor.{odd_count}
+use Rattle.ae_base.proofs.Elements.{any_found, any_filter_parts}
 use Rattle.ae_net.specs.declared.net.Gate.{Gate}
 use Rattle.ae_net.specs.declared.net.Place.{Place}
 use Rattle.ae_net.specs.declared.net.Place.TheVariants.{Stem, Pin, Port}
@@ -18,16 +21,14 @@ use Rattle.ae_net.specs.Out.{Differs}
 use Rattle.ae_net.specs.Faults.{IsPlace}
 use Rattle.ae_net.specs.Gates.{inverter}
 use Rattle.ae_net.specs.Names.{Names}
-use Rattle.ae_net.proofs.Distinct.{Distinct, Distinct-from_AllPairs}
 use Rattle.ae_net.proofs.OneGate.{InGate-stem, held}
 use Rattle.expansion.specs.Even.{AreEven, is_odd, even_inputs}
 use Rattle.expansion.specs.Functions.{AreExpansions}
 use Rattle.expansion.specs.Terms.{Terms, is_used, used_inputs}
 use Rattle.expansion.proofs.Even.{even_used}
-use Rattle.expansion.proofs.Lists.{odd_count}
 use Rattle.cascade.specs.Reddy.{place_of, lines, turned, has_one, start, is_wide, reddy_net}
 use Rattle.cascade.specs.Shows.{CanBuild}
-use Rattle.cascade.proofs.Found.{any_found, any_filter_parts, place_at}
+use Rattle.cascade.proofs.Found.{place_at}
 use Rattle.universal_tests.specs.Odd.{IsHeldOddly, IsUsedNotEven, DetectsLiterals}
 use Rattle.universal_tests.specs.Sites.{IsInverterOf, IsOfLiteral, IsDetected}
 use Rattle.universal_tests.specs.Universal.{universal_vectors}
@@ -109,10 +110,10 @@ module _ (names : Names) (e : Terms) (can : CanBuild names e) where
   odd_told : (j : ℕ) → j < e.polarity.n → is_odd e j ≡ true → (place : Place) (u : Bool) → IsPlace (reddy_net names e) place → IsOfLiteral (reddy_net names e) j place
       → IsDetected (reddy_net names e) (universal_vectors e.polarity (used_inputs e)) (record { place = place; value = u })
   odd_told j l odd place u h of =
-      let found : (o : ℕ) × (ts : List Set) × (slice_get e.outs o ≡ Some ts) × (eqb (count_by (λ t. has t j) ts % 2) 1 ≡ true) = any_found (λ ts. eqb (count_by (λ t. has t j) ts % 2) 1) e.outs odd in
-      let is = odd_count (λ t. has t j) found.1 ∙ found.3 in
-      let told = pair_detects j l found.0 found.1 (own names e can j l found.0 found.1 found.2 is) (odd_pair names e can j l found.0 found.1 found.2 is) place u h of in
-      (own names e can j l found.0 found.1 found.2 is told.0, Contains-own_at e.polarity (used_inputs e) j told.0 (used_here names e can j l found.0 found.1 found.2 is), told.1)
+      let found = any_found (λ ts. eqb (count_by (λ t. has t j) ts % 2) 1) e.outs odd in
+      let is = odd_count (λ t. has t j) found.element ∙ found.passes in
+      let told = pair_detects j l found.place found.element (own names e can j l found.place found.element found.there is) (odd_pair names e can j l found.place found.element found.there is) place u h of in
+      (own names e can j l found.place found.element found.there is told.0, Contains-own_at e.polarity (used_inputs e) j told.0 (used_here names e can j l found.place found.element found.there is), told.1)
 
 pub detects_odd : (names : Names) (e : Terms) → CanBuild names e → DetectsLiterals (reddy_net names e) (IsHeldOddly e) (universal_vectors e.polarity (used_inputs e))
 detects_odd names e can fault j (l, odd) h of = odd_told names e can j l odd fault.place fault.value h of

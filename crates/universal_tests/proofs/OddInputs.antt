@@ -4,16 +4,16 @@ use Rattle.std.proofs.Common.{◌≡◌, ◌≢◌, ℕ, ◌<◌, Bool, true, fa
 use Rattle.std.specs.Prelude.{Contains, Some, slice_get}
 use Rattle.std.specs.List.{list_any}
 use Rattle.std.proofs.lemmas.Bool.{cases_Bool, false≢true, lt-ltb}
+use Rattle.std.proofs.lemmas.Map.Keys.{any_passes_from_place}
 use Rattle.ae_base.specs.Mask.{Set, differ, has, first, inside}
 use Rattle.ae_base.specs.Cube.{Signs}
 use Rattle.ae_base.specs.Terms.{literal, product, exor_of, value}
-use Rattle.ae_base.proofs.Truth.{differ-false}
+use Rattle.ae_base.proofs.Truth.{differ-false, not_not}
+use Rattle.ae_base.proofs.Distinct.{each_weaker}
+use Rattle.ae_base.proofs.Exor.{exor_of_agree, exor_of_some, all_or_others}
+use Rattle.ae_base.proofs.Literals.{literals-product}
 use Rattle.ae_net.specs.Names.{Names}
-use Rattle.ae_net.proofs.Distinct.{each_weaker}
-use Rattle.fn_store.proofs.Lists.{exor_of_agree, exor_of_some}
-use Rattle.fn_store.proofs.Products.{literals-product}
 use Rattle.expansion.specs.Terms.{Terms, used_inputs}
-use Rattle.expansion.proofs.Lists.{any_at, all_or_others}
 use Rattle.expansion.proofs.Even.{has-used}
 use Rattle.cascade.specs.Shows.{CanBuild}
 use Rattle.cascade.proofs.Law.{Stands}
@@ -23,7 +23,6 @@ use Rattle.universal_tests.proofs.AtVectors.{all_at, has-one_low, literal-all_at
 use Rattle.universal_tests.proofs.Line.{Pair}
 use Rattle.universal_tests.proofs.Products.{member_used, product_high, product_one_low}
 use Rattle.universal_tests.proofs.Turns.{stands_at, all_inside}
-use Rattle.universal_tests.proofs.AndFaults.{not_not}
 
 -- all literals at 1, with that of input j at b
 abbrev pub own_at : Signs → Set → ℕ → Bool → Set
@@ -49,7 +48,7 @@ module _ (names : Names) (e : Terms) (can : CanBuild names e) (j : ℕ) (l : j <
   own b = own_at e.polarity (used_inputs e) j b
 
   pub used_here : has (used_inputs e) j ≡ true
-  used_here = has-used e j ∙ ap₂ (λ a b. a && b) (lt-ltb j e.polarity.n l) (any_at (λ us. list_any (λ t. has t j) us) e.outs o ts there (exor_of_some (λ t. has t j) ts odd))
+  used_here = has-used e j ∙ ap₂ (λ a b. a && b) (lt-ltb j e.polarity.n l) (any_passes_from_place (λ us. list_any (λ t. has t j) us) e.outs o ts there (exor_of_some (λ t. has t j) ts odd))
 
   -- the products of the terms that hold the input turn
   product_own : (b : Bool) (t : Set) → Stands e t → inside t (first e.polarity.n) ≡ true → product e.polarity t (own b) ≡ (b || not (has t j))

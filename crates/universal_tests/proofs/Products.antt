@@ -2,13 +2,13 @@
 use Rattle.std.proofs.Common.{◌≡◌, ◌≢◌, ℕ, ◌<◌, Bool, true, false, not, ◌&&◌, refl, ap, ap₂, ◌∙◌, eq-eqb}
 use Rattle.std.specs.Prelude.{slice_index}
 use Rattle.std.proofs.lemmas.Bool.{lt-ltb}
-use Rattle.fn_store.proofs.Products.{literals-product}
 use Rattle.ae_base.specs.Mask.{Set, has, empty, first, inside, members}
 use Rattle.ae_base.specs.Terms.{product}
 use Rattle.ae_base.proofs.Sets.{inside-below}
+use Rattle.ae_base.proofs.Literals.{literals-product, product_false}
+use Rattle.ae_base.proofs.Members.{first_member}
 use Rattle.expansion.specs.Terms.{Terms, used_inputs}
-use Rattle.expansion.proofs.Even.{has-used, product_false}
-use Rattle.cascade.proofs.GatesValid.{first_member}
+use Rattle.expansion.proofs.Even.{has-used}
 use Rattle.cascade.proofs.Law.{Stands, used_since}
 use Rattle.universal_tests.specs.Universal.{one_low}
 use Rattle.universal_tests.proofs.AtVectors.{all_at, literal-all_at, literal-one_low}

@@ -6,21 +6,22 @@ use Rattle.std.specs.declared.cmp.Ordering.TheVariants.{Less}
 use Rattle.std.proofs.lemmas.Bool.{cases_eq, false≢true}
 use Rattle.std.proofs.lemmas.List.Elements.{recursion_from_All}
 use Rattle.std.proofs.lemmas.List.Kept.{AllPairs-filter}
+use Rattle.std.proofs.lemmas.Map.Keys.{any_passes_from_place}
 use Rattle.ae_base.specs.Mask.{Set, differ, empty, first, inside, cmp_terms, len, members}
 use Rattle.ae_base.specs.Terms.{IsInOrder, exor_of}
 use Rattle.ae_base.proofs.Order.{less_apart}
 use Rattle.ae_base.proofs.InOrder.{in_order-tail}
+use Rattle.ae_base.proofs.Elements.{All-get, any_kept}
+use Rattle.ae_base.proofs.Truth.{differ-not_right}
 use Rattle.ae_net.specs.declared.net.Fault.{Fault}
 use Rattle.ae_net.specs.Names.{Names}
 use Rattle.ae_net.specs.Run.{value_of}
 use Rattle.expansion.specs.Terms.{Terms}
-use Rattle.expansion.proofs.Lists.{any_at}
 use Rattle.cascade.specs.Reddy.{place_of, lines, turned, has_one, start, is_wide, wide_terms, and_place, chain_place, term_signal, rest}
 use Rattle.cascade.specs.Shows.{CanBuild}
-use Rattle.cascade.proofs.Found.{All-get, place_apart}
+use Rattle.cascade.proofs.Found.{place_apart}
 use Rattle.cascade.proofs.GatesValid.{place_below, and_place_from}
 use Rattle.cascade.proofs.Law.{Stands, wide_stands, shows_rest}
-use Rattle.cascade.proofs.Lists.{any_kept}
 use Rattle.cascade.proofs.Values.{Shows}
 use Rattle.universal_tests.proofs.TwoRuns.{TwoRuns, Turned, term_kept, faulty_port, plain_port, itself}
 
@@ -42,10 +43,6 @@ differ-not_left true true = refl
 differ-not_left true false = refl
 differ-not_left false b = refl
 
-pub differ-not_right : (a b : Bool) → differ a (not b) ≡ not (differ a b)
-differ-not_right true b = refl
-differ-not_right false b = refl
-
 exor-turned : (t : Set) (f : Set → Bool) (ts : List Set) → IsInOrder ts → list_any (λ u. eqb u t) ts ≡ true → exor_of (turned_at t f) ts ≡ not (exor_of f ts)
 exor-turned t f [] order h = absurd (false≢true h)
 exor-turned t f (u ∷ us) order h =
@@ -64,7 +61,7 @@ pub wide_some : (t : Set) → is_wide t ≡ true → t ≢ empty
 wide_some t wide e = false≢true (sym not_wide ∙ ap is_wide (sym e) ∙ wide)
 
 pub stands_at : (e : Terms) (o : ℕ) (ts : List Set) → slice_get e.outs o ≡ Some ts → (t : Set) → list_any (λ u. eqb u t) ts ≡ true → Stands e t
-stands_at e o ts there t m = any_at (λ us. list_any (λ y. eqb y t) us) e.outs o ts there m
+stands_at e o ts there t m = any_passes_from_place (λ us. list_any (λ y. eqb y t) us) e.outs o ts there m
 
 pub all_inside : (names : Names) (e : Terms) → CanBuild names e → (o : ℕ) (ts : List Set) → slice_get e.outs o ≡ Some ts → AllByRecursion (λ t. inside t (first e.polarity.n) ≡ true) ts
 all_inside names e can o ts there = recursion_from_All _ ts (All-get (λ us. (k : ℕ) (d : Set) → k < length us → inside (Rattle.std.specs.Prelude.slice_index_or us k d) (first e.polarity.n) ≡ true) e.outs o ts can.terms.below there)
@@ -75,7 +72,7 @@ unfolding start and_place
 start_below e o ts there = by_one (has_one ts) refl
   where
     by_one : (b : Bool) → has_one ts ≡ b → cond b (lines e + length (turned e)) e.polarity.n < lines e + (length (turned e) + cond (list_any has_one e.outs) 1 0)
-    by_one true one = rw (any_at has_one e.outs o ts there one) (omega arith)
+    by_one true one = rw (any_passes_from_place has_one e.outs o ts there one) (omega arith)
     by_one false none = omega arith
 
 -- where some output has the empty term the inverter of the control stands before the AND gates
@@ -128,7 +125,7 @@ module _ (names : Names) (e : Terms) (can : CanBuild names e) (fault : Option Fa
   pub start_turns : has_one ts ≡ true → p ≡ length (turned e) → value_of w (lines e + p) ≡ not (value_of v (lines e + p)) → Turned e w v o
   unfolding plainly
   start_turns one place turns =
-      let some : list_any has_one e.outs ≡ true = any_at has_one e.outs o ts there one in
+      let some : list_any has_one e.outs ≡ true = any_passes_from_place has_one e.outs o ts there one in
       let early : p < and_place e = omega (arith, one_before e some) in
       let signal : start e ts ≡ lines e + p = start_inverted e ts one ∙ ap (λ q. lines e + q) (sym place) in
       let here : value_of w (start e ts) ≡ not (value_of v (start e ts)) = rw signal turns in

@@ -4,6 +4,7 @@ use Rattle.std.specs.Prelude.{Option, Some, None, slice_get, slice_index, codes}
 use Rattle.ae_base.specs.Mask.{Set, differ, has, empty, first, inside, members}
 use Rattle.ae_base.specs.Terms.{product, exor_of}
 use Rattle.ae_base.proofs.Sets.{inside-below}
+use Rattle.ae_base.proofs.Members.{first_member}
 use Rattle.ae_net.specs.declared.net.Gate.{Gate}
 use Rattle.ae_net.specs.declared.net.Fault.{Fault}
 use Rattle.ae_net.specs.Out.{Differs, run}
@@ -18,7 +19,7 @@ use Rattle.expansion.specs.Terms.{Terms}
 use Rattle.cascade.specs.Reddy.{place_of, lines, turned, literal_signal, inverters, has_one, control_gates, start, is_wide, wide_terms, and_place, chain_place, term_signal, and_gates, rest, ends, gates, reddy_net}
 use Rattle.cascade.specs.Shows.{CanBuild}
 use Rattle.cascade.proofs.Law.{Stands, Inputs, Built, built, and_of, and_fits, value-literal, value-term, value-start, value-port}
-use Rattle.cascade.proofs.GatesValid.{literal_below, literals_below, first_member}
+use Rattle.cascade.proofs.GatesValid.{literal_below, literals_below}
 use Rattle.cascade.proofs.Law.{used_since}
 use Rattle.cascade.proofs.Ports.{length-outputs}
 use Rattle.cascade.proofs.Shown.{valid}

@@ -8,6 +8,7 @@ use Rattle.std.proofs.lemmas.List.{length-map}
 use Rattle.std.proofs.lemmas.List.Elements.{All-from_recursion}
 use Rattle.std.proofs.lemmas.Option.{same_Some, slice_get_within}
 use Rattle.ae_base.specs.Mask.{members}
+use Rattle.ae_base.proofs.Elements.{range_below}
 use Rattle.ae_net.specs.declared.net.Gate.{Gate}
 use Rattle.ae_net.specs.declared.net.Place.{Place}
 use Rattle.ae_net.specs.declared.net.Place.TheVariants.{Stem, Pin, Port}
@@ -21,7 +22,6 @@ use Rattle.ae_net.proofs.FaultLaws.{read_within}
 use Rattle.expansion.specs.Terms.{Terms, used_inputs}
 use Rattle.cascade.specs.Reddy.{gates_for, place_of, lines, turned, literal_signal, has_one, wide_terms, and_place, chain_place, reddy_net}
 use Rattle.cascade.specs.Shows.{CanBuild}
-use Rattle.cascade.proofs.GatesValid.{range_below}
 use Rattle.cascade.proofs.Law.{Built, built, and_of}
 use Rattle.cascade.proofs.NamesApart.{all_inner}
 use Rattle.cascade.proofs.Ports.{length-outputs}

@@ -2,7 +2,8 @@
 use Rattle.std.specs.Prelude.{ℕ, true, List, ◌++◌, map}
 use Rattle.ae_base.specs.Mask.{Set, empty, with, xor, members}
 use Rattle.ae_base.specs.Cube.{Signs}
-use Rattle.cascade.specs.FirstVectors.{literals_at, without_repeats, first_vectors}
+use Rattle.ae_base.specs.Lists.{without_repeats}
+use Rattle.cascade.specs.FirstVectors.{literals_at, first_vectors}
 
 -- control 0, the literal of input j at 0 and those of the other used inputs at 1: all literals at 1, but input j the other way
 unfoldable pub one_low : Signs → Set → ℕ → Set

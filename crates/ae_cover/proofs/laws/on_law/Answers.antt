@@ -1,6 +1,6 @@
-use Rattle.std.proofs.Common.{◌≡◌, Bool, true, false, cond, refl}
-use Rattle.ae_base.specs.Source.{Specified, is_on}
-use Rattle.ae_base.specs.Source.Specified.{On}
+use Rattle.std.proofs.Common.{◌≡◌, Bool, true, false, refl}
+use Rattle.ae_base.specs.Source.{is_on}
+use Rattle.ae_base.proofs.Specified.{on_where}
 use Rattle.ae_cover.specs.Cover.{is_one, is_zero, is_dash, some_row, not_one, specified}
 use Rattle.ae_cover.specs.declared.parts.Kind.{Kind}
 use Rattle.ae_cover.specs.declared.parts.Kind.TheVariants.{F, Fd, Fr, Fdr}
@@ -14,10 +14,6 @@ not_one-off Fr true dash = refl
 not_one-off Fr false dash = refl
 not_one-off Fdr true dash = refl
 not_one-off Fdr false dash = refl
-
-on_where : (b : Bool) (s : Specified) → is_on s ≡ false → is_on (cond b On s) ≡ b
-on_where true s off = refl
-on_where false s off = off
 
 pub returns : goal.returns
 unfolding specified

@@ -1,8 +1,9 @@
 use Rattle.std.proofs.Common.{ap, sym, Err, subst}
+use Rattle.ae_base.proofs.Results.{answered}
 use Rattle.synth_cmd.specs.Outcome.{HoldsText}
 use Rattle.synth_cmd.specs.Stops.{of_synth}
 use Rattle.synth_cmd.specs.declared.stop.SourceErr.TheVariants as source_err
-use Rattle.synth_cmd.proofs.Stopped.{answered, synth_cause}
+use Rattle.synth_cmd.proofs.Stopped.{synth_cause}
 use Rattle.synth_cmd.proofs.job.make.Goals as goal
 
 pub returns-in_err-synthesise-clause-refused : goal.returns-in_err-synthesise-clause-refused

@@ -1,9 +1,10 @@
 use Rattle.std.proofs.Common.{ap, Err, inr}
+use Rattle.ae_base.proofs.Results.{answered}
 use Rattle.synth_core.specs.Made.{texts_of}
 use Rattle.synth_cmd.specs.Stops.{of_texts}
 use Rattle.synth_cmd.specs.declared.stop.Stop.TheVariants as stop
 use Rattle.synth_cmd.proofs.Jobs.{both_whole, net_stops, vectors_stop, some_stops}
-use Rattle.synth_cmd.proofs.Stopped.{answered, net_fault, vectors_fault, memory}
+use Rattle.synth_cmd.proofs.Stopped.{net_fault, vectors_fault, memory}
 use Rattle.synth_cmd.proofs.job.synthesise_files.Goals as goal
 
 pub returns-clause-done : goal.returns-clause-done

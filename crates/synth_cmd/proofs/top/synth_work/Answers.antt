@@ -1,6 +1,7 @@
 use Rattle.std.proofs.Common.{ap, Err, ◌∷◌, []}
+use Rattle.ae_base.proofs.Contained.{Contains-first}
 use Rattle.synth_cmd.proofs.Ends.{ends_written, ends_refused, ends_failed, ends_memory}
-use Rattle.synth_cmd.proofs.Names.{is_first, is_second, among_one}
+use Rattle.synth_cmd.proofs.Names.{is_second, among_one}
 use Rattle.synth_cmd.proofs.Tested.{tested}
 use Rattle.synth_core.specs.Made.{texts_of}
 use Rattle.synth_cmd.proofs.top.synth_work.Goals as goal
@@ -13,13 +14,13 @@ returns-in-Err-Refused-clause-ending g c =
     let e = c.in-Err-Refused.ensures in
     let is = ap Err c.in-Err-Refused.field-0-is in
     ends_refused _ _ _ _ _ _ _ c.args.names.now.source.now c.in-Err-Refused.refusal
-    (is_first c.args.names.now.source.now [], e.refused c.in-Err-Refused.refusal is, e.refused_stays c.in-Err-Refused.refusal is) c.refuse.ensures.told
+    (Contains-first c.args.names.now.source.now [], e.refused c.in-Err-Refused.refusal is, e.refused_stays c.in-Err-Refused.refusal is) c.refuse.ensures.told
 
 pub returns-in-Err-NetFault-clause-ending : goal.returns-in-Err-NetFault-clause-ending
 returns-in-Err-NetFault-clause-ending g c =
     let e = c.in-Err-NetFault.ensures in
     let is = ap Err c.in-Err-NetFault.field-0-is in
-    ends_failed _ _ _ _ _ _ _ c.args.names.now.net.now (is_first c.args.names.now.net.now (c.args.names.now.vectors.now ∷ [])) (e.net_fault is) (e.net_stops is) c.tell_write_fault.ensures.told
+    ends_failed _ _ _ _ _ _ _ c.args.names.now.net.now (Contains-first c.args.names.now.net.now (c.args.names.now.vectors.now ∷ [])) (e.net_fault is) (e.net_stops is) c.tell_write_fault.ensures.told
 
 pub returns-in-Err-VectorsFault-clause-ending : goal.returns-in-Err-VectorsFault-clause-ending
 returns-in-Err-VectorsFault-clause-ending g c =

@@ -1,9 +1,9 @@
 use Rattle.std.proofs.Common.{◌≡◌, ◌⊎◌, ◌∙◌, length, inl, inr, ap, sym, Err}
 use Rattle.std.proofs.lemmas.Result.{IfOk-weaker}
+use Rattle.ae_base.proofs.Results.{passed_on}
 use Rattle.synth_core.specs.Asked.{polarity_of}
 use Rattle.synth_core.specs.Made.{texts_of}
 use Rattle.synth_core.specs.Steps.{IsMadeOf}
-use Rattle.synth_core.proofs.Sources.{passed_on}
 use Rattle.synth_core.proofs.Exact.{is_refused, is_memory, all_made, has_too_many, always_too_many, complete}
 use Rattle.synth_core.proofs.synthesis.synthesise.Goals as goal
 

@@ -1,8 +1,9 @@
 use Rattle.std.proofs.Common.{◌≡◌, ◌≤◌, ◌<◌, Err, sym, ap, ◌∙◌, arith}
+use Rattle.ae_base.proofs.Results.{answered}
 use Rattle.synth_core.specs.declared.error.SynthErr.TheVariants as err
 use Rattle.synth_core.specs.Errors.{of_expand}
 use Rattle.synth_core.specs.Made.{texts_of}
-use Rattle.synth_core.proofs.Sources.{answered, fits_of, is_made_of, is_too_many, too_many_of}
+use Rattle.synth_core.proofs.Sources.{fits_of, is_made_of, is_too_many, too_many_of}
 use Rattle.synth_core.proofs.synthesis.synthesise_functions.Goals as goal
 
 pub expand-requires-clause-live : goal.expand-requires-clause-live

@@ -1,7 +1,7 @@
 use Rattle.std.proofs.Common.{◌≡◌, [], ◌∷◌, ◌++◌, sym, ap, ap₂, ◌∙◌, append-nil, append_assoc}
 use Rattle.ae_base.specs.Mask.{with, xor, members}
+use Rattle.ae_base.proofs.Once.{added}
 use Rattle.expansion.specs.Terms.{used_inputs}
-use Rattle.cascade.proofs.VectorLemmas.{added}
 use Rattle.universal_tests.specs.Universal.{universal_vectors}
 use Rattle.universal_tests.proofs.CodeLemmas.{so_far, none_so_far, more_so_far, all_so_far, universal_few, universal_distinct, universal_points}
 use Rattle.universal_tests.proofs.vectors.universal.Goals as goal
