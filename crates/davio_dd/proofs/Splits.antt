@@ -5,7 +5,7 @@ use Rattle.ae_base.specs.Mask.{Set, differ}
 use Rattle.ae_base.specs.Cube.{Signs}
 use Rattle.ae_base.specs.Terms.{literal}
 use Rattle.ae_base.proofs.Truth.{differ-same, differ-false}
-use Rattle.fn_store.proofs.Lists.{differ-swap}
+use Rattle.ae_base.proofs.Truth.{differ-swap}
 use Rattle.davio_dd.specs.declared.node.Node.{Node}
 use Rattle.davio_dd.specs.Diagram.{place_value, top, IsDiagram, IsPlace, IsAnswer, product}
 use Rattle.davio_dd.specs.Scratch.{Grows, IsNode, IsPart, IsSplit, IsProducts}

@@ -12,8 +12,8 @@ use Rattle.ae_base.proofs.Truth.{differ-false, or-false}
 use Rattle.ae_base.proofs.InOrder.{in_order-order, any-in_order}
 use Rattle.fn_store.specs.Davio.{IsExpansion}
 use Rattle.fn_store.specs.Functions.{AgreeAt}
-use Rattle.fn_store.proofs.Lists.{exor_of-append}
-use Rattle.fn_store.proofs.Products.{product-empty, product-with}
+use Rattle.ae_base.proofs.Exor.{exor_of-append}
+use Rattle.ae_base.proofs.Literals.{product-empty, product-with}
 use Rattle.fn_store.proofs.Expansions.{only}
 use Rattle.davio_dd.specs.declared.node.Node.{Node}
 use Rattle.davio_dd.specs.Diagram.{place_value, place_terms, top, IsDiagram, IsPlace}
