@@ -1,12 +1,12 @@
 -- Places of a diagram with the same value at each point are the same place.
-use Rattle.std.proofs.Common.{◌≡◌, ℕ, zero, suc, ◌+◌, ◌<◌, Bool, true, false, not, ◌&&◌, cond, ◌⊎◌, inl, inr, List, Some, refl, sym, subst, ap, ap₂, ◌∙◌, arith}
+use Rattle.std.proofs.Common.{◌≡◌, ◌≢◌, ℕ, zero, suc, ◌+◌, ◌<◌, Bool, not, ◌&&◌, cond, ◌⊎◌, inl, inr, List, Some, sym, subst, ap, ap₂, ◌∙◌, arith}
 use Rattle.std.proofs.lemmas.Bool.{cases_order, false≢true}
 use Rattle.std.proofs.lemmas.Option.{slice_get_within}
 use Rattle.ae_base.specs.Mask.{Set, differ, has, empty}
 use Rattle.ae_base.specs.Cube.{Signs}
 use Rattle.ae_base.specs.Terms.{IsPoint, literal}
 use Rattle.ae_base.proofs.Sets.{has-empty, inside-from}
-use Rattle.ae_base.proofs.Truth.{differ-same, differ-false}
+use Rattle.ae_base.proofs.Truth.{differ-same, differ-false, differ-assoc}
 use Rattle.fn_store.specs.Davio.{put, low, high}
 use Rattle.fn_store.proofs.Coefficients.{put-other, literal-low, literal-high}
 use Rattle.fn_store.proofs.Products.{inside-put}
@@ -67,8 +67,8 @@ each_place n nodes is P on_zero on_one on_node at place = below (suc at) at (ome
 
 -- ---- a place does not look at inputs before its top
 
-literal-put : (p : Signs) (j i : ℕ) (v : Bool) (x : Set) → j < i → literal p i (put j v x) ≡ literal p i x
-literal-put p j i v x l = ap (λ b. cond (has p.plain i) b (not b)) (put-other j i v x (λ e. absurd (omega (arith, e))))
+pub literal-other : (p : Signs) (j k : ℕ) (v : Bool) (x : Set) → (k ≢ j) → literal p k (put j v x) ≡ literal p k x
+literal-other p j k v x apart = ap (λ b. cond (has p.plain k) b (not b)) (put-other j k v x apart)
 
 pub value-put : (p : Signs) (nodes : List Node) → IsDiagram p.n nodes → (at j : ℕ) (v : Bool) (x : Set) → IsPlace nodes at → j < top p.n nodes at → place_value p nodes at (put j v x) ≡ place_value p nodes at x
 value-put p nodes is at j v x place =
@@ -79,16 +79,14 @@ value-put p nodes is at j v x place =
     let q = parts p.n nodes is at c in
     let before : j < c.node.input = omega (arith, l, top-place p.n nodes is at c) in
     value-place p nodes is at c (put j v x)
-    ∙ ap₂ differ (low (omega (arith, q.over_low))) (ap₂ (λ a b. a && b) (literal-put p j c.node.input v x before) (high (omega (arith, q.over_high))))
+    ∙ ap₂ differ (low (omega (arith, q.over_low))) (ap₂ (λ a b. a && b) (literal-other p j c.node.input v x (λ e. absurd (omega (arith, before, e)))) (high (omega (arith, q.over_high))))
     ∙ sym (value-place p nodes is at c x))
     at place
 
 -- ---- the parts of a node, by its values
 
 differ-twice : (a b : Bool) → differ a (differ a b) ≡ b
-differ-twice true true = refl
-differ-twice true false = refl
-differ-twice false b = refl
+differ-twice a b = sym (differ-assoc a a b) ∙ ap (λ c. differ c b) (differ-same a)
 
 -- where its literal is 0 a node is its low part
 pub value-low : (p : Signs) (nodes : List Node) → IsDiagram p.n nodes → (at : ℕ) (c : IsNodeAt nodes at) (x : Set) → place_value p nodes at (low p c.node.input x) ≡ place_value p nodes c.node.low x

@@ -6,15 +6,15 @@ use Rattle.ae_base.specs.Cube.{Signs}
 use Rattle.ae_base.specs.Terms.{IsPoint, literal}
 use Rattle.ae_base.proofs.Sets.{same_set, has-first, has-both, has-xor, inside-from, inside-above}
 use Rattle.ae_base.proofs.Truth.{differ-false}
-use Rattle.fn_store.specs.Davio.{put, low, high}
-use Rattle.fn_store.proofs.Coefficients.{put-other, literal-low, literal-high}
+use Rattle.fn_store.specs.Davio.{low, high}
+use Rattle.fn_store.proofs.Coefficients.{literal-low, literal-high}
 use Rattle.fn_store.proofs.Products.{inside-put}
 use Rattle.davio_dd.specs.declared.node.Node.{Node}
 use Rattle.fn_store.specs.Functions.{AgreeAt, IsBefore, IsLeastPoint}
 use Rattle.davio_dd.specs.Diagram.{place_value, top, IsDiagram, IsPlace}
 use Rattle.davio_dd.specs.Scratch.{IsNode, all_zero, path_point}
 use Rattle.davio_dd.proofs.Places.{entry-zero, entry-one, entry-node, value-zero, value-one, IsNodeAt, node_at}
-use Rattle.davio_dd.proofs.Canonical.{top-place, value-place, parts, each_place, value-put}
+use Rattle.davio_dd.proofs.Canonical.{top-place, value-place, parts, each_place, literal-other, value-put}
 
 -- ---- all literals 0
 
@@ -33,9 +33,6 @@ literal-all_zero p k l =
 
 pub all_zero-point : (p : Signs) → IsPoint p.n (all_zero p)
 all_zero-point p = inside-from p.n (all_zero p) (λ k l. has-all_zero p k ∙ ap (λ b. differ b (b && has p.plain k)) (le-ltb k p.n l))
-
-literal-other : (p : Signs) (j k : ℕ) (v : Bool) (x : Set) → (k ≢ j) → literal p k (put j v x) ≡ literal p k x
-literal-other p j k v x apart = ap (λ b. cond (has p.plain k) b (not b)) (put-other j k v x apart)
 
 -- ---- the walk
 

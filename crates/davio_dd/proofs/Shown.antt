@@ -1,6 +1,7 @@
 -- The diagram as a store: what its references show, and that they keep it while nodes are added.
-use Rattle.std.proofs.Common.{◌≡◌, ℕ, ◌+◌, ◌<◌, Bool, true, false, ◌&&◌, List, length, Option, None, Some, refl, sym, ap, ap₂, ◌∙◌, lt-ltb, arith}
+use Rattle.std.proofs.Common.{◌≡◌, ℕ, ◌+◌, ◌<◌, Bool, true, false, ◌&&◌, List, length, Option, None, Some, sym, ap, ap₂, ◌∙◌, lt-ltb, arith}
 use Rattle.std.specs.Option.{MatchOption, is_some}
+use Rattle.std.proofs.Math.Bool.{and-true}
 use Rattle.std.proofs.lemmas.Bool.{false≢true, ltb-true}
 use Rattle.ae_base.specs.Mask.{Set, differ}
 use Rattle.ae_base.specs.Cube.{Signs}
@@ -65,15 +66,11 @@ answer-Shows op p p1 n0 n1 is0 is1 e g a b r answer f h shows_a shows_b =
     ∙ ap₂ op (value-grows p n0 n1 g a.at (live-place p n0 a shows_a.live) x ∙ value-Shows p n0 is0 a f shows_a x point)
     (value-grows p n0 n1 g b.at (live-place p n0 b shows_b.live) x ∙ value-Shows p n0 is0 b h shows_b x point)))
 
-and_true : (a : Bool) → (a && true) ≡ a
-and_true true = refl
-and_true false = refl
-
 -- the node of an input over the two constants shows the literal
 pub literal-Shows : (p p1 : Signs) (n0 n1 : List Node) → IsDiagram p1.n n1 → p1 ≡ p → (j : ℕ) (r : FnRef) → IsPlace n1 r.at
     → ((x : Set) → place_value p1 n1 r.at x ≡ differ (place_value p n0 0 x) (literal p j x && place_value p n0 1 x)) → Shows (functions_of p1 n1) r (literal p j)
 literal-Shows p p1 n0 n1 is e j r place h =
-    Shows-value p1 n1 is r place (literal p j) (λ x point. h x ∙ ap₂ (λ a b. differ a (literal p j x && b)) (value-zero p n0 x) (value-one p n0 x) ∙ and_true (literal p j x))
+    Shows-value p1 n1 is r place (literal p j) (λ x point. h x ∙ ap₂ (λ a b. differ a (literal p j x && b)) (value-zero p n0 x) (value-one p n0 x) ∙ and-true (literal p j x))
 
 -- ---- functions that agree
 

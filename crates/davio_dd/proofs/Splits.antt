@@ -1,5 +1,6 @@
 -- Two places by their first input, and the operations by the parts.
 use Rattle.std.proofs.Common.{◌≡◌, ◌≢◌, ℕ, ◌+◌, ◌<◌, ◌≤◌, min, Bool, true, false, ◌&&◌, ◌⊎◌, inl, inr, List, refl, ap, ap₂, sym, ◌∙◌, arith, rules}
+use Rattle.std.proofs.Math.Bool.{and-true, and_self}
 use Rattle.std.proofs.lemmas.Bool.{and_right, cases_lt}
 use Rattle.ae_base.specs.Mask.{Set, differ}
 use Rattle.ae_base.specs.Cube.{Signs}
@@ -171,7 +172,7 @@ sum-right p nodes a b pa pb e = record {
   over = λ j la lb. la;
 }
 
-and_differ : (l a b : Bool) → (l && differ a b) ≡ differ (l && a) (l && b)
+pub and_differ : (l a b : Bool) → (l && differ a b) ≡ differ (l && a) (l && b)
 and_differ true a b = refl
 and_differ false a b = refl
 
@@ -235,20 +236,12 @@ carry op p p1 n0 n1 u v r e g h = rw e (answer-grows op p n0 n1 g u v r h)
 
 -- ---- products
 
-and_self : (a : Bool) → (a && a) ≡ a
-and_self true = refl
-and_self false = refl
-
-and_true : (a : Bool) → (a && true) ≡ a
-and_true true = refl
-and_true false = refl
-
 pub product-same : (p : Signs) (nodes : List Node) (a b : ℕ) → IsPlace nodes a → IsPlace nodes b → (a ≡ b) ⊎ ((a ≢ b) × (b ≡ 1)) → IsAnswer product p nodes a b a
 product-same p nodes a b pa pb either = record { left_place = pa; right_place = pb; place = pa; is = λ x. by_case either x; over = λ j la lb. la }
   where
     by_case : (a ≡ b) ⊎ ((a ≢ b) × (b ≡ 1)) → (x : Set) → place_value p nodes a x ≡ (place_value p nodes a x && place_value p nodes b x)
     by_case (inl e) x = sym (ap (λ (c : ℕ). place_value p nodes a x && place_value p nodes c x) (sym e) ∙ and_self (place_value p nodes a x))
-    by_case (inr (apart, e)) x = sym (ap (λ (v : Bool). place_value p nodes a x && v) (ap (λ (c : ℕ). place_value p nodes c x) e ∙ value-one p nodes x) ∙ and_true (place_value p nodes a x))
+    by_case (inr (apart, e)) x = sym (ap (λ (v : Bool). place_value p nodes a x && v) (ap (λ (c : ℕ). place_value p nodes c x) e ∙ value-one p nodes x) ∙ and-true (place_value p nodes a x))
 
 pub product-left_one : (p : Signs) (nodes : List Node) (a b : ℕ) → IsPlace nodes a → IsPlace nodes b → a ≡ 1 → IsAnswer product p nodes a b b
 product-left_one p nodes a b pa pb e = record {

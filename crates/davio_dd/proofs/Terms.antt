@@ -19,6 +19,7 @@ use Rattle.davio_dd.specs.declared.node.Node.{Node}
 use Rattle.davio_dd.specs.Diagram.{place_value, place_terms, top, IsDiagram, IsPlace}
 use Rattle.davio_dd.proofs.Places.{entry-zero, entry-one, entry-node, value-zero, value-one, IsNodeAt}
 use Rattle.davio_dd.proofs.Canonical.{top-place, value-place, parts, each_place}
+use Rattle.davio_dd.proofs.Splits.{and_differ}
 use Rattle.davio_dd.proofs.Once.{IsOnce, once-one, once-append, exor_of-in_order}
 
 -- ---- terms by the parts
@@ -37,13 +38,9 @@ terms-place n nodes is at c = ap (place_terms nodes) c.place ∙ entry-node [] (
 
 -- ---- the value of the terms
 
-and_differ : (l a b : Bool) → differ (l && a) (l && b) ≡ (l && differ a b)
-and_differ true a b = refl
-and_differ false a b = refl
-
 value-with : (p : Signs) (i : ℕ) (ts : List Set) (x : Set) → value p (map (λ t. with t i) ts) x ≡ (literal p i x && value p ts x)
 value-with p i [] x = sym (and_right (literal p i x) false refl)
-value-with p i (t ∷ ts) x = ap₂ differ (product-with p t x i) (value-with p i ts x) ∙ and_differ (literal p i x) (product p t x) (value p ts x)
+value-with p i (t ∷ ts) x = ap₂ differ (product-with p t x i) (value-with p i ts x) ∙ sym (and_differ (literal p i x) (product p t x) (value p ts x))
 
 value-terms : (p : Signs) (nodes : List Node) → IsDiagram p.n nodes → (at : ℕ) → IsPlace nodes at → (x : Set) → value p (place_terms nodes at) x ≡ place_value p nodes at x
 value-terms p nodes is at place x =

@@ -1,6 +1,7 @@
 -- One step of a walk along the paths from a place: the terms behind others, and the room that they leave.
-use Rattle.std.proofs.Common.{◌≡◌, ◌≢◌, ℕ, ◌+◌, ◌-◌, ◌<◌, ◌≤◌, Bool, true, false, ◌||◌, List, [], ◌∷◌, ◌++◌, map, length, Option, None, Some, inl, inr, refl, sym, ap, ap₂, ◌∙◌, eqb, append_assoc, append-nil, length-append, arith}
+use Rattle.std.proofs.Common.{◌≡◌, ◌≢◌, ℕ, ◌+◌, ◌-◌, ◌<◌, ◌≤◌, Bool, ◌||◌, List, [], ◌∷◌, ◌++◌, map, length, Option, None, Some, inl, inr, refl, sym, ap, ap₂, ◌∙◌, eqb, append_assoc, append-nil, length-append, arith}
 use Rattle.std.specs.Option.{MatchOption, SomeIff}
+use Rattle.std.proofs.Math.Bool.{or_assoc, or_comm}
 use Rattle.std.proofs.lemmas.Bool.{cases_lt}
 use Rattle.std.proofs.lemmas.List.{map-append, length-map}
 use Rattle.ae_base.specs.Mask.{Set, has, empty, with, either}
@@ -27,10 +28,7 @@ terms-empty nodes at l some = let e : at ≡ 1 = omega (arith, some) in ap (plac
 -- ---- the terms behind others
 
 or_turned : (a b c : Bool) → (a || (b || c)) ≡ ((b || a) || c)
-or_turned true true c = refl
-or_turned true false c = refl
-or_turned false true c = refl
-or_turned false false c = refl
+or_turned a b c = sym (or_assoc a b c) ∙ ap (λ d. d || c) (or_comm a b)
 
 either-with : (path t : Set) (i : ℕ) → either path (with t i) ≡ either (with path i) t
 either-with path t i = same_set _ _ (λ k.
