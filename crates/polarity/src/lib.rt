@@ -1,0 +1,2 @@
+//! A polarity of few terms: settling, and the choice among proposals.
+#![tactic(auto)]
