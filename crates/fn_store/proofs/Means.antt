@@ -1,30 +1,29 @@
 -- Lists of terms that mean a function.
-use Rattle.std.proofs.Common.{◌≡◌, Bool, true, ◌∙◌, List, [], ◌∷◌, ap₂}
-use Rattle.std.specs.Prelude.{Result, Ok, Err, IfOk}
+use Rattle.std.proofs.Common.{◌≡◌, Bool, true, ◌∙◌, List, [], ◌∷◌, ◌++◌, ap₂}
 use Rattle.std.specs.List.{list_all, AllByRecursion}
-use Rattle.std.proofs.lemmas.Bool.{and_parts}
+use Rattle.std.proofs.lemmas.Bool.{and_parts, and_from}
+use Rattle.std.proofs.lemmas.List.Folds.{list_all-append}
 use Rattle.std.proofs.lemmas.List.Elements.{All-from_recursion}
 use Rattle.ae_base.specs.Mask.{Set, differ, first, inside}
 use Rattle.ae_base.specs.Cube.{Signs}
-use Rattle.ae_base.specs.Terms.{IsInOrder, product, exor_of}
+use Rattle.ae_base.specs.Terms.{IsInOrder, product}
 use Rattle.fn_store.specs.Davio.{IsExpansion}
-use Rattle.fn_store.specs.Scratch.{Means}
+use Rattle.fn_store.specs.Scratch.{IsReduced, Means}
+use Rattle.ae_base.proofs.Exor.{exor_of-append, keeps}
 use Rattle.fn_store.proofs.Expansions.{only}
-
-pub three-ok : {T E : Type 0} (r : Result T E) (P Q R S : T → Type 0) → IfOk r P → IfOk r Q → IfOk r R → ((x : T) → P x → Q x → R x → S x) → IfOk r S
-three-ok (Ok x) P Q R S p q s f = f x p q s
-three-ok (Err e) P Q R S p q s f = tt
 
 pub Means-agree : (p : Signs) (f g : Set → Bool) (ts : List Set) → ((x : Set) → f x ≡ g x) → Means p f ts → Means p g ts
 Means-agree p f g ts h m = record { order = m.order; below = m.below; value = λ x point. m.value x point ∙ h x }
 
-pub Means-exor : (p : Signs) (f g : Set → Bool) (ts us vs : List Set) → IsInOrder vs → ((h : Set → Bool) → exor_of h vs ≡ differ (exor_of h ts) (exor_of h us))
-    → ((h : Set → Bool) → list_all h ts ≡ true → list_all h us ≡ true → list_all h vs ≡ true) → Means p f ts → Means p g us → Means p (λ x. differ (f x) (g x)) vs
-Means-exor p f g ts us vs order same keeps m k = record {
-  order = order;
-  below = keeps (λ t. inside t (first p.n)) m.below k.below;
-  value = λ x point. same (λ t. product p t x) ∙ ap₂ differ (m.value x point) (k.value x point);
-}
+pub Means-exor : (p : Signs) (f g : Set → Bool) (ts us vs : List Set) → (IsInOrder ts → IsInOrder us → IsReduced (ts ++ us) vs) → Means p f ts → Means p g us → Means p (λ x. differ (f x) (g x)) vs
+Means-exor p f g ts us vs reduced m k =
+    let is : IsReduced (ts ++ us) vs = reduced m.order k.order in
+    let below = λ (t : Set). inside t (first p.n) in
+    record {
+      order = is.order;
+      below = keeps (ts ++ us) vs is.order is.same below (list_all-append below ts us ∙ and_from _ _ m.below k.below);
+      value = λ x point. is.same (λ t. product p t x) ∙ exor_of-append (λ t. product p t x) ts us ∙ ap₂ differ (m.value x point) (k.value x point);
+    }
 
 all_from : (h : Set → Bool) (ts : List Set) → list_all h ts ≡ true → AllByRecursion (λ t. h t ≡ true) ts
 all_from h [] e = tt

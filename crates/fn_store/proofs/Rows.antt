@@ -14,7 +14,7 @@ use Rattle.ae_base.proofs.InOrder.{from_Ordered}
 use Rattle.ae_base.proofs.Exor.{exor_of-append}
 use Rattle.ae_base.proofs.Literals.{product-with, product-empty, product-literals, literals-product}
 use Rattle.fn_store.specs.Davio.{IsExpansion}
-use Rattle.fn_store.specs.Scratch.{Means}
+use Rattle.fn_store.specs.Scratch.{IsReduced, Means}
 use Rattle.fn_store.proofs.Products.{inside-put}
 use Rattle.fn_store.proofs.Expansions.{terms_inside, means}
 use Rattle.fn_store.proofs.Means.{Means-agree, Means-exor, IsExpansion-means}
@@ -36,10 +36,8 @@ Means-expansion p f ts is = record { order = is.order; below = inside_all p f ts
 pub IsExpansion-own : (p : Signs) (f : Set → Bool) (ts : List Set) → IsExpansion p f ts → IsExpansion p (value p ts) ts
 IsExpansion-own p f ts is = IsExpansion-agree p f (value p ts) ts (λ x point. sym (means p f ts is x point)) is
 
-pub IsExpansion-sum : (p : Signs) (f g : Set → Bool) (ts us vs : List Set) → IsInOrder vs → ((h : Set → Bool) → exor_of h vs ≡ differ (exor_of h ts) (exor_of h us))
-    → ((h : Set → Bool) → list_all h ts ≡ true → list_all h us ≡ true → list_all h vs ≡ true) → IsExpansion p f ts → IsExpansion p g us → IsExpansion p (λ x. differ (f x) (g x)) vs
-IsExpansion-sum p f g ts us vs order same keeps m k =
-    IsExpansion-means p (λ x. differ (f x) (g x)) vs (Means-exor p f g ts us vs order same keeps (Means-expansion p f ts m) (Means-expansion p g us k))
+pub IsExpansion-sum : (p : Signs) (f g : Set → Bool) (ts us vs : List Set) → (IsInOrder ts → IsInOrder us → IsReduced (ts ++ us) vs) → IsExpansion p f ts → IsExpansion p g us → IsExpansion p (λ x. differ (f x) (g x)) vs
+IsExpansion-sum p f g ts us vs reduced m k = IsExpansion-means p (λ x. differ (f x) (g x)) vs (Means-exor p f g ts us vs reduced (Means-expansion p f ts m) (Means-expansion p g us k))
 
 -- ---- one term
 

@@ -1,5 +1,5 @@
 //! Expansions of sums and products of functions.
-ghost use Rattle.std.specs.Prelude.{◌≡◌, ◌&&◌, ◌<◌, Bool, true, IfOk, [], ◌∷◌};
+ghost use Rattle.std.specs.Prelude.{◌≡◌, ◌+◌, ◌&&◌, ◌<◌, ◌≤◌, Bool, true, IfOk, [], ◌∷◌, length};
 ghost use Rattle.ae_base.specs.Mask.{Set, differ, empty, with, first, inside};
 ghost use Rattle.ae_base.specs.Cube.{Signs};
 ghost use Rattle.ae_base.specs.Terms.{literal, product as product_of};
@@ -28,9 +28,10 @@ pub(crate) fn single(alloc: Global, j: u32) -> Result<Vec<Term>, Memory>
     Ok(terms)
 }
 
-/// The expansion of the EXOR of two functions.
-pub(crate) fn sum(alloc: Global, a: &[Term], b: &[Term]) -> Result<Vec<Term>, Memory>
-    ensures { IfOk result (λ ts. (p : Signs) (f g : Set → Bool) → IsExpansion p f a.now → IsExpansion p g b.now → IsExpansion p (λ x. differ (f x) (g x)) ts.items) }
+/// The expansion of the EXOR of two functions, in one pass over theirs. Where memory runs out, `Memory`.
+pub fn sum(alloc: Global, a: &[Term], b: &[Term]) -> Result<Vec<Term>, Memory>
+    ensures expansion { IfOk result (λ ts. (p : Signs) (f g : Set → Bool) → IsExpansion p f a.now → IsExpansion p g b.now → IsExpansion p (λ x. differ (f x) (g x)) ts.items) }
+    ensures count { IfOk result (λ ts. length ts.items ≤ length a.now + length b.now) }
 {
     exor(alloc, a, b)
 }

@@ -9,6 +9,7 @@ mod store;
 mod term_lists;
 mod terms;
 
+pub use combine::sum;
 pub use laws::{expansion_law, store_laws};
 pub use operations::{Op, replay, replay_law};
 pub use store::{FnRef, FnStore, TermsErr};
