@@ -110,9 +110,17 @@ placed-order t (u ∷ us) order = by_same (eqb t u) refl (is_lt (cmp_terms t u))
 
 -- ---- in order, by recursion
 
+abbrev pub After : Set → List Set → Type 0
+After t us = AllByRecursion (λ u. cmp_terms t u ≡ Less) us
+
 abbrev pub Ordered : List Set → Type 0
 Ordered [] = Unit {0}
-Ordered (t ∷ ts) = AllByRecursion (λ u. cmp_terms t u ≡ Less) ts × Ordered ts
+Ordered (t ∷ ts) = After t ts × Ordered ts
+
+pub Ordered-from : (ts : List Set) → IsInOrder ts → Ordered ts
+Ordered-from [] order = tt
+Ordered-from (t ∷ ts) order =
+    (recursion_from_All (λ u. cmp_terms t u ≡ Less) ts (λ i d l. order 0 (suc i) d (omega arith) (omega (arith, l))), Ordered-from ts (λ i j d l h. order (suc i) (suc j) d (omega arith) (omega (arith, h))))
 
 pub from_Ordered : (ts : List Set) → Ordered ts → IsInOrder ts
 from_Ordered [] h = λ i j d l k. absurd (omega (arith, k))

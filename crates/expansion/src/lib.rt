@@ -2,12 +2,14 @@
 #![tactic(auto)]
 
 mod expansion;
+mod flipped;
 mod functions;
 mod laws;
 mod limits;
 mod used;
 
 pub use expansion::{Expansion, pairs};
+pub use flipped::flip;
 pub use functions::{ExpandErr, expand};
 pub use laws::{even_law, expanded_law};
 pub use limits::{LISTS, TERMS};

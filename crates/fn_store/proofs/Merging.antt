@@ -7,7 +7,8 @@ use Rattle.ae_base.specs.Terms.{exor_of, IsInOrder}
 use Rattle.ae_base.proofs.Order.{less_trans}
 use Rattle.ae_base.proofs.Truth.{differ-assoc, differ-front, differ-same}
 use Rattle.fn_store.specs.Scratch.{IsReduced}
-use Rattle.fn_store.proofs.Lists.{Ordered, After, Ordered-from, from_Ordered, exor_of-append}
+use Rattle.ae_base.proofs.Exor.{exor_of-append}
+use Rattle.ae_base.proofs.InOrder.{Ordered, After, Ordered-from, from_Ordered}
 use Rattle.fn_store.proofs.Cancel.{all_skip, behind}
 
 -- ---- a term between two parts

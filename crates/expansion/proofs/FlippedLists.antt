@@ -1,0 +1,84 @@
+-- The lists of an expansion at the polarity that differs in one input.
+use Rattle.std.proofs.Common.{◌≡◌, ◌<◌, ◌≤◌, ◌+◌, ◌^◌, ◌∙◌, ℕ, Bool, true, List, [], ◌∷◌, length, get_or, take, take_all, refl, sym, ap, subst, arith, inl, inr, ne_eqb}
+use Rattle.std.proofs.lemmas.Bool.{cases_eq}
+use Rattle.std.specs.Prelude.{All}
+use Rattle.std.specs.List.{AllByRecursion, AllZip, sum_by}
+use Rattle.std.proofs.lemmas.List.Elements.{All-from_recursion, recursion_from_All, AllZip-get_or, length_all_zip}
+use Rattle.std.proofs.lemmas.List.Sums.{sum_by-cons}
+use Rattle.std.proofs.lemmas.Option.{get_or_from_slice_get, slice_get-get_or, slice_get_within}
+use Rattle.ae_base.specs.Mask.{Set, differ, has, first, inside}
+use Rattle.ae_base.specs.Cube.{Signs, IsSigns}
+use Rattle.ae_base.specs.Source.{on_set}
+use Rattle.ae_base.specs.Terms.{IsInOrder, value}
+use Rattle.ae_base.proofs.Truth.{differ-false}
+use Rattle.fn_store.specs.Davio.{IsExpansion}
+use Rattle.expansion.specs.Flipped.{flipped_polarity}
+use Rattle.expansion.specs.Functions.{KeepsFunctions}
+use Rattle.expansion.specs.Terms.{Terms, IsTerms, cost}
+use Rattle.expansion.proofs.Even.{has-flipped}
+use Rattle.expansion.proofs.Flips.{Laws}
+
+flipped_signs : (p : Signs) (j : ℕ) → IsSigns p → j < p.n → IsSigns (flipped_polarity p j)
+flipped_signs p j (few, below) input = (
+  few,
+  λ k m.
+      elim (cases_eq k j) [
+        | inl e ↦ omega (arith, e, input)
+        | inr ne ↦ below k (sym (has-flipped j p.plain k ∙ ap (differ (has p.plain k)) (ne_eqb k j ne) ∙ differ-false (has p.plain k)) ∙ m)
+      ],
+)
+
+-- one list at the two polarities
+pub record IsFlip (j : ℕ) (ts us : List Set) : Type 0 where
+  pub expansion : (p : Signs) (f : Set → Bool) → IsExpansion p f ts → IsExpansion (flipped_polarity p j) f us
+  pub count : length us ≤ length ts + length ts
+
+flips_cost : (j : ℕ) (tss uss : List (List Set)) → AllZip (IsFlip j) tss uss → sum_by length uss ≤ sum_by length tss + sum_by length tss
+flips_cost j [] [] h = omega arith
+flips_cost j [] (us ∷ uss) h = absurd h
+flips_cost j (ts ∷ tss) [] h = absurd h
+flips_cost j (ts ∷ tss) (us ∷ uss) (h, hs) = omega (arith, h.count, flips_cost j tss uss hs, sum_by-cons length us uss, sum_by-cons length ts tss)
+
+-- what each flip gives holds of each list
+flips_each : (j : ℕ) (P Q : List Set → Type 0) → ((ts us : List Set) → P ts → IsFlip j ts us → Q us) → (tss uss : List (List Set)) → AllZip (IsFlip j) tss uss → AllByRecursion P tss → AllByRecursion Q uss
+flips_each j P Q step [] [] h all = tt
+flips_each j P Q step [] (us ∷ uss) h all = absurd h
+flips_each j P Q step (ts ∷ tss) [] h all = absurd h
+flips_each j P Q step (ts ∷ tss) (us ∷ uss) (h, hs) (p, ps) = (step ts us p h, flips_each j P Q step tss uss hs ps)
+
+pub flipped_keeps : (e : Terms) (j : ℕ) (outs : List (List Set)) → AllZip (IsFlip j) e.outs outs → KeepsFunctions e (record { polarity = flipped_polarity e.polarity j; outs = outs })
+flipped_keeps e j outs flips s are = record {
+  inputs = are.inputs;
+  polarity = refl;
+  outputs = sym (length_all_zip (IsFlip j) e.outs outs flips) ∙ are.outputs;
+  each = λ o us there.
+      let within : o < length e.outs = omega (arith, slice_get_within outs o us there, length_all_zip (IsFlip j) e.outs outs flips) in
+      let flip : IsFlip j (get_or e.outs o []) (get_or outs o []) = AllZip-get_or (IsFlip j) e.outs outs o [] [] flips within in
+      rw (sym (get_or_from_slice_get outs o us [] there)) (flip.expansion e.polarity (on_set s o) (are.each o (get_or e.outs o []) (slice_get-get_or e.outs o [] within)));
+}
+
+pub flipped_terms : (laws : Laws) (e : Terms) (j : ℕ) (outs : List (List Set)) → IsTerms e → j < e.polarity.n → cost e < 2 ^ 61 → AllZip (IsFlip j) e.outs outs
+    → IsTerms (record { polarity = flipped_polarity e.polarity j; outs = outs })
+flipped_terms laws e j outs is input cheap flips = record {
+  signs = flipped_signs e.polarity j is.signs input;
+  below = All-from_recursion _ outs (flips_each j Own (λ us. All (λ t. inside t (first e.polarity.n) ≡ true) us) (λ ts us one flip. laws.below q (value e.polarity ts) us (flip.expansion e.polarity (value e.polarity ts) one)) e.outs outs flips own);
+  order = All-from_recursion _ outs (flips_each j Own IsInOrder (λ ts us one flip. (flip.expansion e.polarity (value e.polarity ts) one).order) e.outs outs flips own);
+  few_lists = omega (arith, length_all_zip (IsFlip j) e.outs outs flips, is.few_lists);
+  few_terms = omega (arith, flips_cost j e.outs outs flips, cheap);
+}
+  where
+    q : Signs
+    q = flipped_polarity e.polarity j
+
+    Own : List Set → Type 0
+    Own ts = IsExpansion e.polarity (value e.polarity ts) ts
+
+    own_from : (tss : List (List Set)) → AllByRecursion IsInOrder tss → AllByRecursion (λ ts. All (λ t. inside t (first e.polarity.n) ≡ true) ts) tss → AllByRecursion Own tss
+    own_from [] order below = tt
+    own_from (ts ∷ tss) (order, orders) (below, belows) = (laws.only e.polarity (value e.polarity ts) ts order below (λ x point. refl), own_from tss orders belows)
+
+    own : AllByRecursion Own e.outs
+    own = own_from e.outs (recursion_from_All IsInOrder e.outs is.order) (recursion_from_All _ e.outs is.below)
+
+pub all_flips : (j k : ℕ) (tss uss lists : List (List Set)) → lists ≡ tss → length lists ≤ k → AllZip (IsFlip j) (take k tss) uss → AllZip (IsFlip j) tss uss
+all_flips j k tss uss lists is all flips = subst (λ front. AllZip (IsFlip j) front uss) (take_all k tss (omega (arith, all, ap length is))) flips
