@@ -1,9 +1,7 @@
 -- Steps of the loops that build the network.
-use Rattle.std.proofs.Common.{◌≡◌, ℕ, zero, suc, ◌+◌, ◌<◌, ◌≤◌, true, cond, inl, inr, List, [], ◌∷◌, ◌++◌, length, map, get_or, drop, refl, sym, ap, ◌∙◌, arith, append_assoc, length-append, add-one, drop-cons, ne_eqb, eq-eqb, eqb, length-drop, not, ap₂}
-use Rattle.std.specs.Fmt.{decimal}
+use Rattle.std.proofs.Common.{◌≡◌, ℕ, zero, suc, ◌+◌, ◌<◌, ◌≤◌, true, List, [], ◌∷◌, ◌++◌, length, map, get_or, drop, refl, sym, ap, ◌∙◌, arith, append_assoc, length-append, add-one, drop-cons, ne_eqb, eq-eqb, eqb, not, ap₂}
 use Rattle.std.specs.List.{flat_map}
-use Rattle.std.specs.Prelude.{All, codes}
-use Rattle.std.proofs.lemmas.Bool.{cases_eq}
+use Rattle.std.specs.Prelude.{All}
 use Rattle.std.proofs.lemmas.List.{length-map}
 use Rattle.std.proofs.lemmas.List.Concat.{length-flat_map}
 use Rattle.std.proofs.lemmas.List.Elements.{All-from_recursion, recursion_from_All}
@@ -12,13 +10,11 @@ use Rattle.ae_base.specs.declared.limits.TheConstants.{NET_LINES, PINS}
 use Rattle.ae_base.proofs.Members.{length-members}
 use Rattle.ae_base.proofs.Elements.{length_filter_le}
 use Rattle.ae_base.proofs.Distinct.{each-filter}
-use Rattle.ae_net.specs.Gates.{exor}
 use Rattle.ae_net.specs.Names.{inner}
 use Rattle.ae_net.specs.declared.net.Gate.{Gate}
 use Rattle.expansion.specs.Terms.{Terms, cost}
-use Rattle.cascade.specs.Left.{links_of}
 use Rattle.cascade.specs.Plan.{IsChain, HasRoom}
-use Rattle.cascade.specs.Reddy.{lines, term_signal, start, rest, inner_gates, chain, chains, ends, gates_for, place_of}
+use Rattle.cascade.specs.Reddy.{lines, start, rest, inner_gates, chain, chains, ends, gates_for, place_of}
 use Rattle.cascade.specs.declared.limits.TheConstants.{REDDY_TERMS}
 use Rattle.cascade.specs.declared.parts.Chain.{Chain}
 use Rattle.cascade.proofs.Law.{length-chain}
@@ -45,28 +41,6 @@ place_on xs x i l ne h = omega (arith, h, place_more xs x i l ne)
 
 pub few_pins : (n : ℕ) (t : Set) (f : ℕ → ℕ) → inside t (first n) ≡ true → n ≤ NET_LINES → length (map f (members t)) ≤ PINS
 few_pins n t f below few = omega (arith, length-map (members t) f, length-members n t below)
-
-links_step : (k : ℕ) (e : Terms) (out : List ℕ) (x i y : ℕ) (t : Set) (ts : List Set) → links_of k e out x i y (t ∷ ts) ≡ exor (cond (eqb (length ts) 0) out (inner k (codes "x" ++ decimal (suc x)))) y (term_signal e t) ∷ links_of k e out (suc x) (suc i) (lines e + i) ts
-links_step k e out x i y t [] = refl
-links_step k e out x i y t (u ∷ us) = rw (ne_eqb (suc (length us)) 0 (λ z. absurd (omega (arith, z)))) refl
-
--- the gates of the terms that are left; z is the line of the gate that is made
-pub links_more : (k : ℕ) (e : Terms) (out : List ℕ) (x i y d n : ℕ) (ts : List Set) (now all : List Gate) (z : ℕ) → n ≡ length ts → d < n → z ≡ lines e + (i + d)
-    → now ++ links_of k e out (x + d) (i + d) y (drop d ts) ≡ all
-    → (now ++ exor (cond (eqb (d + 1) n) out (inner k (codes "x" ++ decimal (suc (x + d))))) y (term_signal e (get_or ts d 0)) ∷ []) ++ links_of k e out (x + (d + 1)) (i + (d + 1)) z (drop (d + 1) ts) ≡ all
-links_more k e out x i y d n ts now all z same l z_is h =
-    let z1 : x + (d + 1) ≡ suc (x + d) = omega arith in
-    let z2 : i + (d + 1) ≡ suc (i + d) = omega arith in
-    let last : eqb (d + 1) n ≡ eqb (length (drop (suc d) ts)) 0 = same_test same in
-    append_assoc now (exor (cond (eqb (d + 1) n) out (inner k (codes "x" ++ decimal (suc (x + d))))) y (term_signal e (get_or ts d 0)) ∷ []) _
-    ∙ rw (z1, z2, z_is, last, add-one d) (sym (ap (λ rest. now ++ rest) (ap (λ rest. links_of k e out (x + d) (i + d) y rest) (drop-cons ts d 0 (omega arith)) ∙ links_step k e out (x + d) (i + d) y (get_or ts d 0) (drop (suc d) ts))))
-    ∙ h
-  where
-    same_test : n ≡ length ts → eqb (d + 1) n ≡ eqb (length (drop (suc d) ts)) 0
-    same_test e0 = elim (cases_eq (d + 1) n) [
-      | inl a ↦ rw (eq-eqb (d + 1) n a, eq-eqb (length (drop (suc d) ts)) 0 (omega (arith, length-drop (suc d) ts))) refl
-      | inr b ↦ rw (ne_eqb (d + 1) n b, ne_eqb (length (drop (suc d) ts)) 0 (λ z. absurd (omega (arith, z, length-drop (suc d) ts)))) refl
-    ]
 
 pub rest_inside : (n : ℕ) (ts : List Set) → All (λ t. inside t (first n) ≡ true) ts → All (λ t. inside t (first n) ≡ true) (rest ts)
 rest_inside n ts h = All-from_recursion _ (rest ts) (each-filter (λ t. inside t (first n) ≡ true) (λ t. not (eqb t empty)) ts (recursion_from_All _ ts h))

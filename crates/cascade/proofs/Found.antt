@@ -1,15 +1,11 @@
 -- The places of elements of lists, and the terms that stand in the expansions.
-use Rattle.std.proofs.Common.{◌≡◌, ◌≢◌, ℕ, zero, suc, ◌<◌, Bool, true, false, ◌||◌, cond, inl, inr, List, [], ◌∷◌, length, get_or, refl, sym, ap, ◌∙◌, subst, arith, eqb, eqb-true, eq-eqb, ne_eqb}
-use Rattle.std.specs.Prelude.{Some, All, filter, slice_get}
-use Rattle.std.specs.List.{list_any, flat_map, AllByRecursion}
-use Rattle.std.proofs.lemmas.Bool.{cases_eq, false≢true, or_cases, or_left, or_right}
+use Rattle.std.proofs.Common.{◌≡◌, ◌≢◌, ℕ, zero, suc, ◌<◌, true, inl, inr, List, [], ◌∷◌, length, get_or, refl, sym, ap, ◌∙◌, arith, eqb, eq-eqb, ne_eqb}
+use Rattle.std.specs.Prelude.{All, filter}
+use Rattle.std.specs.List.{list_any, flat_map}
+use Rattle.std.proofs.lemmas.Bool.{cases_eq, false≢true}
 use Rattle.std.proofs.lemmas.List.Elements.{All-from_recursion, recursion_from_All}
-use Rattle.std.proofs.lemmas.List.Folds.{Any-from_list_any}
-use Rattle.std.proofs.lemmas.List.Kept.{AllPairs-from_increasing}
-use Rattle.std.proofs.lemmas.Option.{slice_get_within, slice_get-get_or, get_or_from_slice_get}
-use Rattle.ae_base.specs.Mask.{Set, first, inside, members}
+use Rattle.ae_base.specs.Mask.{Set, first, inside}
 use Rattle.ae_base.proofs.InOrder.{in_order-order, any-in_order}
-use Rattle.ae_base.proofs.Members.{members-increasing}
 use Rattle.ae_base.proofs.Order.{less_apart}
 use Rattle.ae_base.proofs.Distinct.{Distinct, Distinct-from_AllPairs}
 use Rattle.ae_base.proofs.Elements.{any_flat, All-get, any_filter_parts, any_found, each_at}

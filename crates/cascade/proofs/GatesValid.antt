@@ -1,20 +1,19 @@
 -- The gates of the Reddy network are gates: their pins are earlier signals, and their rows hold positions of pins.
-use Rattle.std.proofs.Common.{◌≡◌, ◌≢◌, ℕ, zero, suc, ◌+◌, ◌-◌, ◌<◌, ◌≤◌, ◌^◌, Bool, true, false, cond, inl, inr, List, [], ◌∷◌, ◌++◌, length, map, refl, sym, ap, ◌∙◌, arith, eqb, eq-eqb, ne_eqb}
-use Rattle.std.specs.Prelude.{slice_index, filter, codes, All}
-use Rattle.std.specs.List.{list_any, range_with_len, AllByRecursion}
+use Rattle.std.proofs.Common.{◌≡◌, ◌≢◌, ℕ, suc, ◌+◌, ◌-◌, ◌<◌, ◌≤◌, ◌^◌, Bool, true, false, cond, inl, inr, List, [], ◌∷◌, ◌++◌, length, map, refl, sym, ◌∙◌, arith, eqb, eq-eqb, ne_eqb}
+use Rattle.std.specs.Prelude.{slice_index, codes, All}
+use Rattle.std.specs.List.{list_any, AllByRecursion}
 use Rattle.std.specs.Fmt.{decimal}
-use Rattle.std.proofs.lemmas.Bool.{cases_eq, cases_Bool, false≢true, or_left, or_right}
+use Rattle.std.proofs.lemmas.Bool.{cases_eq, cases_Bool, false≢true}
 use Rattle.std.proofs.lemmas.List.{length-map}
 use Rattle.std.proofs.lemmas.List.Elements.{All-from_recursion, All-map, All-weaker}
 use Rattle.ae_base.specs.Mask.{Set, has, empty, first, inside, members}
-use Rattle.ae_base.proofs.Members.{members-has, members-filter, no_members, first_member, length-members}
-use Rattle.std.proofs.lemmas.List.FromFn.{length-range_with_len}
+use Rattle.ae_base.proofs.Members.{members-has, first_member, length-members}
 use Rattle.ae_net.specs.Valid.{IsGate}
 use Rattle.expansion.specs.Terms.{Terms}
 use Rattle.ae_base.specs.declared.limits.TheConstants.{NET_LINES, SOURCE_NAME_BYTES}
 use Rattle.ae_base.specs.Name.{is_name}
 use Rattle.ae_base.proofs.Sets.{inside-below}
-use Rattle.ae_base.proofs.Elements.{length_filter_le, each_member, range_below}
+use Rattle.ae_base.proofs.Elements.{each_member, range_below}
 use Rattle.ae_base.proofs.Distinct.{each_weaker}
 use Rattle.ae_net.specs.Lead.{IsLetter}
 use Rattle.ae_net.specs.Names.{inner}

@@ -11,7 +11,7 @@ use Rattle.std.specs.declared.cmp.Ordering.TheVariants.{Less}
 use Rattle.std.proofs.Math.Bool.{and-true}
 use Rattle.std.proofs.lemmas.Map.Keys.{any_passes_from_place}
 use Rattle.ae_base.specs.Mask.{Set, differ, has, empty, first, inside, len, members, cmp_terms}
-use Rattle.ae_base.proofs.Sets.{same_set, has-empty, has-where_below, inside-below}
+use Rattle.ae_base.proofs.Sets.{has-empty, has-where_below, inside-below}
 use Rattle.ae_base.proofs.Members.{members-has, cmp_same, len-members, len-none, no_members}
 use Rattle.ae_net.specs.declared.net.Gate.{Gate}
 use Rattle.ae_net.specs.declared.net.Fault.{Fault}
@@ -23,7 +23,7 @@ use Rattle.ae_net.proofs.Runs.{IsRun-run, out_of_run}
 use Rattle.expansion.specs.Terms.{Terms, IsTerms}
 use Rattle.ae_base.specs.Terms.{IsInOrder, literal, product, exor_of, value}
 use Rattle.ae_base.proofs.InOrder.{in_order-tail, any-in_order}
-use Rattle.ae_base.proofs.Truth.{differ-assoc, differ-front, differ-past}
+use Rattle.ae_base.proofs.Truth.{differ-front, differ-past}
 use Rattle.ae_base.proofs.Distinct.{each_weaker}
 use Rattle.ae_base.proofs.Elements.{any_weaker, any_flat, any_kept, any_range, list_all_agree, filter_all}
 use Rattle.ae_net.specs.Lead.{lead}

@@ -1,17 +1,12 @@
 -- The first vectors, as sets are put together.
-use Rattle.std.proofs.Common.{◌≡◌, ◌≢◌, ℕ, ◌≤◌, Bool, true, false, not, ◌&&◌, ◌||◌, cond, inl, inr, List, [], ◌∷◌, ◌++◌, length, refl, sym, ap, ap₂, ◌∙◌, eqb, eqb-true, eq-eqb, ne_eqb, ltb, append-nil, arith}
-use Rattle.std.specs.List.{list_any, AllByRecursion}
-use Rattle.std.specs.Prelude.{filter}
-use Rattle.std.proofs.lemmas.Bool.{le-ltb, lt-ltb, cases_Bool, false≢true}
-use Rattle.std.proofs.lemmas.List.Elements.{All-filter, All-from_recursion, filter-append, filter_passes, recursion_from_All}
-use Rattle.std.proofs.lemmas.List.Kept.{AllPairs-filter}
+use Rattle.std.proofs.Common.{◌≡◌, ℕ, Bool, true, false, not, ◌&&◌, cond, List, [], ◌∷◌, refl, sym, ap, ap₂, ◌∙◌, ltb, arith}
+use Rattle.std.proofs.lemmas.Bool.{le-ltb, lt-ltb}
 use Rattle.ae_base.specs.Cube.{Signs}
 use Rattle.ae_base.specs.Mask.{members, Set, differ, has, both, xor}
 use Rattle.ae_base.specs.Lists.{without_repeats}
 use Rattle.ae_base.proofs.Members.{members-filter}
 use Rattle.ae_base.proofs.Sets.{inside-from, same_set, has-both, has-xor, has-where_below}
-use Rattle.ae_base.proofs.Distinct.{Distinct, AllPairs-from_Distinct, Distinct-from_AllPairs, each_weaker}
-use Rattle.ae_base.proofs.Elements.{filter_range_agree, filter_all, length_filter_le}
+use Rattle.ae_base.proofs.Elements.{filter_range_agree}
 use Rattle.ae_base.proofs.Once.{added, add_last}
 use Rattle.expansion.specs.Terms.{Terms, is_used, used_inputs}
 use Rattle.expansion.proofs.Even.{has-used}

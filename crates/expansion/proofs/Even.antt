@@ -14,7 +14,7 @@ use Rattle.ae_base.specs.Terms.{IsPoint, literal, product, value}
 use Rattle.ae_base.proofs.Sets.{has-empty, has-with, has-xor, has-where_below, inside-below, inside-from}
 use Rattle.ae_base.proofs.Truth.{or-false}
 use Rattle.ae_base.proofs.Exor.{exor_of_agree, odd_count, all_or_others}
-use Rattle.ae_base.proofs.Literals.{product-literals, literals-product, product_false}
+use Rattle.ae_base.proofs.Literals.{literals-product, product_false}
 use Rattle.ae_base.proofs.Elements.{Passing, any_found}
 use Rattle.fn_store.specs.Davio.{IsExpansion}
 use Rattle.fn_store.proofs.Expansions.{terms_inside}

@@ -120,9 +120,6 @@ pub record Summed (start now : Functions) (refs : List FnRef) (products : List P
   pub refs_live : AreLive now refs
   pub shows : (fs : ℕ → Set → Bool) → ShowEach start refs fs → Shows now some (λ x. some_holds (take i products) (ones_at (length refs) fs x))
 
-pub Summed-start : (start : Functions) (refs : List FnRef) (products : List Product) (some : FnRef) → Keeps start start → AreLive start refs → Shows start some (λ x. false) → Summed start start refs products some 0
-Summed-start start refs products some keeps live none = record { keeps = keeps; live = none.live; refs_live = live; shows = λ fs each. none }
-
 pub Summed-step : (start now next : Functions) (refs : List FnRef) (products : List Product) (some more : FnRef) (c : Product) (i : ℕ) → i < length products → c ≡ get_or products i c → Summed start now refs products some i
     → ((f : Set → Bool) (fs : ℕ → Set → Bool) → Shows now some f → ShowEach now refs fs → Shows next more (λ x. f x || holds c (ones_at (length refs) fs x))) → IsLive next more → Keeps now next
     → Summed start next refs products more (i + 1)

@@ -1,12 +1,11 @@
 -- References for the signals of a network.
 use Rattle.std.proofs.Common.{rules, Bool, cond, ◌&&◌, subst, not, List, [], ◌∷◌, ◌++◌, length, ℕ, ◌+◌, ◌<◌, ◌∙◌, ◌≡◌, ap, refl, sym, arith}
-use Rattle.std.specs.Prelude.{All, Option, slice_index, slice_get, Some}
+use Rattle.std.specs.Prelude.{Option, slice_index, slice_get, Some}
 use Rattle.std.proofs.lemmas.Bool.{lt-ltb}
 use Rattle.std.proofs.lemmas.List.{length_push}
-use Rattle.std.proofs.lemmas.List.Elements.{All-weaker}
 use Rattle.std.proofs.lemmas.Option.{slice_get_within}
 use Rattle.ae_base.specs.Mask.{Set, has}
-use Rattle.ae_base.specs.Cube.{IsOver, Product}
+use Rattle.ae_base.specs.Cube.{Product}
 use Rattle.ae_base.proofs.Sets.{has-where_below}
 use Rattle.ae_net.specs.declared.net.Gate.{Gate}
 use Rattle.ae_net.specs.declared.net.Fault.{Fault}
@@ -14,7 +13,6 @@ use Rattle.ae_net.specs.declared.net.Place.TheVariants.{Stem, Pin, Port}
 use Rattle.ae_net.specs.Network.{Network, signals}
 use Rattle.ae_net.specs.Out.{out}
 use Rattle.ae_net.specs.Run.{IsRun, seen, table, ones_seen, value_of, ports_of}
-use Rattle.ae_net.specs.Valid.{IsGate, IsRowOf}
 use Rattle.fn_store.specs.Cubes.{some_holds}
 use Rattle.fn_store.specs.declared.store.FnRef.{FnRef}
 use Rattle.fn_store.specs.Functions.{Functions, IsLive, Shows, Keeps}
@@ -55,10 +53,6 @@ inputs-shown start now n fault refs k all shown = record {
 }
 
 -- ---- gates
-
--- the rows of a gate are products over its pins
-pub rows-over : (s : ℕ) (gate : Gate) (m : ℕ) → m ≡ length gate.pins → IsGate s gate → All (IsOver m) gate.rows
-rows-over s gate m e is = rw e (All-weaker (IsRowOf (length gate.pins)) (IsOver (length gate.pins)) (λ row h. (h.is_product, h.pos, h.neg)) gate.rows is.rows)
 
 -- some row holds of what the pins see
 pub rows-shown : (s t : Functions) (gate : Gate) (fault : Option Fault) (i : ℕ) (signals refs : List FnRef) (read : List ℕ) (rows : List Product) (w : Set → List Bool) (r : FnRef) → read ≡ gate.pins → rows ≡ gate.rows

@@ -1,7 +1,5 @@
 -- The error below of a stop that a call answers.
-use Rattle.std.proofs.Common.{◌≡◌, ◌∙◌, ℕ, List, Option, Result, Err, refl, sym, subst}
-use Rattle.std.specs.Prelude.{IsErrAnd}
-use Rattle.std.proofs.lemmas.Result.{err_from_is_err_and}
+use Rattle.std.proofs.Common.{◌≡◌, ℕ, List, Option, Err, refl, subst}
 use Rattle.ae_outside.specs.Counts.{Tally}
 use Rattle.ae_outside.specs.Files.{Shelf}
 use Rattle.synth_core.specs.Asked.{HasTooMany}

@@ -1,11 +1,11 @@
 -- The vector file of the network of names and expansions keeps the rules of a vector file.
-use Rattle.std.proofs.Common.{◌≡◌, ◌<◌, ◌≤◌, ◌+◌, ℕ, suc, Bool, true, List, [], ◌∷◌, ◌++◌, length, map, get_or, refl, sym, ap, ◌∙◌, subst, arith}
+use Rattle.std.proofs.Common.{◌≡◌, ◌≤◌, ◌+◌, ℕ, suc, Bool, true, List, [], ◌∷◌, ◌++◌, length, map, get_or, refl, sym, ap, ◌∙◌, subst, arith}
 use Rattle.std.specs.Prelude.{All, None}
 use Rattle.std.proofs.lemmas.Bool.{and_parts}
 use Rattle.std.proofs.Math.Seq.{drop-append_seam}
 use Rattle.std.proofs.lemmas.List.{length-append, length-map}
 use Rattle.std.proofs.lemmas.List.Elements.{All-append, All-map, All-drop, All-weaker}
-use Rattle.ae_base.specs.Mask.{Set, has, first, where_below}
+use Rattle.ae_base.specs.Mask.{Set, first, where_below}
 use Rattle.ae_base.specs.Cube.{Signs}
 use Rattle.ae_base.specs.declared.limits.TheConstants.{SOURCE_NAME_BYTES, WRITTEN_LINES}
 use Rattle.ae_base.specs.Name.{is_name}

@@ -1,5 +1,5 @@
 -- What the network of a source's expansions shows.
-use Rattle.std.proofs.Common.{◌≡◌, ◌<◌, ℕ, Bool, true, false, not, ◌&&◌, ◌||◌, cond, List, [], ◌∷◌, map, refl, sym, ap, ap₂, ◌∙◌, eq-eqb, ne_eqb, arith}
+use Rattle.std.proofs.Common.{◌≡◌, ◌<◌, ℕ, true, false, not, ◌||◌, cond, List, [], ◌∷◌, refl, sym, ap, ap₂, ◌∙◌, eq-eqb, ne_eqb, arith}
 use Rattle.std.specs.List.{AllByRecursion}
 use Rattle.ae_base.specs.Mask.{Set, differ, has, first, inside, with, members}
 use Rattle.ae_base.specs.Cube.{Signs}

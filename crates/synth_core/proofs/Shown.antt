@@ -92,7 +92,7 @@ module _ (n : Network) (valid : IsValid n) where
   -- what each signal's name keeps, the names of the inputs and of the ports keep
   pub all_listed : (P : List ℕ → Type 0) → All P all_names → All P listed
   all_listed P all = All-from_get_or P listed [] (λ i l.
-    elim (cases_lt i k) [
-      | inl low ↦ subst P (sym (input_name i [] low)) (All-get_or P all_names i [] (omega (arith, low, length-all)) all)
-      | inr above ↦ subst P (sym (port_name i [] above l)) (All-get_or P all_names (port_signal i) [] (omega (arith, (port_range i above l).1, length-all)) all)
-    ])
+      elim (cases_lt i k) [
+        | inl low ↦ subst P (sym (input_name i [] low)) (All-get_or P all_names i [] (omega (arith, low, length-all)) all)
+        | inr above ↦ subst P (sym (port_name i [] above l)) (All-get_or P all_names (port_signal i) [] (omega (arith, (port_range i above l).1, length-all)) all)
+      ])

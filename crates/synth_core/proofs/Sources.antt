@@ -1,19 +1,17 @@
 -- What is read of a cover and of a network is what the source says.
-use Rattle.std.proofs.Common.{◌≡◌, ◌<◌, ◌≤◌, ◌+◌, ◌-◌, ℕ, zero, suc, Bool, true, false, cond, List, [], ◌∷◌, ◌++◌, length, map, get_or, refl, sym, ap, ◌∙◌, subst, arith}
-use Rattle.std.specs.Prelude.{All, Some, None, Result, Err, IsErrAnd, slice_get}
-use Rattle.std.proofs.lemmas.Result.{err_from_is_err_and}
+use Rattle.std.proofs.Common.{◌≡◌, ◌≤◌, ◌-◌, ℕ, Bool, true, List, length, get_or, refl, sym, ap, ◌∙◌, subst, arith}
+use Rattle.std.specs.Prelude.{All, Some, None, slice_get}
 use Rattle.std.proofs.lemmas.Bool.{and_parts, leb-true}
 use Rattle.std.proofs.lemmas.Option.{slice_get-get_or}
 use Rattle.std.proofs.lemmas.List.{length-map}
-use Rattle.std.proofs.lemmas.List.Elements.{All-append, All-map, All-weaker}
+use Rattle.std.proofs.lemmas.List.Elements.{All-weaker}
 use Rattle.ae_base.specs.Mask.{Set, has}
 use Rattle.ae_base.specs.Cube.{Signs}
 use Rattle.ae_base.specs.Name.{is_name, is_source_name}
-use Rattle.ae_base.specs.Source.{Source, Specified, is_on, on_set}
-use Rattle.ae_base.specs.Source.Specified.{On, Off}
+use Rattle.ae_base.specs.Source.{Source, on_set}
+use Rattle.ae_base.specs.Source.Specified.{Off}
 use Rattle.ae_base.specs.declared.limits.TheConstants.{SOURCE_NAME_BYTES}
 use Rattle.ae_base.proofs.Specified.{on_where}
-use Rattle.ae_cover.specs.Cover.{Table, some_row, is_one, source_of}
 use Rattle.ae_net.specs.Names.{IsNames}
 use Rattle.ae_net.specs.Network.{Network, gate_at}
 use Rattle.ae_net.specs.Out.{out}
@@ -22,7 +20,6 @@ use Rattle.ae_net.specs.Valid.{IsValid}
 use Rattle.blif_read.specs.Limits.{KeepsLimits}
 use Rattle.blif_read.specs.declared.fault.NetLimits.TheVariants.{Source as source_limits}
 use Rattle.fn_store.specs.Functions.{Functions, IsLive, Shows, AgreeAt}
-use Rattle.fn_store.specs.Davio.{IsExpansion}
 use Rattle.net_fn.specs.Refs.{ShowEach}
 use Rattle.fn_store.specs.declared.store.FnRef.{FnRef}
 use Rattle.expansion.specs.Stores.{expanded}
@@ -78,7 +75,7 @@ polarity_inputs Positive n = refl
 
 module _ (s : Source) (p : Signs) (r : Parts) (is : IsSourced s p r)
     (law : (source : Source) (s : Functions) (refs : List FnRef) → s.polarity.n ≡ length source.inputs → length refs ≡ length source.outputs
-        → ((o : ℕ) (r : FnRef) → slice_get refs o ≡ Some r → Shows s r (on_set source o)) → AreExpansions source s.polarity (expanded s refs)) where
+    → ((o : ℕ) (r : FnRef) → slice_get refs o ≡ Some r → Shows s r (on_set source o)) → AreExpansions source s.polarity (expanded s refs)) where
   are_expansions : AreExpansions s p (expanded r.functions r.outputs)
   are_expansions =
       subst (λ q. AreExpansions s q (expanded r.functions r.outputs)) is.polarity

@@ -1,5 +1,5 @@
 -- What is synthesised of a source's expansions.
-use Rattle.std.proofs.Common.{◌≡◌, ◌<◌, ◌≤◌, ◌+◌, ℕ, suc, Bool, true, not, inr, List, [], ◌∷◌, ◌++◌, length, map, get_or, refl, sym, ap, ap₂, ◌∙◌, subst, arith}
+use Rattle.std.proofs.Common.{◌≡◌, ◌<◌, ◌≤◌, ℕ, Bool, true, not, inr, List, [], length, get_or, refl, sym, ap, ap₂, ◌∙◌, subst, arith}
 use Rattle.std.specs.Prelude.{All, Option, Some, None, Ok, slice_get}
 use Rattle.std.proofs.lemmas.List.Elements.{recursion_from_All, All-map}
 use Rattle.std.proofs.lemmas.Option.{slice_get-get_or}
@@ -24,7 +24,7 @@ use Rattle.expansion.specs.Functions.{AreExpansions}
 use Rattle.expansion.specs.Terms.{Terms}
 use Rattle.fn_store.specs.Davio.{IsExpansion}
 use Rattle.cascade.specs.Reddy.{reddy_net}
-use Rattle.cascade.specs.Shows.{CanBuild, ShowsFunctions, ShowsComplements, HasInputNames, HasPortNames}
+use Rattle.cascade.specs.Shows.{ShowsFunctions, ShowsComplements, HasInputNames, HasPortNames}
 use Rattle.input_tests.specs.Complete.{DetectsAll}
 use Rattle.input_tests.specs.Whole.{cascade_tests, vector_bound}
 use Rattle.vec_text.specs.declared.file.Form.TheVariants.{Reddy}

@@ -1,7 +1,7 @@
 -- Each fault at a site of an input's literal is detected by one of two vectors as in Line. So those of an input that an expansion holds an
 -- odd number of times are detected.
 use Rattle.std.proofs.Common.{◌≡◌, ◌≢◌, ℕ, ◌+◌, ◌%◌, ◌<◌, ◌≤◌, Bool, true, false, not, ◌&&◌, cond, inl, inr, List, length, get_or, sym, ap, ◌∙◌, arith, eqb, eq-eqb}
-use Rattle.std.specs.Prelude.{◌↔◌, Some, count_by, slice_get, slice_index}
+use Rattle.std.specs.Prelude.{◌↔◌, count_by, slice_get, slice_index}
 use Rattle.std.specs.List.{list_any, range_with_len}
 use Rattle.std.proofs.lemmas.Bool.{and_parts, and_from, cases_Bool, ltb-true, not-true}
 use Rattle.std.proofs.lemmas.List.FromFn.{get_or-range_with_len, length-range_with_len}

@@ -1,6 +1,4 @@
-use Rattle.std.proofs.Common.{◌≡◌, subst, sym, ap, ◌∙◌}
-use Rattle.ae_net.specs.Implements.{port_names}
-use Rattle.ae_net.specs.Names.{IsNames}
+use Rattle.std.proofs.Common.{◌∙◌}
 use Rattle.synth_core.proofs.Sources.{net_named}
 use Rattle.synth_core.proofs.read.net_names.Goals as goal
 

@@ -21,10 +21,10 @@ returns c =
     IfOk-weaker c.made_of.result (λ made. texts_of made ≡ record { net_text = blif_text c.in_ok-net.net; vec_text = vector_text c.in_ok-file.file; summary = x })
     (λ made. (s : Source) → names ≡ names_of s → AreExpansions s e.polarity e → IsSynthesised Reddy e.polarity s e (texts_of made))
     (λ made is s named are.
-        let ready : AreReady (names_of s) e = subst (λ m. AreReady m e) named c.in_ok-file.ensures.ready in
-        let net_of : c.in_ok-net.net ≡ reddy_net (names_of s) e = subst (λ m. c.in_ok-net.net ≡ reddy_net m e) named net_is in
-        let file_of : c.in_ok-file.file ≡ reddy_file (names_of s) e = subst (λ m. c.in_ok-file.file ≡ reddy_file m e) named file_is in
-        let numbers : AreReddyNumbers s e (reddy_net (names_of s) e) (reddy_file (names_of s) e) x =
-        subst (λ n. AreReddyNumbers s e n (reddy_file (names_of s) e) x) net_of (subst (λ (f : VectorFile). AreReddyNumbers s e c.in_ok-net.net f x) file_of (c.in_ok-summary.ensures s named)) in
-        from_parts e.polarity s e c.in_ok-net.net (reddy_net (names_of s) e) c.in_ok-file.file (reddy_file (names_of s) e) x (texts_of made) is net_of file_of
-        (c.synthesis_law.ensures.made s e x ready are numbers)) c.made_of.ensures
+    let ready : AreReady (names_of s) e = subst (λ m. AreReady m e) named c.in_ok-file.ensures.ready in
+    let net_of : c.in_ok-net.net ≡ reddy_net (names_of s) e = subst (λ m. c.in_ok-net.net ≡ reddy_net m e) named net_is in
+    let file_of : c.in_ok-file.file ≡ reddy_file (names_of s) e = subst (λ m. c.in_ok-file.file ≡ reddy_file m e) named file_is in
+    let numbers : AreReddyNumbers s e (reddy_net (names_of s) e) (reddy_file (names_of s) e) x =
+    subst (λ n. AreReddyNumbers s e n (reddy_file (names_of s) e) x) net_of (subst (λ (f : VectorFile). AreReddyNumbers s e c.in_ok-net.net f x) file_of (c.in_ok-summary.ensures s named)) in
+    from_parts e.polarity s e c.in_ok-net.net (reddy_net (names_of s) e) c.in_ok-file.file (reddy_file (names_of s) e) x (texts_of made) is net_of file_of
+    (c.synthesis_law.ensures.made s e x ready are numbers)) c.made_of.ensures
