@@ -39,6 +39,12 @@ pub differ-false : (a : Bool) → differ a false ≡ a
 differ-false true = refl
 differ-false false = refl
 
+pub differ-flip : (a b : Bool) → differ a b ≡ differ b a
+differ-flip true true = refl
+differ-flip true false = refl
+differ-flip false true = refl
+differ-flip false false = refl
+
 pub differ-assoc : (a b c : Bool) → differ (differ a b) c ≡ differ a (differ b c)
 differ-assoc true true true = refl
 differ-assoc true true false = refl
