@@ -6,10 +6,10 @@ use Rattle.std.specs.Ordering.{is_lt}
 use Rattle.std.proofs.lemmas.Bool.{cases_eq, cases_lt, cases_Bool, false≢true}
 use Rattle.ae_base.specs.Mask.{Set, differ, has, first, inside, xor, without, members_from, members, len, least, cmp_terms}
 use Rattle.ae_base.specs.Terms.{IsInOrder}
-use Rattle.ae_base.proofs.Members.{below_own_power, members_enough, cmp_fewer, cmp_more, cmp_first, cmp_second, differ_true, differ_true_else, least-is, least-empty}
+use Rattle.ae_base.proofs.Members.{below_own_power, members_enough, cmp_fewer, cmp_more, cmp_first, cmp_second, least-is, least-empty}
 use Rattle.ae_base.proofs.Order.{less_irreflexive}
 use Rattle.ae_base.proofs.Sets.{same_set, has-xor, has-without, inside-has, has-inside}
-use Rattle.ae_base.proofs.Truth.{equal_values}
+use Rattle.ae_base.proofs.Truth.{differ_true, differ_true_else, equal_values}
 use Rattle.ae_base.proofs.InOrder.{After, Ordered, Ordered-from, from_Ordered}
 
 -- ---- the members of a term without an input
