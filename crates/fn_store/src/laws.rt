@@ -1,16 +1,16 @@
 //! What the expansion of a truth function means.
-ghost use Rattle.std.specs.Prelude.{◌≡◌, ℕ, ◌<◌, ◌≤◌, ◌^◌, Bool, true, List, length, All};
-ghost use Rattle.std.specs.List.{list_any};
+ghost use Rattle.std.specs.Prelude.{◌≡◌, ℕ, ◌<◌, ◌≤◌, ◌^◌, Bool, true, List, length, count_by, All};
+ghost use Rattle.std.specs.List.{list_any, range_with_len};
 ghost use Rattle.ae_base.specs.Mask.{Set, has, first, inside};
 ghost use Rattle.ae_base.specs.Cube.{Signs};
 ghost use Rattle.ae_base.specs.Terms.{IsPoint, IsInOrder, value};
-ghost use Rattle.fn_store.specs.Davio.{IsExpansion, DependsOn};
+ghost use Rattle.fn_store.specs.Davio.{IsExpansion, DependsOn, coefficient};
 ghost use Rattle.fn_store.specs.Functions.{Functions, Shows, Keeps, AgreeAt};
 ghost use Rattle.fn_store.specs.declared.store.FnRef.{FnRef};
 
 /// Each truth function has one expansion at each polarity. Its terms are over the inputs. The EXOR of the products of its terms is the
 /// function, and no other list in term order without repeats has that EXOR. The function depends on exactly the inputs that its terms
-/// hold, and of n inputs there are at most 2 to the n terms.
+/// hold. It has as many terms as there are sets of inputs (written as the numbers below 2 to the n) whose coefficient is 1.
 pub fn expansion_law()
     ensures inside { (p : Signs) (f : Set → Bool) (ts : List Set) → IsExpansion p f ts → All (λ t. inside t (first p.n) ≡ true) ts }
     ensures meaning { (p : Signs) (f : Set → Bool) (ts : List Set) → IsExpansion p f ts → (x : Set) → IsPoint p.n x → value p ts x ≡ f x }
@@ -18,6 +18,7 @@ pub fn expansion_law()
         → ((x : Set) → IsPoint p.n x → value p ts x ≡ f x) → IsExpansion p f ts }
     ensures one { (p : Signs) (f : Set → Bool) (ts us : List Set) → IsExpansion p f ts → IsExpansion p f us → ts ≡ us }
     ensures exists { (p : Signs) (f : Set → Bool) → ((ts : List Set) × IsExpansion p f ts) }
+    ensures count { (p : Signs) (f : Set → Bool) (ts : List Set) → IsExpansion p f ts → length ts ≡ count_by (coefficient p f) (range_with_len 0 (2 ^ p.n)) }
     ensures few { (p : Signs) (f : Set → Bool) (ts : List Set) → IsExpansion p f ts → length ts ≤ 2 ^ p.n }
     ensures used { (p : Signs) (f : Set → Bool) (ts : List Set) (j : ℕ) → IsExpansion p f ts → j < p.n → list_any (λ t. has t j) ts ≡ true → DependsOn p.n f j }
     ensures unused { (p : Signs) (f : Set → Bool) (ts : List Set) (j : ℕ) → IsExpansion p f ts → j < p.n → DependsOn p.n f j → list_any (λ t. has t j) ts ≡ true }
