@@ -4,11 +4,12 @@
   bench/synthesis.py [SECONDS]
 
 The families grow step by step: symmetric functions (parity, majority, exactly half), adders, multipliers, weight counters, and random
-tables of 10 to 14 inputs, each written as a PLA of its minterms, as the tool that makes tables would. For each the script prints the
-numbers of inputs, outputs, rows, terms, gates, faults and vectors, the wall seconds of the synthesis, and, where the network is small
-enough, what bench/fault_sim.py finds: vectors with a wrong response and faults that no vector detects. At the end it says, family by
-family, how the time grows with the rows and with the terms: the exponent of the best fitting power. A family ends where a synthesis takes
-more than SECONDS (by default 20), or where its expansions have too many terms (status 7), which it says.
+tables of 10 to 14 inputs, each written as a PLA of its minterms, as the tool that makes tables would; and ripple adders and multipliers
+as the BLIF of bench/circuits.py. For each the script prints the numbers of inputs, outputs, rows or source gates, terms, gates, faults
+and vectors, the wall seconds of the synthesis, and, where the network is small enough, what bench/fault_sim.py finds: vectors with a
+wrong response and faults that no vector detects. At the end it says, family by family, how the time grows with the rows or source gates
+and with the terms: the exponent of the best fitting power. A family ends where a synthesis takes more than SECONDS (by default 20), or
+where its expansions have too many terms (status 7), which it says.
 
 The program is the one that `rt run` or `rt ci` left in crates/andexor/out, or that the variable ANDEXOR names. The status is 0 where all
 responses are right and no fault is missed, 1 where one is not, and 2 where the program is missing.
@@ -20,11 +21,23 @@ import subprocess
 import sys
 import tempfile
 import time
+from typing import NamedTuple
+
+import circuits
 
 HERE = os.path.dirname(os.path.dirname(os.path.abspath(__file__)))
 PROGRAM = os.environ.get("ANDEXOR", os.path.join(HERE, "crates/andexor/out/andexor"))
-# faults times vectors times gates that the simulator is asked for
-MOST_STEPS = 30_000_000
+# faults times gates that the simulator is asked for
+MOST_STEPS = 12_000_000
+
+
+class Source(NamedTuple):
+    kind: str
+    inputs: int
+    outputs: int
+    unit: str
+    size: int
+    text: str
 
 
 def bits(number, count):
@@ -32,13 +45,18 @@ def bits(number, count):
 
 
 def table(inputs, outputs, function):
-    """The rows of a truth table: those with some output at 1. Input k has the weight 2 to the k."""
+    """A truth table by its rows with some output at 1. Input k has the weight 2 to the k."""
     rows = []
     for x in range(1 << inputs):
         outs = function(x)
         if any(outs):
             rows.append("".join(map(str, bits(x, inputs))) + " " + "".join(map(str, outs)))
-    return inputs, outputs, rows
+    text = f".i {inputs}\n.o {outputs}\n" + "".join(row + "\n" for row in rows) + ".e\n"
+    return Source("pla", inputs, outputs, "rows", len(rows), text)
+
+
+def gates(inputs, outputs, text):
+    return Source("blif", inputs, outputs, "source gates", text.count(".names"), text)
 
 
 def parity(n):
@@ -61,6 +79,14 @@ def multiplier(n):
     return table(2 * n, 2 * n, lambda x: bits((x & ((1 << n) - 1)) * (x >> n), 2 * n))
 
 
+def adder_of_gates(n):
+    return gates(2 * n, n + 1, circuits.adder(n))
+
+
+def multiplier_of_gates(n):
+    return gates(2 * n, 2 * n, circuits.multiplier(n))
+
+
 def weight_counter(n):
     outputs = n.bit_length()
     return table(n, outputs, lambda x: bits(x.bit_count(), outputs))
@@ -77,20 +103,20 @@ FAMILIES = {
     "majority": (majority, range(5, 16, 2)),
     "exactly half": (exactly_half, range(4, 15, 2)),
     "adder": (adder, range(1, 8)),
+    "adder of gates": (adder_of_gates, range(1, 17)),
     "multiplier": (multiplier, range(1, 8)),
+    "multiplier of gates": (multiplier_of_gates, range(1, 9)),
     "weight counter": (weight_counter, range(3, 16)),
     "random table": (random_table, range(10, 15)),
 }
 
 
 def synthesise(folder, source):
-    inputs, outputs, rows = source
-    with open(os.path.join(folder, "in.pla"), "w") as text:
-        text.write(f".i {inputs}\n.o {outputs}\n")
-        text.writelines(row + "\n" for row in rows)
-        text.write(".e\n")
+    with open(os.path.join(folder, "in"), "w") as text:
+        text.write(source.text)
+    words = [os.path.abspath(PROGRAM), "synth", "in", "net.blif", "net.vec", "--kind", source.kind]
     start = time.perf_counter()
-    run = subprocess.run([os.path.abspath(PROGRAM), "synth", "in.pla", "net.blif", "net.vec"], cwd=folder, capture_output=True, text=True)
+    run = subprocess.run(words, cwd=folder, capture_output=True, text=True)
     seconds = time.perf_counter() - start
     return run.returncode, run.stdout, seconds
 
@@ -122,27 +148,27 @@ def exponent(points):
 
 def bench(folder, name, most):
     make, sizes = FAMILIES[name]
-    by_rows, by_terms, good = [], [], True
+    by_size, by_terms, good = [], [], True
     for n in sizes:
         source = make(n)
         status, report, seconds = synthesise(folder, source)
-        head = f"{name} {n}: inputs {source[0]} outputs {source[1]} rows {len(source[2])}"
+        head = f"{name} {n}: inputs {source.inputs} outputs {source.outputs} {source.unit} {source.size}"
         if status != 0:
             print(f"{head}: status {status}: {report.strip()}")
             good = good and status == 7
             break
         found = numbers_of(report)
-        by_rows.append((len(source[2]), seconds))
+        by_size.append((source.size, seconds))
         by_terms.append((found["terms"], seconds))
         line = f"{head} " + " ".join(f"{word} {value}" for word, value in found.items()) + f" seconds {seconds:.2f}"
-        if found["faults"] * found["vectors"] * found["gates"] <= MOST_STEPS:
+        if found["faults"] * found["gates"] <= MOST_STEPS:
             right, text = graded(folder)
             good = good and right
             line += f"; simulated: {text}"
         print(line, flush=True)
         if seconds > most:
             break
-    print(f"{name}: the time grows with the rows to the power {exponent(by_rows)}, with the terms to the power {exponent(by_terms)}")
+    print(f"{name}: the time grows with the {source.unit} to the power {exponent(by_size)}, with the terms to the power {exponent(by_terms)}")
     return good
 
 
