@@ -2,13 +2,14 @@
 ghost use Rattle.std.specs.Prelude.{◌≡◌, ◌≤◌, ◌<◌, IfOk, All, length};
 ghost use Rattle.ae_base.specs.Cube.{IsOver, IsSigns};
 ghost use Rattle.expansion.specs.Terms.{cost};
+ghost use Rattle.fn_store.specs.Functions.{IsLive};
 
 use ae_base::{Cube, Mask, Memory, Name, Polarity, Seq, TEXT_BYTES, WIDTH};
 use ae_cover::Cover;
 use ae_net::{Gate, Net, NetNames};
 use blif_read::{BlifErr, NetLimits, read_blif};
 use expansion::{Expansion, expand};
-use fn_store::{FnStore, TermLists};
+use fn_store::{FnRef, FnStore, TermLists, TermsErr};
 use net_fn::some_cube;
 use pla_read::{PlaErr, read_pla};
 use std::alloc::Global;
@@ -38,6 +39,17 @@ pub fn are_sets(found: &[Mask], wanted: &[&'static [u32]]) -> bool {
         }
     }
     found.len() == wanted.len()
+}
+
+/// Whether the function has these terms and no others.
+pub fn has_terms<S: FnStore>(store: &S, f: FnRef, wanted: &[&'static [u32]]) -> Result<bool, Memory>
+    requires { IsLive (S.functions store.now) f }
+{
+    match store.terms_upto(f, wanted.len() as u64) {
+        Ok(terms) => Ok(are_sets(&terms, wanted)),
+        Err(TermsErr::More) => Ok(false),
+        Err(TermsErr::Memory) => Err(Memory),
+    }
 }
 
 /// Whether the names have these bytes, in order.

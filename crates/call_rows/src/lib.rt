@@ -13,6 +13,8 @@ mod even_inputs;
 #[cfg(test)]
 mod expansions;
 #[cfg(test)]
+mod functions;
+#[cfg(test)]
 mod given;
 #[cfg(test)]
 mod held_files;

@@ -6,7 +6,8 @@ use blif_read::{BlifErr, BlifFault, NetLimits, read_blif};
 use std::alloc::{AllocError, Global};
 use std::test::Fail;
 
-static HALF_ADDER: &[u8] =
+/// The OR `n1` and the NAND `n2` of two inputs, the AND `s` of both, and the complement `c` of the NAND.
+pub static HALF_ADDER: &[u8] =
     b".model adder   # half adder\n.inputs a \\\nb\n.outputs s c\n.names n1 n2 s\n11 1\n.names a b n1\n00 0\n.names a b n2\n11 0\n.names n2 c\n0 1\n";
 
 static HALF_ADDER_GATES: [Table; 4] = [

@@ -2,7 +2,7 @@
 ghost use Rattle.std.specs.Prelude.{◌≤◌, ◌<◌, IfOk, All, length};
 ghost use Rattle.fn_store.specs.Functions.{IsLive, Keeps};
 
-use crate::given::{are_sets, set};
+use crate::given::{has_terms, set};
 use ae_base::{Memory, Polarity};
 use expansion::{ExpandErr, expand};
 use fn_store::{FnRef, FnStore, TermLists, TermsErr};
@@ -34,17 +34,6 @@ fn product<S: FnStore>(store: &mut S, high: (bool, bool, bool)) -> Result<FnRef,
     let third = literal_at(store, 2, high.2)?;
     let both = store.and(first, second)?;
     store.and(both, third)
-}
-
-/// Whether the function has these terms and no others.
-fn has_terms<S: FnStore>(store: &S, f: FnRef, wanted: &[&'static [u32]]) -> Result<bool, Memory>
-    requires { IsLive (S.functions store.now) f }
-{
-    match store.terms_upto(f, wanted.len() as u64) {
-        Ok(terms) => Ok(are_sets(&terms, wanted)),
-        Err(TermsErr::More) => Ok(false),
-        Err(TermsErr::Memory) => Err(Memory),
-    }
 }
 
 fn has_more<S: FnStore>(store: &S, f: FnRef, k: u64) -> bool

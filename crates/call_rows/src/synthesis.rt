@@ -1,7 +1,8 @@
-//! The call of `synth_core`: the two-input AND, and a text that is refused.
+//! The call of `synth_core`: the two-input AND as a text of either kind, and texts that are refused.
 
 use crate::given::{polarity, set};
 use ae_base::TEXT_BYTES;
+use blif_read::BlifFault;
 use pla_read::PlaFault;
 use std::alloc::Global;
 use std::test::Fail;
@@ -16,17 +17,19 @@ static NET: &[u8] =
 static VECTORS: &[u8] =
     b"andexor-vectors 1\nform reddy\ninputs x1 x2 _c\noutputs f1\npolarity 11\nvector 000 0\nvector 110 1\nvector 001 1\nvector 111 0\nvector 010 0\nvector 100 0\nend\n";
 
-static POSITIVE: Settings = Settings {
-    kind: SourceKind::Pla,
-    form: Form::Reddy,
-    polarity: Choice::Positive,
-};
+static AND_IN_BLIF: &[u8] =
+    b".model andexor\n.inputs x1 x2\n.outputs f1\n.names x1 x2 f1\n11 1\n.end\n";
 
-fn positive(alloc: Global, bytes: &[u8]) -> Result<Made, SynthErr> {
+fn positive(alloc: Global, kind: SourceKind, bytes: &[u8]) -> Result<Made, SynthErr> {
     if bytes.len() > TEXT_BYTES {
         return Err(SynthErr::Memory);
     }
-    synthesise(alloc, bytes, &POSITIVE)
+    let settings = Settings {
+        kind,
+        form: Form::Reddy,
+        polarity: Choice::Positive,
+    };
+    synthesise(alloc, bytes, &settings)
 }
 
 fn has_its_numbers(summary: Summary) -> bool {
@@ -45,8 +48,8 @@ fn has_its_numbers(summary: Summary) -> bool {
         }
 }
 
-fn is_and(alloc: Global) -> Result<bool, SynthErr> {
-    let made = positive(alloc, AND)?;
+fn is_and(alloc: Global, kind: SourceKind, bytes: &[u8]) -> Result<bool, SynthErr> {
+    let made = positive(alloc, kind, bytes)?;
     Ok(
         made.net_text.as_slice() == NET
             && made.vec_text.as_slice() == VECTORS
@@ -56,21 +59,37 @@ fn is_and(alloc: Global) -> Result<bool, SynthErr> {
 
 #[test]
 fn two_input_and(rt: HostRuntime) -> Result<(), Fail> {
-    let same = is_and(rt.alloc()).unwrap_or(false);
-    assert!(rt; same);
+    let alloc = rt.alloc();
+    let of_pla = is_and(alloc, SourceKind::Pla, AND).unwrap_or(false);
+    let of_blif = is_and(alloc, SourceKind::Blif, AND_IN_BLIF).unwrap_or(false);
+    assert!(rt; of_pla && of_blif);
     Ok(())
 }
 
-/// Whether the text is refused in this line with this fault.
-fn refuses(alloc: Global, text: &[u8], line: u32, what: PlaFault) -> bool {
-    match positive(alloc, text) {
+/// Whether the text is refused for this.
+fn refuses(alloc: Global, kind: SourceKind, bytes: &[u8], why: SynthErr) -> bool {
+    match positive(alloc, kind, bytes) {
         Ok(_) => false,
-        Err(error) => error == SynthErr::Pla { line, what },
+        Err(error) => error == why,
     }
 }
 
 #[test]
 fn a_row_of_another_width(rt: HostRuntime) {
     let text = b".i 2\n.o 1\n11\n.e\n".as_slice();
-    assert!(rt; refuses(rt.alloc(), text, 3, PlaFault::BadWidth));
+    let why = SynthErr::Pla {
+        line: 3,
+        what: PlaFault::BadWidth,
+    };
+    assert!(rt; refuses(rt.alloc(), SourceKind::Pla, text, why));
+}
+
+#[test]
+fn a_row_of_another_number_of_pins(rt: HostRuntime) {
+    let text = b".inputs a\n.outputs f\n.names a f\n11 1\n".as_slice();
+    let why = SynthErr::Blif {
+        line: 4,
+        what: BlifFault::BadRow,
+    };
+    assert!(rt; refuses(rt.alloc(), SourceKind::Blif, text, why));
 }

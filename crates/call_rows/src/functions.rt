@@ -1,0 +1,467 @@
+//! The calls of `net_fn`: the functions of a network's ports and signals, under a fault or none, and those of a cover's outputs.
+ghost use Rattle.std.specs.Prelude.{◌≡◌, ◌≤◌, IfOk, length};
+ghost use Rattle.fn_store.specs.Functions.{IsLive, Keeps};
+ghost use Rattle.net_fn.specs.Refs.{AreLive};
+
+use crate::given::{FEW, are_sets, cover_of, has_terms, net_of, polarity, set};
+use crate::netlists::HALF_ADDER;
+use ae_base::Memory;
+use ae_cover::Cover;
+use ae_net::{Fault, Net, Place, faults};
+use blif_read::BlifErr;
+use expansion::{ExpandErr, Expansion, expand};
+use fn_store::{FnRef, FnStore, TermLists};
+use net_fn::{cover_values, net_values, signal_values};
+use pla_read::PlaErr;
+use std::alloc::Global;
+use std::test::Fail;
+
+/// The terms of a function's expansion, each as the inputs whose literals it has.
+type Terms = &'static [&'static [u32]];
+
+/// The product of the literals of these inputs.
+fn product<S: FnStore>(store: &mut S, inputs: &[u32]) -> Result<FnRef, Memory>
+    ensures live { IfOk result (IsLive (S.functions store.new)) }
+    ensures keeps { Keeps (S.functions store.old) (S.functions store.new) }
+{
+    let n = store.polarity().n;
+    let mut all = store.one();
+    for j in inputs {
+        if *j < n {
+            let literal = store.literal(*j)?;
+            all = store.and(all, literal)?;
+        }
+    }
+    Ok(all)
+}
+
+/// The EXOR of the products of these terms.
+fn sum<S: FnStore>(store: &mut S, terms: Terms) -> Result<FnRef, Memory>
+    ensures live { IfOk result (IsLive (S.functions store.new)) }
+    ensures keeps { Keeps (S.functions store.old) (S.functions store.new) }
+{
+    let mut sum = store.zero();
+    for term in terms {
+        let product = product(store, term)?;
+        sum = store.xor(sum, product)?;
+    }
+    Ok(sum)
+}
+
+/// Whether the function has these terms and no others, and is the same as the EXOR of their products.
+fn is_function<S: FnStore>(store: &mut S, f: FnRef, wanted: Terms) -> Result<bool, Memory>
+    requires { IsLive (S.functions store.old) f }
+    ensures { Keeps (S.functions store.old) (S.functions store.new) }
+{
+    let listed = has_terms(store, f, wanted)?;
+    let made = sum(store, wanted)?;
+    Ok(listed && store.same(f, made))
+}
+
+/// Whether the functions have these terms, in order.
+fn are_functions<S: FnStore>(
+    store: &mut S,
+    refs: &[FnRef],
+    wanted: &[Terms],
+) -> Result<bool, Memory>
+    requires { AreLive (S.functions store.old) refs.now }
+{
+    for (f, terms) in refs.iter().zip(wanted.iter()) {
+        if !is_function(store, *f, terms)? {
+            return Ok(false);
+        }
+    }
+    Ok(refs.len() == wanted.len())
+}
+
+/// A store of the network's number of inputs, with the literals of these inputs plain.
+fn store_for(alloc: Global, net: &Net, plain: &[u32]) -> Result<TermLists, Memory>
+    ensures { IfOk result (λ store. (⟦<TermLists as FnStore>⟧.functions store).polarity.n ≡ length net.now.inputs) }
+{
+    let n = net.inputs().len() as u32;
+    if n > FEW {
+        return Err(Memory);
+    }
+    TermLists::new(alloc, polarity(n, set(plain)))
+}
+
+/// The inputs whose literals are plain, a fault or none, and the functions then.
+#[derive(Clone, Copy)]
+struct Shown {
+    plain: &'static [u32],
+    fault: Option<Fault>,
+    functions: &'static [Terms],
+}
+
+/// Whether the network's ports show the row's functions.
+fn are_ports(alloc: Global, net: &Net, row: &Shown) -> Result<bool, Memory> {
+    let mut store = store_for(alloc, net, row.plain)?;
+    let refs = net_values(alloc, &mut store, net, row.fault)?;
+    are_functions(&mut store, &refs, row.functions)
+}
+
+/// Whether the network's signals have the row's functions.
+fn are_signals(alloc: Global, net: &Net, row: &Shown) -> Result<bool, Memory> {
+    let mut store = store_for(alloc, net, row.plain)?;
+    let refs = signal_values(alloc, &mut store, net, row.fault)?;
+    are_functions(&mut store, &refs, row.functions)
+}
+
+/// The cascade of the AND of two inputs, whose control is the third.
+static CASCADE: &[u8] =
+    b".model m\n.inputs a b c\n.outputs f\n.names a b t\n11 1\n.names c t f\n10 1\n01 1\n";
+
+/// The function of its port under each of its faults, in the order of faults: at each place held at 0 and then at 1.
+static UNDER_FAULTS: [&[Terms]; 20] = [
+    // the stems of a, b, c, t and f
+    &[&[&[2]]],
+    &[&[&[1], &[2]]],
+    &[&[&[2]]],
+    &[&[&[0], &[2]]],
+    &[&[&[0, 1]]],
+    &[&[&[], &[0, 1]]],
+    &[&[&[2]]],
+    &[&[&[], &[2]]],
+    &[&[]],
+    &[&[&[]]],
+    // the pins of t, for a and for b
+    &[&[&[2]]],
+    &[&[&[1], &[2]]],
+    &[&[&[2]]],
+    &[&[&[0], &[2]]],
+    // the pins of f, for c and for t
+    &[&[&[0, 1]]],
+    &[&[&[], &[0, 1]]],
+    &[&[&[2]]],
+    &[&[&[], &[2]]],
+    // the port
+    &[&[]],
+    &[&[&[]]],
+];
+
+/// The place of the first fault under which the port shows another function, or the number of faults.
+fn first_other_fault(alloc: Global) -> Result<usize, BlifErr> {
+    let net = net_of(alloc, CASCADE)?;
+    let list = faults(alloc, &net)?;
+    for (i, (fault, functions)) in list.iter().zip(UNDER_FAULTS.iter()).enumerate() {
+        let row = Shown {
+            plain: &[0, 1, 2],
+            fault: Some(*fault),
+            functions,
+        };
+        if !are_ports(alloc, &net, &row)? {
+            return Ok(i);
+        }
+    }
+    Ok(list.len())
+}
+
+#[test]
+fn a_two_input_and_under_every_fault(rt: HostRuntime) -> Result<(), Fail> {
+    let other = first_other_fault(rt.alloc())?;
+    assert_eq!(rt; other, UNDER_FAULTS.len());
+    Ok(())
+}
+
+/// The sum and the carry of the half adder, at some polarities and under some faults of single readers and of stems.
+static PORTS: [Shown; 9] = [
+    Shown {
+        plain: &[0, 1],
+        fault: None,
+        functions: &[&[&[0], &[1]], &[&[0, 1]]],
+    },
+    Shown {
+        plain: &[],
+        fault: None,
+        functions: &[&[&[0], &[1]], &[&[], &[0], &[1], &[0, 1]]],
+    },
+    Shown {
+        plain: &[1],
+        fault: None,
+        functions: &[&[&[], &[0], &[1]], &[&[1], &[0, 1]]],
+    },
+    Shown {
+        plain: &[0, 1],
+        fault: Some(Fault {
+            place: Place::Port(0),
+            value: true,
+        }),
+        functions: &[&[&[]], &[&[0, 1]]],
+    },
+    Shown {
+        plain: &[0, 1],
+        fault: Some(Fault {
+            place: Place::Port(1),
+            value: false,
+        }),
+        functions: &[&[&[0], &[1]], &[]],
+    },
+    Shown {
+        plain: &[0, 1],
+        fault: Some(Fault {
+            place: Place::Stem(4),
+            value: false,
+        }),
+        functions: &[&[], &[&[0, 1]]],
+    },
+    Shown {
+        plain: &[0, 1],
+        fault: Some(Fault {
+            place: Place::Pin(2, 1),
+            value: true,
+        }),
+        functions: &[&[&[0], &[1], &[0, 1]], &[&[0, 1]]],
+    },
+    Shown {
+        plain: &[0, 1],
+        fault: Some(Fault {
+            place: Place::Pin(3, 0),
+            value: false,
+        }),
+        functions: &[&[&[0], &[1]], &[&[]]],
+    },
+    Shown {
+        plain: &[0, 1],
+        fault: Some(Fault {
+            place: Place::Stem(3),
+            value: true,
+        }),
+        functions: &[&[&[0], &[1], &[0, 1]], &[]],
+    },
+];
+
+/// The place of the first row with other functions of the half adder's ports, where there is one.
+fn first_other_ports(alloc: Global) -> Result<Option<usize>, BlifErr> {
+    let net = net_of(alloc, HALF_ADDER)?;
+    for (i, row) in PORTS.iter().enumerate() {
+        if !are_ports(alloc, &net, row)? {
+            return Ok(Some(i));
+        }
+    }
+    Ok(None)
+}
+
+#[test]
+fn ports_of_a_half_adder(rt: HostRuntime) -> Result<(), Fail> {
+    let other = first_other_ports(rt.alloc())?;
+    assert_eq!(rt; other, None);
+    Ok(())
+}
+
+/// The two inputs, their OR and their NAND, the sum and the carry.
+static SIGNALS: [Shown; 7] = [
+    Shown {
+        plain: &[0, 1],
+        fault: None,
+        functions: &[
+            &[&[0]],
+            &[&[1]],
+            &[&[0], &[1], &[0, 1]],
+            &[&[], &[0, 1]],
+            &[&[0], &[1]],
+            &[&[0, 1]],
+        ],
+    },
+    Shown {
+        plain: &[0, 1],
+        fault: Some(Fault {
+            place: Place::Stem(0),
+            value: true,
+        }),
+        functions: &[&[&[]], &[&[1]], &[&[]], &[&[], &[1]], &[&[], &[1]], &[&[1]]],
+    },
+    Shown {
+        plain: &[0, 1],
+        fault: Some(Fault {
+            place: Place::Pin(0, 0),
+            value: false,
+        }),
+        functions: &[
+            &[&[0]],
+            &[&[1]],
+            &[&[1]],
+            &[&[], &[0, 1]],
+            &[&[1], &[0, 1]],
+            &[&[0, 1]],
+        ],
+    },
+    Shown {
+        plain: &[0, 1],
+        fault: Some(Fault {
+            place: Place::Stem(3),
+            value: true,
+        }),
+        functions: &[
+            &[&[0]],
+            &[&[1]],
+            &[&[0], &[1], &[0, 1]],
+            &[&[]],
+            &[&[0], &[1], &[0, 1]],
+            &[],
+        ],
+    },
+    Shown {
+        plain: &[0, 1],
+        fault: Some(Fault {
+            place: Place::Pin(2, 1),
+            value: true,
+        }),
+        functions: &[
+            &[&[0]],
+            &[&[1]],
+            &[&[0], &[1], &[0, 1]],
+            &[&[], &[0, 1]],
+            &[&[0], &[1], &[0, 1]],
+            &[&[0, 1]],
+        ],
+    },
+    Shown {
+        plain: &[0, 1],
+        fault: Some(Fault {
+            place: Place::Pin(3, 0),
+            value: false,
+        }),
+        functions: &[
+            &[&[0]],
+            &[&[1]],
+            &[&[0], &[1], &[0, 1]],
+            &[&[], &[0, 1]],
+            &[&[0], &[1]],
+            &[&[]],
+        ],
+    },
+    Shown {
+        plain: &[0, 1],
+        fault: Some(Fault {
+            place: Place::Port(0),
+            value: true,
+        }),
+        functions: &[
+            &[&[0]],
+            &[&[1]],
+            &[&[0], &[1], &[0, 1]],
+            &[&[], &[0, 1]],
+            &[&[0], &[1]],
+            &[&[0, 1]],
+        ],
+    },
+];
+
+/// The place of the first row with other functions of the half adder's signals, where there is one.
+fn first_other_signals(alloc: Global) -> Result<Option<usize>, BlifErr> {
+    let net = net_of(alloc, HALF_ADDER)?;
+    for (i, row) in SIGNALS.iter().enumerate() {
+        if !are_signals(alloc, &net, row)? {
+            return Ok(Some(i));
+        }
+    }
+    Ok(None)
+}
+
+#[test]
+fn signals_of_a_half_adder(rt: HostRuntime) -> Result<(), Fail> {
+    let other = first_other_signals(rt.alloc())?;
+    assert_eq!(rt; other, None);
+    Ok(())
+}
+
+/// Whether the expansions are those of the sum and the carry.
+fn are_sum_and_carry(e: &Expansion) -> bool {
+    match e.lists() {
+        [sum, carry] => {
+            are_sets(sum.as_slice(), &[&[0], &[1]]) && are_sets(carry.as_slice(), &[&[0, 1]])
+        }
+        _ => false,
+    }
+}
+
+/// Whether the terms of the half adder's ports pass the limit first at this port, or are within it.
+fn pass_at(alloc: Global, net: &Net, limit: u64, port: Option<u32>) -> Result<bool, Memory>
+    requires { limit ≤ FEW }
+{
+    let mut store = store_for(alloc, net, &[0, 1])?;
+    let refs = net_values(alloc, &mut store, net, None)?;
+    if refs.len() != 2 {
+        return Ok(false);
+    }
+    match expand(alloc, &store, &refs, limit) {
+        Ok(e) => Ok(port == None && are_sum_and_carry(&e)),
+        Err(ExpandErr::TooManyTerms { output }) => Ok(port == Some(output)),
+        Err(ExpandErr::Memory) => Err(Memory),
+    }
+}
+
+/// Whether the sum has two terms and the carry one.
+fn has_three_terms(alloc: Global) -> Result<bool, BlifErr> {
+    let net = net_of(alloc, HALF_ADDER)?;
+    let one = pass_at(alloc, &net, 1, Some(0))?;
+    let two = pass_at(alloc, &net, 2, Some(1))?;
+    let three = pass_at(alloc, &net, 3, None)?;
+    Ok(one && two && three)
+}
+
+#[test]
+fn expansions_of_a_half_adder(rt: HostRuntime) -> Result<(), Fail> {
+    let three = has_three_terms(rt.alloc())?;
+    assert!(rt; three);
+    Ok(())
+}
+
+/// Marks of each kind: the outputs are 1 where a row with `1` or `4` holds.
+static COVER: &[u8] = b".i 3\n.o 4\n.type f\n11- 1-0~\n--1 14--\n0-0 0101\n";
+
+/// The inputs whose literals are plain, and the functions of the cover's outputs then.
+struct Covered {
+    plain: &'static [u32],
+    functions: [Terms; 4],
+}
+
+static COVERED: [Covered; 2] = [
+    Covered {
+        plain: &[0, 1, 2],
+        functions: [
+            &[&[2], &[0, 1], &[0, 1, 2]],
+            &[&[], &[0], &[0, 2]],
+            &[],
+            &[&[], &[0], &[2], &[0, 2]],
+        ],
+    },
+    Covered {
+        plain: &[0, 1],
+        functions: [
+            &[&[], &[2], &[0, 1, 2]],
+            &[&[], &[0, 2]],
+            &[],
+            &[&[2], &[0, 2]],
+        ],
+    },
+];
+
+/// Whether the cover's outputs have the row's functions.
+fn are_outputs(alloc: Global, cover: &Cover, row: &Covered) -> Result<bool, Memory> {
+    let n = cover.inputs().len() as u32;
+    if n > FEW {
+        return Ok(false);
+    }
+    let mut store = TermLists::new(alloc, polarity(n, set(row.plain)))?;
+    let refs = cover_values(alloc, &mut store, cover)?;
+    are_functions(&mut store, &refs, &row.functions)
+}
+
+/// The place of the first polarity with other functions of the cover's outputs, where there is one.
+fn first_other_outputs(alloc: Global) -> Result<Option<usize>, PlaErr> {
+    let cover = cover_of(alloc, COVER)?;
+    for (i, row) in COVERED.iter().enumerate() {
+        if !are_outputs(alloc, &cover, row)? {
+            return Ok(Some(i));
+        }
+    }
+    Ok(None)
+}
+
+#[test]
+fn outputs_of_a_cover(rt: HostRuntime) -> Result<(), Fail> {
+    let other = first_other_outputs(rt.alloc())?;
+    assert_eq!(rt; other, None);
+    Ok(())
+}
