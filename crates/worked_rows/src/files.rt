@@ -25,7 +25,29 @@ impl Differs {
     }
 }
 
-/// What `in.pla`, `n.blif` and `v.vec` are to hold, where they are to be there.
+/// How a source is given: the name of its file, the words of its synthesis, and the model of the network that is written for it.
+#[derive(Clone, Copy)]
+pub struct Given {
+    pub file: &'static str,
+    pub words: &'static str,
+    pub model: &'static str,
+}
+
+/// A PLA text, which has no model of its own.
+pub const PLA: Given = Given {
+    file: "in.pla",
+    words: "synth in.pla n.blif v.vec",
+    model: "andexor",
+};
+
+/// A BLIF text of the model `m`.
+pub const BLIF: Given = Given {
+    file: "in.blif",
+    words: "synth in.blif n.blif v.vec --kind blif",
+    model: "m",
+};
+
+/// What the source's file, `n.blif` and `v.vec` are to hold, where they are to be there.
 #[derive(Drop)]
 pub struct Held<'a> {
     pub source: Option<&'a [u8]>,
@@ -53,10 +75,10 @@ pub fn run_words(
     Ok(run(alloc, &words, files, report))
 }
 
-/// Files of which one, `in.pla`, holds the source.
-pub fn with_source(alloc: Global, source: &[u8]) -> Result<MemFiles, AllocError> {
+/// Files of which one holds the source.
+pub fn with_source(alloc: Global, given: Given, source: &[u8]) -> Result<MemFiles, AllocError> {
     let mut files = MemFiles::new(alloc);
-    files.put("in.pla", source).map_err(|_| AllocError)?;
+    files.put(given.file, source).map_err(|_| AllocError)?;
     Ok(files)
 }
 
@@ -84,14 +106,15 @@ pub fn tells_for(
     Ok(compare_report(status, &report, wanted, line))
 }
 
-/// Runs `synth in.pla n.blif v.vec`, and compares the status and the report.
+/// Runs `synth` on the source, and compares the status and the report.
 pub fn tells(
     alloc: Global,
+    given: Given,
     files: &mut MemFiles,
     wanted: u8,
     line: &[u8],
 ) -> Result<Differs, AllocError> {
-    tells_for(alloc, "synth in.pla n.blif v.vec", files, wanted, line)
+    tells_for(alloc, given.words, files, wanted, line)
 }
 
 /// Whether the name holds exactly these bytes, or is not there.
@@ -103,12 +126,12 @@ fn holds(files: &MemFiles, name: &str, wanted: Option<&[u8]>) -> bool {
 }
 
 /// Compares the files.
-pub fn compare_files(files: &MemFiles, wanted: &Held) -> Differs {
+pub fn compare_files(files: &MemFiles, given: Given, wanted: &Held) -> Differs {
     if !holds(files, "n.blif", wanted.net) {
         Differs::Net
     } else if !holds(files, "v.vec", wanted.vectors) {
         Differs::Vectors
-    } else if !holds(files, "in.pla", wanted.source) {
+    } else if !holds(files, given.file, wanted.source) {
         Differs::Source
     } else {
         Differs::Nothing

@@ -2,13 +2,15 @@
 #![tactic(auto)]
 
 #[cfg(test)]
+mod blif_faults;
+#[cfg(test)]
+mod blif_profile;
+#[cfg(test)]
 mod cut_texts;
 #[cfg(test)]
 mod files;
 #[cfg(test)]
 mod header_faults;
-#[cfg(test)]
-mod netlists;
 #[cfg(test)]
 mod profile;
 #[cfg(test)]

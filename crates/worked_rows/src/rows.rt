@@ -5,8 +5,9 @@ use crate::written::{AND, Counts, ONE_INPUT, Row, gives};
 use std::test::Fail;
 
 static MAJORITY: Row = Row {
-    source: b".i 3\n.o 1\n11- 1\n1-1 1\n-11 1\n.e\n",
-    net: b".model andexor\n.inputs x1 x2 x3 _c\n.outputs f1\n.names x1 x2 _t1\n11 1\n.names x1 x3 _t2\n11 1\n.names x2 x3 _t3\n11 1\n.names _c _t1 _x1\n10 1\n01 1\n.names _x1 _t2 _x2\n10 1\n01 1\n.names _x2 _t3 f1\n10 1\n01 1\n.end\n",
+    pla: b".i 3\n.o 1\n11- 1\n1-1 1\n-11 1\n.e\n",
+    blif: b".model m\n.inputs x1 x2 x3\n.outputs f1\n.names g2 g3 f1\n1- 1\n-1 1\n.names g1 x3 g3\n11 1\n.names x1 x2 g1\n00 0\n.names x1 x2 g2\n11 1\n.end\n",
+    net: ".inputs x1 x2 x3 _c\n.outputs f1\n.names x1 x2 _t1\n11 1\n.names x1 x3 _t2\n11 1\n.names x2 x3 _t3\n11 1\n.names _c _t1 _x1\n10 1\n01 1\n.names _x1 _t2 _x2\n10 1\n01 1\n.names _x2 _t3 f1\n10 1\n01 1\n.end\n",
     vectors: b"andexor-vectors 1\nform reddy\ninputs x1 x2 x3 _c\noutputs f1\npolarity 111\nvector 0000 0\nvector 1110 1\nvector 0001 1\nvector 1111 0\nvector 0110 1\nvector 1010 1\nvector 1100 1\nvector 0100 0\nvector 1000 0\nend\n",
     counts: Counts {
         inputs: 3,
@@ -19,8 +20,9 @@ static MAJORITY: Row = Row {
 };
 
 static EXOR: Row = Row {
-    source: b".i 2\n.o 1\n10 1\n01 1\n.e\n",
-    net: b".model andexor\n.inputs x1 x2 _c\n.outputs f1\n.names _c x1 _x1\n10 1\n01 1\n.names _x1 x2 f1\n10 1\n01 1\n.end\n",
+    pla: b".i 2\n.o 1\n10 1\n01 1\n.e\n",
+    blif: b".model m\n.inputs x1 x2\n.outputs f1\n.names x1 x2 f1\n10 1\n01 1\n.end\n",
+    net: ".inputs x1 x2 _c\n.outputs f1\n.names _c x1 _x1\n10 1\n01 1\n.names _x1 x2 f1\n10 1\n01 1\n.end\n",
     vectors: b"andexor-vectors 1\nform reddy\ninputs x1 x2 _c\noutputs f1\npolarity 11\nvector 000 0\nvector 110 0\nvector 001 1\nvector 111 1\nvector 010 1\nvector 100 1\nend\n",
     counts: Counts {
         inputs: 2,
@@ -32,9 +34,10 @@ static EXOR: Row = Row {
     },
 };
 
-static CONSTANT_0: Row = Row {
-    source: b".i 2\n.o 1\n.e\n",
-    net: b".model andexor\n.inputs x1 x2 _c\n.outputs f1\n.names _c f1\n1 1\n.end\n",
+pub static CONSTANT_0: Row = Row {
+    pla: b".i 2\n.o 1\n.e\n",
+    blif: b".model m\n.inputs x1 x2\n.outputs f1\n.names f1\n.end\n",
+    net: ".inputs x1 x2 _c\n.outputs f1\n.names _c f1\n1 1\n.end\n",
     vectors: b"andexor-vectors 1\nform reddy\ninputs x1 x2 _c\noutputs f1\npolarity 11\nvector 000 0\nvector 001 1\nend\n",
     counts: Counts {
         inputs: 2,
@@ -46,9 +49,10 @@ static CONSTANT_0: Row = Row {
     },
 };
 
-static CONSTANT_1: Row = Row {
-    source: b".i 2\n.o 1\n-- 1\n.e\n",
-    net: b".model andexor\n.inputs x1 x2 _c\n.outputs f1\n.names _c _m\n0 1\n.names _m f1\n1 1\n.end\n",
+pub static CONSTANT_1: Row = Row {
+    pla: b".i 2\n.o 1\n-- 1\n.e\n",
+    blif: b".model m\n.inputs x1 x2\n.outputs f1\n.names f1\n1\n.end\n",
+    net: ".inputs x1 x2 _c\n.outputs f1\n.names _c _m\n0 1\n.names _m f1\n1 1\n.end\n",
     vectors: b"andexor-vectors 1\nform reddy\ninputs x1 x2 _c\noutputs f1\npolarity 11\nvector 000 1\nvector 001 0\nend\n",
     counts: Counts {
         inputs: 2,
@@ -61,8 +65,9 @@ static CONSTANT_1: Row = Row {
 };
 
 static SHARED: Row = Row {
-    source: b".i 2\n.o 2\n0- 11\n-0 10\n-1 01\n.e\n",
-    net: b".model andexor\n.inputs x1 x2 _c\n.outputs f1 f2\n.names _c _m\n0 1\n.names x1 x2 _t1\n11 1\n.names _m _t1 f1\n10 1\n01 1\n.names _m x1 _x1\n10 1\n01 1\n.names _x1 _t1 f2\n10 1\n01 1\n.end\n",
+    pla: b".i 2\n.o 2\n0- 11\n-0 10\n-1 01\n.e\n",
+    blif: b".model m\n.inputs x1 x2\n.outputs f1 f2\n.names x1 x2 f1\n11 0\n.names x1 f1 f2\n0- 1\n-0 1\n.end\n",
+    net: ".inputs x1 x2 _c\n.outputs f1 f2\n.names _c _m\n0 1\n.names x1 x2 _t1\n11 1\n.names _m _t1 f1\n10 1\n01 1\n.names _m x1 _x1\n10 1\n01 1\n.names _x1 _t1 f2\n10 1\n01 1\n.end\n",
     vectors: b"andexor-vectors 1\nform reddy\ninputs x1 x2 _c\noutputs f1 f2\npolarity 11\nvector 000 11\nvector 110 01\nvector 001 00\nvector 111 10\nvector 010 11\nvector 100 10\nend\n",
     counts: Counts {
         inputs: 2,
@@ -75,8 +80,9 @@ static SHARED: Row = Row {
 };
 
 static UNREAD_INPUT: Row = Row {
-    source: b".i 3\n.o 1\n1-1 1\n.e\n",
-    net: b".model andexor\n.inputs x1 x2 x3 _c\n.outputs f1\n.names x1 x3 _t1\n11 1\n.names _c _t1 f1\n10 1\n01 1\n.end\n",
+    pla: b".i 3\n.o 1\n1-1 1\n.e\n",
+    blif: b".model m\n.inputs x1 x2 x3\n.outputs f1\n.names x1 x3 f1\n11 1\n.end\n",
+    net: ".inputs x1 x2 x3 _c\n.outputs f1\n.names x1 x3 _t1\n11 1\n.names _c _t1 f1\n10 1\n01 1\n.end\n",
     vectors: b"andexor-vectors 1\nform reddy\ninputs x1 x2 x3 _c\noutputs f1\npolarity 111\nvector 0000 0\nvector 1010 1\nvector 0001 1\nvector 1011 0\nvector 0010 0\nvector 1000 0\nend\n",
     counts: Counts {
         inputs: 3,
@@ -90,8 +96,9 @@ static UNREAD_INPUT: Row = Row {
 
 /// Two terms: x1 and x2 stand in both, x3 in one.
 static TWO_EVEN_AND_ONE_ODD: Row = Row {
-    source: b".i 3\n.o 1\n110 1\n.e\n",
-    net: b".model andexor\n.inputs x1 x2 x3 _c\n.outputs f1\n.names x1 x2 _t1\n11 1\n.names x1 x2 x3 _t2\n111 1\n.names _c _t1 _x1\n10 1\n01 1\n.names _x1 _t2 f1\n10 1\n01 1\n.end\n",
+    pla: b".i 3\n.o 1\n110 1\n.e\n",
+    blif: b".model m\n.inputs x1 x2 x3\n.outputs f1\n.names x1 x2 x3 f1\n110 1\n.end\n",
+    net: ".inputs x1 x2 x3 _c\n.outputs f1\n.names x1 x2 _t1\n11 1\n.names x1 x2 x3 _t2\n111 1\n.names _c _t1 _x1\n10 1\n01 1\n.names _x1 _t2 f1\n10 1\n01 1\n.end\n",
     vectors: b"andexor-vectors 1\nform reddy\ninputs x1 x2 x3 _c\noutputs f1\npolarity 111\nvector 0000 0\nvector 1110 0\nvector 0001 1\nvector 1111 1\nvector 0110 0\nvector 1010 0\nvector 1100 1\nvector 0100 0\nvector 1000 0\nend\n",
     counts: Counts {
         inputs: 3,
@@ -100,6 +107,22 @@ static TWO_EVEN_AND_ONE_ODD: Row = Row {
         gates: 4,
         faults: 36,
         vectors: 9,
+    },
+};
+
+/// The sum and the carry of two inputs.
+pub static HALF_ADDER: Row = Row {
+    pla: b".i 2\n.o 2\n.ilb a b\n.ob s c\n10 10\n01 10\n11 01\n.e\n",
+    blif: b".model m\n.inputs a b\n.outputs s c\n.names a b s\n10 1\n01 1\n.names a b c\n11 1\n.end\n",
+    net: ".inputs a b _c\n.outputs s c\n.names a b _t1\n11 1\n.names _c a _x1\n10 1\n01 1\n.names _x1 b s\n10 1\n01 1\n.names _c _t1 c\n10 1\n01 1\n.end\n",
+    vectors: b"andexor-vectors 1\nform reddy\ninputs a b _c\noutputs s c\npolarity 11\nvector 000 00\nvector 110 01\nvector 001 11\nvector 111 10\nvector 010 10\nvector 100 10\nend\n",
+    counts: Counts {
+        inputs: 2,
+        outputs: 2,
+        terms: 3,
+        gates: 4,
+        faults: 34,
+        vectors: 6,
     },
 };
 
@@ -155,6 +178,13 @@ fn constant_1(rt: HostRuntime) -> Result<(), Fail> {
 #[test]
 fn shared_term_and_inverter(rt: HostRuntime) -> Result<(), Fail> {
     let given = gives(rt.alloc(), &SHARED)?;
+    assert_eq!(rt; given, Differs::Nothing);
+    Ok(())
+}
+
+#[test]
+fn half_adder(rt: HostRuntime) -> Result<(), Fail> {
+    let given = gives(rt.alloc(), &HALF_ADDER)?;
     assert_eq!(rt; given, Differs::Nothing);
     Ok(())
 }

@@ -1,6 +1,6 @@
 //! Texts at the limits, and past them.
 
-use crate::files::{Differs, with_source};
+use crate::files::{BLIF, Differs, Given, PLA, with_source};
 use crate::refused::ends;
 use crate::written::{AND, Counts, ONE_INPUT, counts_for, gives_for};
 use std::alloc::{AllocError, Global};
@@ -12,7 +12,7 @@ const LONGEST: usize = 16_777_216;
 
 /// A text that ends with `.e`, and after it bytes 10 up to this number of bytes.
 fn filled(alloc: Global, count: usize) -> Result<Vec<u8>, AllocError> {
-    let mut text = Vec::from_slice(alloc, AND.source)?;
+    let mut text = Vec::from_slice(alloc, AND.pla)?;
     text.resize(count, b'\n')?;
     Ok(text)
 }
@@ -21,7 +21,7 @@ fn filled(alloc: Global, count: usize) -> Result<Vec<u8>, AllocError> {
 fn a_text_of_the_greatest_length(rt: HostRuntime) -> Result<(), Fail> {
     let alloc = rt.alloc();
     let text = filled(alloc, LONGEST)?;
-    let given = gives_for(alloc, &text, &AND)?;
+    let given = gives_for(alloc, PLA, &text, &AND)?;
     assert_eq!(rt; given, Differs::Nothing);
     Ok(())
 }
@@ -30,7 +30,7 @@ fn a_text_of_the_greatest_length(rt: HostRuntime) -> Result<(), Fail> {
 fn a_text_of_one_byte_more(rt: HostRuntime) -> Result<(), Fail> {
     let alloc = rt.alloc();
     let text = filled(alloc, LONGEST + 1)?;
-    let refused = ends(alloc, &text, TOO_LONG, b"too long: in.pla\n")?;
+    let refused = ends(alloc, PLA, &text, TOO_LONG, b"too long: in.pla\n")?;
     assert_eq!(rt; refused, Differs::Nothing);
     Ok(())
 }
@@ -48,7 +48,7 @@ fn rows(alloc: Global, count: usize) -> Result<Vec<u8>, AllocError> {
 fn as_many_rows_as_there_may_be(rt: HostRuntime) -> Result<(), Fail> {
     let alloc = rt.alloc();
     let text = rows(alloc, 65_536)?;
-    let given = gives_for(alloc, &text, &ONE_INPUT)?;
+    let given = gives_for(alloc, PLA, &text, &ONE_INPUT)?;
     assert_eq!(rt; given, Differs::Nothing);
     Ok(())
 }
@@ -58,7 +58,7 @@ fn one_row_more_than_there_may_be(rt: HostRuntime) -> Result<(), Fail> {
     let alloc = rt.alloc();
     let text = rows(alloc, 65_537)?;
     let line = b"refused: in.pla: line 65539: TooManyRows\n".as_slice();
-    let refused = ends(alloc, &text, REFUSED, line)?;
+    let refused = ends(alloc, PLA, &text, REFUSED, line)?;
     assert_eq!(rt; refused, Differs::Nothing);
     Ok(())
 }
@@ -76,7 +76,7 @@ fn named(alloc: Global, count: usize) -> Result<Vec<u8>, AllocError> {
 /// Runs `synth` on a text whose input has a name of this number of bytes, and compares with a refusal.
 fn refuses_named(alloc: Global, count: usize, line: &[u8]) -> Result<Differs, AllocError> {
     let text = named(alloc, count)?;
-    ends(alloc, &text, REFUSED, line)
+    ends(alloc, PLA, &text, REFUSED, line)
 }
 
 #[test]
@@ -155,23 +155,86 @@ static WIDEST_COUNTS: Counts = Counts {
 fn as_many_inputs_and_outputs_as_there_may_be(rt: HostRuntime) -> Result<(), Fail> {
     let alloc = rt.alloc();
     let text = widest(alloc)?;
-    let told = tells_counts(alloc, &text, &WIDEST_COUNTS)?;
+    let told = tells_counts(alloc, PLA, &text, &WIDEST_COUNTS)?;
     assert_eq!(rt; told, Differs::Nothing);
+    Ok(())
+}
+
+/// Writes the gate of an output that is the input of its place.
+fn push_buffer(text: &mut Vec<u8>, place: u8) -> Result<(), AllocError> {
+    text.extend_from_slice(b".names")?;
+    push_long(text, b'a', place)?;
+    push_long(text, b'f', place)?;
+    text.extend_from_slice(b"\n1 1\n")?;
+    Ok(())
+}
+
+/// The same as a BLIF text.
+fn widest_in_blif(alloc: Global) -> Result<Vec<u8>, AllocError> {
+    let mut text = Vec::from_slice(alloc, b".model m\n")?;
+    push_names(&mut text, b".inputs", b'a')?;
+    push_names(&mut text, b".outputs", b'f')?;
+    for place in 0..64 {
+        push_buffer(&mut text, place)?;
+    }
+    Ok(text)
+}
+
+#[test]
+fn a_network_of_as_many_inputs_and_outputs_as_there_may_be(rt: HostRuntime) -> Result<(), Fail> {
+    let alloc = rt.alloc();
+    let text = widest_in_blif(alloc)?;
+    let told = tells_counts(alloc, BLIF, &text, &WIDEST_COUNTS)?;
+    assert_eq!(rt; told, Differs::Nothing);
+    Ok(())
+}
+
+/// The most gates of a network.
+const GATES: u32 = 262_144;
+
+/// A BLIF text of this number of gates: a buffer, and gates that are 0, which nothing reads.
+fn gates(alloc: Global, count: u32) -> Result<String, AllocError> {
+    let head = ".model m\n.inputs x1\n.outputs f1\n.names x1 f1\n1 1\n";
+    let mut text = String::from_str(alloc, head)?;
+    for k in 1..count {
+        let gate = format!(in alloc; ".names g{k}\n")?;
+        text.push_str(&gate)?;
+    }
+    Ok(text)
+}
+
+#[test]
+fn as_many_gates_as_there_may_be(rt: HostRuntime) -> Result<(), Fail> {
+    let alloc = rt.alloc();
+    let text = gates(alloc, GATES)?;
+    let given = gives_for(alloc, BLIF, text.as_bytes(), &ONE_INPUT)?;
+    assert_eq!(rt; given, Differs::Nothing);
+    Ok(())
+}
+
+#[test]
+fn one_gate_more_than_there_may_be(rt: HostRuntime) -> Result<(), Fail> {
+    let alloc = rt.alloc();
+    let text = gates(alloc, GATES + 1)?;
+    let line = b"refused: in.blif: line 262149: TooManyGates\n".as_slice();
+    let refused = ends(alloc, BLIF, text.as_bytes(), REFUSED, line)?;
+    assert_eq!(rt; refused, Differs::Nothing);
     Ok(())
 }
 
 /// With every literal plain the expansion has a term for each set of the seventeen inputs: 131,072.
 static SEVENTEEN: &[u8] = b".i 17\n.o 1\n00000000000000000 1\n.e\n";
 
+static SEVENTEEN_IN_BLIF: &[u8] =
+    b".model m\n.inputs a b c d e f g h i j k l m n o p q\n.outputs r\n.names a b c d e f g h i j k l m n o p q r\n00000000000000000 1\n.end\n";
+
 #[test]
 fn seventeen_complemented_inputs(rt: HostRuntime) -> Result<(), Fail> {
-    let refused = ends(
-        rt.alloc(),
-        SEVENTEEN,
-        TOO_MANY_TERMS,
-        b"too many terms: output 1\n",
-    )?;
-    assert_eq!(rt; refused, Differs::Nothing);
+    let alloc = rt.alloc();
+    let line = b"too many terms: output 1\n".as_slice();
+    let pla = ends(alloc, PLA, SEVENTEEN, TOO_MANY_TERMS, line)?;
+    let blif = ends(alloc, BLIF, SEVENTEEN_IN_BLIF, TOO_MANY_TERMS, line)?;
+    assert_eq!(rt; pla.or(blif), Differs::Nothing);
     Ok(())
 }
 
@@ -194,14 +257,19 @@ static SIXTEEN_COUNTS: Counts = Counts {
 };
 
 /// Runs `synth` on a text, and compares the status and the report alone.
-fn tells_counts(alloc: Global, source: &[u8], counts: &Counts) -> Result<Differs, AllocError> {
-    let mut files = with_source(alloc, source)?;
-    counts_for(alloc, &mut files, counts)
+fn tells_counts(
+    alloc: Global,
+    given: Given,
+    source: &[u8],
+    counts: &Counts,
+) -> Result<Differs, AllocError> {
+    let mut files = with_source(alloc, given, source)?;
+    counts_for(alloc, given, &mut files, counts)
 }
 
 #[test]
 fn as_many_terms_as_there_may_be(rt: HostRuntime) -> Result<(), Fail> {
-    let told = tells_counts(rt.alloc(), SIXTEEN, &SIXTEEN_COUNTS)?;
+    let told = tells_counts(rt.alloc(), PLA, SIXTEEN, &SIXTEEN_COUNTS)?;
     assert_eq!(rt; told, Differs::Nothing);
     Ok(())
 }
@@ -211,12 +279,8 @@ static SIXTEEN_TWICE: &[u8] = b".i 16\n.o 2\n0000000000000000 11\n.e\n";
 
 #[test]
 fn the_terms_of_all_outputs_count(rt: HostRuntime) -> Result<(), Fail> {
-    let refused = ends(
-        rt.alloc(),
-        SIXTEEN_TWICE,
-        TOO_MANY_TERMS,
-        b"too many terms: output 2\n",
-    )?;
+    let line = b"too many terms: output 2\n".as_slice();
+    let refused = ends(rt.alloc(), PLA, SIXTEEN_TWICE, TOO_MANY_TERMS, line)?;
     assert_eq!(rt; refused, Differs::Nothing);
     Ok(())
 }

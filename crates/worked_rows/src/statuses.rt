@@ -1,10 +1,11 @@
 //! The statuses, the lines that tell them, and what the files hold then.
 
 use crate::files::{
-    Differs, Held, compare_files, compare_report, run_words, tells, tells_for, with_source,
+    BLIF, Differs, Given, Held, PLA, compare_files, compare_report, run_words, tells, tells_for,
+    with_source,
 };
 use crate::refused::Other;
-use crate::written;
+use crate::written::{self, gives_for, net_text};
 use ae_outside::{MemFiles, MemSink};
 use std::alloc::{AllocError, Global};
 use std::test::Fail;
@@ -17,9 +18,9 @@ static USAGE: &[u8] =
 
 /// The status of `synth` with ample memory.
 fn status_of_and(alloc: Global) -> Result<u8, AllocError> {
-    let mut files = with_source(alloc, AND)?;
+    let mut files = with_source(alloc, PLA, AND)?;
     let mut report = MemSink::new(alloc);
-    run_words(alloc, "synth in.pla n.blif v.vec", &mut files, &mut report)
+    run_words(alloc, PLA.words, &mut files, &mut report)
 }
 
 #[test]
@@ -31,14 +32,14 @@ fn synth_succeeds_with_ample_memory(rt: HostRuntime) -> Result<(), Fail> {
 
 /// Runs words that are none of a command, and compares with their refusal: no file is touched.
 fn refuses_words(alloc: Global, text: &str) -> Result<Differs, AllocError> {
-    let mut files = with_source(alloc, AND)?;
+    let mut files = with_source(alloc, PLA, AND)?;
     let told = tells_for(alloc, text, &mut files, WORDS, USAGE)?;
     let left = Held {
         source: Some(AND),
         net: None,
         vectors: None,
     };
-    Ok(told.or(compare_files(&files, &left)))
+    Ok(told.or(compare_files(&files, PLA, &left)))
 }
 
 /// The first of such words that are not refused so, where there are some.
@@ -62,6 +63,41 @@ static OTHER_WORDS: [&str; 7] = [
     "synth in.pla n.blif n.blif",
 ];
 
+static OTHER_OPTIONS: [&str; 14] = [
+    "synth in.pla n.blif v.vec --kind",
+    "synth in.pla n.blif v.vec --kind=pla",
+    "synth in.pla n.blif v.vec --kind fd",
+    "synth in.pla n.blif v.vec --kind PLA",
+    "synth in.pla n.blif v.vec --kind ",
+    "synth in.pla n.blif v.vec kind pla",
+    "synth in.pla n.blif v.vec --kinds blif",
+    "synth in.pla n.blif v.vec pla --kind",
+    "synth in.pla n.blif v.vec --kind pla more",
+    "synth in.pla n.blif v.vec --kind pla --kind",
+    "synth in.pla n.blif v.vec --kind pla --kind pla",
+    "synth --kind pla in.pla n.blif v.vec",
+    "synth in.pla n.blif n.blif --kind pla",
+    "grade in.pla n.blif v.vec --kind blif",
+];
+
+#[test]
+fn options_that_are_none(rt: HostRuntime) -> Result<(), Fail> {
+    let taken = first_taken(rt.alloc(), &OTHER_OPTIONS)?;
+    assert_eq!(rt; taken, None);
+    Ok(())
+}
+
+#[test]
+fn the_kind_of_a_pla_may_be_said(rt: HostRuntime) -> Result<(), Fail> {
+    let said = Given {
+        words: "synth in.pla n.blif v.vec --kind pla",
+        ..PLA
+    };
+    let given = gives_for(rt.alloc(), said, AND, &written::AND)?;
+    assert_eq!(rt; given, Differs::Nothing);
+    Ok(())
+}
+
 #[test]
 fn words_of_another_number_or_mode_or_with_equal_names(rt: HostRuntime) -> Result<(), Fail> {
     let taken = first_taken(rt.alloc(), &OTHER_WORDS)?;
@@ -70,27 +106,28 @@ fn words_of_another_number_or_mode_or_with_equal_names(rt: HostRuntime) -> Resul
 }
 
 /// Compares a run with no file there with a read fault: none is there after it.
-fn source_is_missing(alloc: Global) -> Result<Differs, AllocError> {
+fn source_is_missing(alloc: Global, given: Given, line: &[u8]) -> Result<Differs, AllocError> {
     let mut files = MemFiles::new(alloc);
-    let told = tells(alloc, &mut files, READ_FAULT, b"read fault: in.pla\n")?;
+    let told = tells(alloc, given, &mut files, READ_FAULT, line)?;
     let nothing = Held {
         source: None,
         net: None,
         vectors: None,
     };
-    Ok(told.or(compare_files(&files, &nothing)))
+    Ok(told.or(compare_files(&files, given, &nothing)))
 }
 
 #[test]
 fn a_missing_source_is_a_read_fault(rt: HostRuntime) -> Result<(), Fail> {
-    let missing = source_is_missing(rt.alloc())?;
-    assert_eq!(rt; missing, Differs::Nothing);
+    let pla = source_is_missing(rt.alloc(), PLA, b"read fault: in.pla\n")?;
+    let blif = source_is_missing(rt.alloc(), BLIF, b"read fault: in.blif\n")?;
+    assert_eq!(rt; pla.or(blif), Differs::Nothing);
     Ok(())
 }
 
 /// The second append of a file fails, of pieces of sixteen bytes.
 fn with_cut_append(alloc: Global) -> Result<MemFiles, AllocError> {
-    let mut files = with_source(alloc, AND)?;
+    let mut files = with_source(alloc, PLA, AND)?;
     files.piece(16);
     files.fail_append(2).map_err(|_| AllocError)?;
     Ok(files)
@@ -99,13 +136,19 @@ fn with_cut_append(alloc: Global) -> Result<MemFiles, AllocError> {
 /// Compares a run whose write of the network is cut: its first piece stands, and no vectors.
 fn network_is_cut(alloc: Global) -> Result<Differs, AllocError> {
     let mut files = with_cut_append(alloc)?;
-    let told = tells(alloc, &mut files, WRITE_FAULT, b"write fault: n.blif\n")?;
+    let told = tells(
+        alloc,
+        PLA,
+        &mut files,
+        WRITE_FAULT,
+        b"write fault: n.blif\n",
+    )?;
     let left = Held {
         source: Some(AND),
         net: Some(b".model andexor\n.".as_slice()),
         vectors: None,
     };
-    Ok(told.or(compare_files(&files, &left)))
+    Ok(told.or(compare_files(&files, PLA, &left)))
 }
 
 #[test]
@@ -117,7 +160,7 @@ fn a_write_of_the_network_stops(rt: HostRuntime) -> Result<(), Fail> {
 
 /// The second file is not made.
 fn with_cut_create(alloc: Global) -> Result<MemFiles, AllocError> {
-    let mut files = with_source(alloc, AND)?;
+    let mut files = with_source(alloc, PLA, AND)?;
     files.fail_create(2).map_err(|_| AllocError)?;
     Ok(files)
 }
@@ -125,13 +168,14 @@ fn with_cut_create(alloc: Global) -> Result<MemFiles, AllocError> {
 /// Compares a run whose file of the vectors is not made: the network stands.
 fn vectors_are_cut(alloc: Global) -> Result<Differs, AllocError> {
     let mut files = with_cut_create(alloc)?;
-    let told = tells(alloc, &mut files, WRITE_FAULT, b"write fault: v.vec\n")?;
+    let told = tells(alloc, PLA, &mut files, WRITE_FAULT, b"write fault: v.vec\n")?;
+    let net = net_text(alloc, PLA.model, &written::AND)?;
     let left = Held {
         source: Some(AND),
-        net: Some(written::AND.net),
+        net: Some(net.as_bytes()),
         vectors: None,
     };
-    Ok(told.or(compare_files(&files, &left)))
+    Ok(told.or(compare_files(&files, PLA, &left)))
 }
 
 #[test]
@@ -145,20 +189,21 @@ fn a_write_of_the_vectors_stops(rt: HostRuntime) -> Result<(), Fail> {
 fn tells_nothing(alloc: Global, files: &mut MemFiles) -> Result<Differs, AllocError> {
     let mut report = MemSink::new(alloc);
     report.fail_write(1).map_err(|_| AllocError)?;
-    let status = run_words(alloc, "synth in.pla n.blif v.vec", files, &mut report)?;
+    let status = run_words(alloc, PLA.words, files, &mut report)?;
     Ok(compare_report(status, &report, WRITE_FAULT, b""))
 }
 
 /// Compares a run whose report is not taken: both texts stand.
 fn report_is_cut(alloc: Global) -> Result<Differs, AllocError> {
-    let mut files = with_source(alloc, AND)?;
+    let mut files = with_source(alloc, PLA, AND)?;
     let told = tells_nothing(alloc, &mut files)?;
+    let net = net_text(alloc, PLA.model, &written::AND)?;
     let left = Held {
         source: Some(AND),
-        net: Some(written::AND.net),
+        net: Some(net.as_bytes()),
         vectors: Some(written::AND.vectors),
     };
-    Ok(told.or(compare_files(&files, &left)))
+    Ok(told.or(compare_files(&files, PLA, &left)))
 }
 
 #[test]

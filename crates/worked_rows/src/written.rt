@@ -1,6 +1,6 @@
 //! Runs on a source that is accepted.
 
-use crate::files::{Differs, Held, compare_files, tells, with_source};
+use crate::files::{BLIF, Differs, Given, Held, PLA, compare_files, tells, with_source};
 use crate::refused::Other;
 use ae_base::TEXT_BYTES;
 use ae_net::faults;
@@ -22,18 +22,21 @@ pub struct Counts {
     pub vectors: usize,
 }
 
-/// A source, what is written for it, and the numbers that are reported.
+/// The same functions as a PLA and as a BLIF text, what is written for both, and the numbers that are reported. The network's text is the
+/// part after its model's line.
 pub struct Row {
-    pub source: &'static [u8],
-    pub net: &'static [u8],
+    pub pla: &'static [u8],
+    pub blif: &'static [u8],
+    pub net: &'static str,
     pub vectors: &'static [u8],
     pub counts: Counts,
 }
 
 /// The AND of two inputs.
 pub static AND: Row = Row {
-    source: b".i 2\n.o 1\n11 1\n.e\n",
-    net: b".model andexor\n.inputs x1 x2 _c\n.outputs f1\n.names x1 x2 _t1\n11 1\n.names _c _t1 f1\n10 1\n01 1\n.end\n",
+    pla: b".i 2\n.o 1\n11 1\n.e\n",
+    blif: b".model m\n.inputs x1 x2\n.outputs f1\n.names x1 x2 f1\n11 1\n.end\n",
+    net: ".inputs x1 x2 _c\n.outputs f1\n.names x1 x2 _t1\n11 1\n.names _c _t1 f1\n10 1\n01 1\n.end\n",
     vectors: b"andexor-vectors 1\nform reddy\ninputs x1 x2 _c\noutputs f1\npolarity 11\nvector 000 0\nvector 110 1\nvector 001 1\nvector 111 0\nvector 010 0\nvector 100 0\nend\n",
     counts: Counts {
         inputs: 2,
@@ -47,8 +50,9 @@ pub static AND: Row = Row {
 
 /// One input, and its value.
 pub static ONE_INPUT: Row = Row {
-    source: b".i 1\n.o 1\n1 1\n.e\n",
-    net: b".model andexor\n.inputs x1 _c\n.outputs f1\n.names _c x1 f1\n10 1\n01 1\n.end\n",
+    pla: b".i 1\n.o 1\n1 1\n.e\n",
+    blif: b".model m\n.inputs x1\n.outputs f1\n.names x1 f1\n1 1\n.end\n",
+    net: ".inputs x1 _c\n.outputs f1\n.names _c x1 f1\n10 1\n01 1\n.end\n",
     vectors: b"andexor-vectors 1\nform reddy\ninputs x1 _c\noutputs f1\npolarity 1\nvector 00 0\nvector 10 1\nvector 01 1\nvector 11 0\nend\n",
     counts: Counts {
         inputs: 1,
@@ -92,50 +96,71 @@ fn reads_back(alloc: Global, text: &[u8], count: usize) -> bool {
     }
 }
 
+/// The text of the row's network, with its model.
+pub fn net_text(alloc: Global, model: &str, row: &Row) -> Result<String, AllocError> {
+    format!(in alloc; ".model {model}\n{}", row.net)
+}
+
 /// Compares the files with what the row says, and reads its netlist back.
-fn are_as_said(alloc: Global, files: &MemFiles, source: &[u8], row: &Row) -> Differs {
+fn are_as_said(
+    alloc: Global,
+    files: &MemFiles,
+    given: Given,
+    source: &[u8],
+    row: &Row,
+) -> Result<Differs, AllocError> {
+    let net = net_text(alloc, given.model, row)?;
+    if !reads_back(alloc, net.as_bytes(), row.counts.faults) {
+        return Ok(Differs::Net);
+    }
     let wanted = Held {
         source: Some(source),
-        net: Some(row.net),
+        net: Some(net.as_bytes()),
         vectors: Some(row.vectors),
     };
-    if reads_back(alloc, row.net, row.counts.faults) {
-        compare_files(files, &wanted)
-    } else {
-        Differs::Net
-    }
+    Ok(compare_files(files, given, &wanted))
 }
 
 /// Runs `synth` over these files, and compares the status and the report with those at these numbers.
 pub fn counts_for(
     alloc: Global,
+    given: Given,
     files: &mut MemFiles,
     counts: &Counts,
 ) -> Result<Differs, AllocError> {
     let wanted = report_of(alloc, counts)?;
-    tells(alloc, files, DONE, wanted.as_bytes())
+    tells(alloc, given, files, DONE, wanted.as_bytes())
 }
 
-/// Runs `synth` on a text, and compares all that is written and held with what is for the row's source.
-pub fn gives_for(alloc: Global, source: &[u8], row: &Row) -> Result<Differs, AllocError> {
-    let mut files = with_source(alloc, source)?;
-    let told = counts_for(alloc, &mut files, &row.counts)?;
-    Ok(told.or(are_as_said(alloc, &files, source, row)))
+/// Runs `synth` on a text, and compares all that is written and held with what is for the row's sources.
+pub fn gives_for(
+    alloc: Global,
+    given: Given,
+    source: &[u8],
+    row: &Row,
+) -> Result<Differs, AllocError> {
+    let mut files = with_source(alloc, given, source)?;
+    let told = counts_for(alloc, given, &mut files, &row.counts)?;
+    let held = are_as_said(alloc, &files, given, source, row)?;
+    Ok(told.or(held))
 }
 
-/// Runs `synth` on the row's source, and compares all that is written and held with what the row says.
+/// Runs `synth` on each of the row's sources, and compares all that is written and held with what the row says.
 pub fn gives(alloc: Global, row: &Row) -> Result<Differs, AllocError> {
-    gives_for(alloc, row.source, row)
+    let of_pla = gives_for(alloc, PLA, row.pla, row)?;
+    let of_blif = gives_for(alloc, BLIF, row.blif, row)?;
+    Ok(of_pla.or(of_blif))
 }
 
-/// The first text for which something else is written than for the row's source, where there is one.
+/// The first text for which something else is written than for the row's sources, where there is one.
 pub fn first_other(
     alloc: Global,
+    given: Given,
     texts: &[&'static [u8]],
     wanted: &Row,
 ) -> Result<Option<Other>, AllocError> {
     for (row, text) in texts.iter().enumerate() {
-        let differs = gives_for(alloc, text, wanted)?;
+        let differs = gives_for(alloc, given, text, wanted)?;
         if differs != Differs::Nothing {
             return Ok(Some(Other { row, differs }));
         }
