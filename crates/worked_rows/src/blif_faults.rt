@@ -274,7 +274,7 @@ fn a_name_that_is_driven_twice(rt: HostRuntime) -> Result<(), Fail> {
     Ok(())
 }
 
-static TOO_MANY: [Refusal; 6] = [
+static TOO_MANY: [Refusal; 7] = [
     Refusal {
         source: b".model m\n.inputs x1 x2 x3 x4 x5 x6 x7 x8 x9 x10 x11 x12 x13 x14 x15 x16 x17 x18 x19 x20 x21 x22 x23 x24 x25 x26 x27 x28 x29 x30 x31 x32 x33 x34 x35 x36 x37 x38 x39 x40 x41 x42 x43 x44 x45 x46 x47 x48 x49 x50 x51 x52 x53 x54 x55 x56 x57 x58 x59 x60 x61 x62 x63 x64 x65\n.outputs f\n.names x1 f\n1 1\n.end\n",
         report: b"refused: in.blif: line 2: TooManyInputs\n",
@@ -286,6 +286,10 @@ static TOO_MANY: [Refusal; 6] = [
     Refusal {
         source: b".model m\n.inputs x1 x2 x3 x4 x5 x6 x7 x8 x9 x10 x11 x12 x13 x14 x15 x16 x17 x18 x19 x20 x21 x22 x23 x24 x25 x26 x27 x28 x29 x30 x31 x32 x33 x34 x35 x36 x37 x38 x39 x40 x41 x42 x43 x44 x45 x46 x47 x48 x49 x50 x51 x52 x53 x54 x55 x56 x57 x58 x59 x60 x61 x62 x63 x64 x1\n",
         report: b"refused: in.blif: line 2: NameTwice\n",
+    },
+    Refusal {
+        source: b".names x1 f\n1 1\n.inputs x1 x2 x3 x4 x5 x6 x7 x8 x9 x10 x11 x12 x13 x14 x15 x16 x17 x18 x19 x20 x21 x22 x23 x24 x25 x26 x27 x28 x29 x30 x31 x32 x33 x34 x35 x36 x37 x38 x39 x40 x41 x42 x43 x44 x45 x46 x47 x48 x49 x50 x51 x52 x53 x54 x55 x56 x57 x58 x59 x60 x61 x62 x63 x64 f\n",
+        report: b"refused: in.blif: line 3: DefinedTwice\n",
     },
     Refusal {
         source: b".model m\n.inputs a\n.outputs f1 f2 f3 f4 f5 f6 f7 f8 f9 f10 f11 f12 f13 f14 f15 f16 f17 f18 f19 f20 f21 f22 f23 f24 f25 f26 f27 f28 f29 f30 f31 f32 f33 f34 f35 f36 f37 f38 f39 f40 f41 f42 f43 f44 f45 f46 f47 f48 f49 f50 f51 f52 f53 f54 f55 f56 f57 f58 f59 f60 f61 f62 f63 f64 f65\n",
