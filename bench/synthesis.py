@@ -105,7 +105,7 @@ FAMILIES = {
     "adder": (adder, range(1, 8)),
     "adder of gates": (adder_of_gates, range(1, 17)),
     "multiplier": (multiplier, range(1, 8)),
-    "multiplier of gates": (multiplier_of_gates, range(1, 9)),
+    "multiplier of gates": (multiplier_of_gates, range(1, 8)),
     "weight counter": (weight_counter, range(3, 16)),
     "random table": (random_table, range(10, 15)),
 }
