@@ -1,11 +1,12 @@
 -- Which status a synthesis of a file's text ends with, by what the file held.
-use Rattle.std.proofs.Common.{◌≡◌, ◌<◌, ◌≤◌, ◌∷◌, [], inl, inr, ℕ, List, Option, Some, None, length, sym, refl, ◌∙◌, subst, arith}
-use Rattle.std.specs.Prelude.{Contains, Err, IfSome}
+use Rattle.std.proofs.Common.{◌≡◌, ◌<◌, ◌≤◌, ◌∷◌, [], inl, inr, ℕ, List, Option, Some, None, length, sym, ap, refl, ◌∙◌, subst, arith}
+use Rattle.std.specs.Prelude.{Contains, Ok, Err, IfSome}
 use Rattle.std.specs.FinMap.{get}
 use Rattle.ae_base.specs.declared.limits.TheConstants.{TEXT_BYTES}
 use Rattle.ae_outside.specs.Files.{Shelf, bytes_of}
-use Rattle.synth_core.specs.Asked.{HasTooMany, IsWithin}
+use Rattle.synth_core.specs.Asked.{HasOtherCount, HasTooMany, IsWithin, polarity_of}
 use Rattle.synth_core.specs.Made.{Texts}
+use Rattle.ae_base.specs.Source.{Source}
 use Rattle.synth_core.specs.Says.{source_says}
 use Rattle.synth_core.specs.declared.fault.TextFault.{TextFault}
 use Rattle.synth_core.specs.declared.settings.Settings.{Settings}
@@ -15,8 +16,8 @@ use Rattle.synth_cmd.specs.Outcome.{Ending, HoldsText, IsMadeOf, Stage, Stands, 
 use Rattle.synth_cmd.specs.Outcome.Ending.{at_stage, untouched, in_part, half_told}
 use Rattle.synth_cmd.specs.Outcome.Stage.{Refuses, Fails, Writes}
 use Rattle.synth_cmd.specs.Outside.{Outside}
-use Rattle.synth_cmd.specs.declared.tell.Refusal.TheVariants.{ReadFault, TooLong, Text, TooManyTerms}
-use Rattle.synth_cmd.specs.declared.TheConstants.{DONE, READ_FAULT, REFUSED, TOO_LONG, TOO_MANY_TERMS}
+use Rattle.synth_cmd.specs.declared.tell.Refusal.TheVariants.{ReadFault, TooLong, Text, BitCount, TooManyTerms}
+use Rattle.synth_cmd.specs.declared.TheConstants.{DONE, WORDS, READ_FAULT, REFUSED, TOO_LONG, TOO_MANY_TERMS}
 use Rattle.synth_cmd.proofs.Names.{is_only}
 
 -- ---- what a file held
@@ -73,6 +74,7 @@ module _ (apart : (settings : Settings) (bytes : List ℕ) (output : ℕ) → Is
   not_held_by m tells none (Refuses name ReadFault) stands answers = inl answers.0
   not_held_by m tells none (Refuses name TooLong) stands answers = absurd (none_short m source none (source_long m name tells stands.0 stands.1))
   not_held_by m tells none (Refuses name (Text line what)) stands answers = absurd (no_bytes m tells none stands.1.0 stands.1.1)
+  not_held_by m tells none (Refuses name (BitCount given wanted)) stands answers = absurd (no_bytes m tells none stands.1.0 stands.1.1)
   not_held_by m tells none (Refuses name (TooManyTerms output)) stands answers = absurd (no_bytes m tells none stands.1.0 stands.1.1)
   not_held_by m tells none (Fails name texts) stands answers = absurd (no_bytes m tells none stands.2.bytes stands.2.was)
   not_held_by m tells none (Writes texts) stands answers = absurd (no_bytes m tells none stands.0.bytes stands.0.was)
@@ -82,6 +84,7 @@ module _ (apart : (settings : Settings) (bytes : List ℕ) (output : ℕ) → Is
   too_long_by m tells long quiet (Refuses name ReadFault) stands answers = absurd (quiet name stands.0 stands.1)
   too_long_by m tells long quiet (Refuses name TooLong) stands answers = inl answers.0
   too_long_by m tells long quiet (Refuses name (Text line what)) stands answers = absurd (not_long m tells long stands.1.0 stands.1.1)
+  too_long_by m tells long quiet (Refuses name (BitCount given wanted)) stands answers = absurd (not_long m tells long stands.1.0 stands.1.1)
   too_long_by m tells long quiet (Refuses name (TooManyTerms output)) stands answers = absurd (not_long m tells long stands.1.0 stands.1.1)
   too_long_by m tells long quiet (Fails name texts) stands answers = absurd (not_long m tells long stands.2.bytes stands.2.was)
   too_long_by m tells long quiet (Writes texts) stands answers = absurd (not_long m tells long stands.0.bytes stands.0.was)
@@ -105,11 +108,40 @@ module _ (apart : (settings : Settings) (bytes : List ℕ) (output : ℕ) → Is
     faulty_by line what says quiet (Refuses name ReadFault) stands answers = absurd (quiet name stands.0 stands.1)
     faulty_by line what says quiet (Refuses name TooLong) stands answers = absurd (never_long name stands.0 stands.1)
     faulty_by line what says quiet (Refuses name (Text a b)) stands answers = inl answers.0
+    faulty_by line what says quiet (Refuses name (BitCount given wanted)) stands answers =
+        let other = subst (λ b. HasOtherCount settings b given wanted) (was.only stands.1.0 stands.1.1) stands.1.2 in
+        absurd (let both = sym says ∙ other.says in cc both)
     faulty_by line what says quiet (Refuses name (TooManyTerms output)) stands answers =
         let many = subst (λ b. HasTooMany settings b output) (was.only stands.1.0 stands.1.1) stands.1.2 in
         absurd (let both = sym says ∙ many.expanded.says in cc both)
     faulty_by line what says quiet (Fails name texts) stands answers = absurd (made_no_fault texts line what says stands.2)
     faulty_by line what says quiet (Writes texts) stands answers = absurd (made_no_fault texts line what says stands.0)
+
+    -- ---- the polarity has another number of inputs
+    other_count : (given wanted : ℕ) → HasOtherCount settings bytes given wanted → (s : Source) → source_says settings.kind bytes ≡ Ok s
+        → (polarity_of settings.polarity (length s.inputs)).n ≡ length s.inputs → ⊥
+    other_count given wanted other s says same =
+        let sources : other.source ≡ s = (let both = sym other.says ∙ says in cc both) in
+        let wants : wanted ≡ length s.inputs = other.wants ∙ ap (λ r. length r.inputs) sources in
+        other.differ (other.gives ∙ ap (λ n. (polarity_of settings.polarity n).n) wants ∙ same ∙ sym wants)
+
+    other_not_within : (given wanted : ℕ) → HasOtherCount settings bytes given wanted → IsWithin settings bytes → ⊥
+    other_not_within given wanted other within = other_count given wanted other within.source within.expanded.says within.expanded.expansions.inputs
+
+    other_not_many : (given wanted output : ℕ) → HasOtherCount settings bytes given wanted → HasTooMany settings bytes output → ⊥
+    other_not_many given wanted output other many = other_count given wanted other many.source many.expanded.says many.expanded.expansions.inputs
+
+    bit_count_by : (given wanted : ℕ) → HasOtherCount settings bytes given wanted → NoRead reads old new → (stage : Stage) → Stands settings Was reads writes old new stage → Answers stage old new status → OrMemory WORDS status
+    bit_count_by given wanted other quiet (Refuses name ReadFault) stands answers = absurd (quiet name stands.0 stands.1)
+    bit_count_by given wanted other quiet (Refuses name TooLong) stands answers = absurd (never_long name stands.0 stands.1)
+    bit_count_by given wanted other quiet (Refuses name (Text line what)) stands answers =
+        let says = subst (λ b. source_says settings.kind b ≡ Err (line, what)) (was.only stands.1.0 stands.1.1) stands.1.2 in
+        absurd (let both = sym says ∙ other.says in cc both)
+    bit_count_by given wanted other quiet (Refuses name (BitCount g n)) stands answers = inl answers.0
+    bit_count_by given wanted other quiet (Refuses name (TooManyTerms o)) stands answers =
+        absurd (other_not_many given wanted o other (subst (λ b. HasTooMany settings b o) (was.only stands.1.0 stands.1.1) stands.1.2))
+    bit_count_by given wanted other quiet (Fails name texts) stands answers = absurd (other_not_within given wanted other (made_within texts stands.2))
+    bit_count_by given wanted other quiet (Writes texts) stands answers = absurd (other_not_within given wanted other (made_within texts stands.0))
 
     -- ---- the source has too many terms
     too_many_by : (output : ℕ) → HasTooMany settings bytes output → NoRead reads old new → (stage : Stage) → Stands settings Was reads writes old new stage → Answers stage old new status → OrMemory TOO_MANY_TERMS status
@@ -118,6 +150,8 @@ module _ (apart : (settings : Settings) (bytes : List ℕ) (output : ℕ) → Is
     too_many_by output many quiet (Refuses name (Text line what)) stands answers =
         let says = subst (λ b. source_says settings.kind b ≡ Err (line, what)) (was.only stands.1.0 stands.1.1) stands.1.2 in
         absurd (let both = sym says ∙ many.expanded.says in cc both)
+    too_many_by output many quiet (Refuses name (BitCount given wanted)) stands answers =
+        absurd (other_not_many given wanted output (subst (λ b. HasOtherCount settings b given wanted) (was.only stands.1.0 stands.1.1) stands.1.2) many)
     too_many_by output many quiet (Refuses name (TooManyTerms o)) stands answers = inl answers.0
     too_many_by output many quiet (Fails name texts) stands answers = absurd (apart settings bytes output (made_within texts stands.2) many)
     too_many_by output many quiet (Writes texts) stands answers = absurd (apart settings bytes output (made_within texts stands.0) many)
@@ -133,6 +167,8 @@ module _ (apart : (settings : Settings) (bytes : List ℕ) (output : ℕ) → Is
     complete_by within none (Refuses name (Text line what)) stands answers =
         let says = subst (λ b. source_says settings.kind b ≡ Err (line, what)) (was.only stands.1.0 stands.1.1) stands.1.2 in
         absurd (let both = sym says ∙ within.expanded.says in cc both)
+    complete_by within none (Refuses name (BitCount given wanted)) stands answers =
+        absurd (other_not_within given wanted (subst (λ b. HasOtherCount settings b given wanted) (was.only stands.1.0 stands.1.1) stands.1.2) within)
     complete_by within none (Refuses name (TooManyTerms output)) stands answers =
         absurd (apart settings bytes output within (subst (λ b. HasTooMany settings b output) (was.only stands.1.0 stands.1.1) stands.1.2))
     complete_by within none (Fails name texts) stands answers = absurd (none.no_write name stands.0 stands.1)
@@ -143,6 +179,7 @@ module _ (apart : (settings : Settings) (bytes : List ℕ) (output : ℕ) → Is
     not_held = λ m name tells named none. by_stage READ_FAULT (not_held_by m tells (subst (λ n. get m n ≡ None) (sym (is_only source name named)) none)) ending;
     too_long = λ m name tells named long quiet. by_stage TOO_LONG (too_long_by m tells (subst (λ n. TEXT_BYTES < length (bytes_of m n)) (sym (is_only source name named)) long) quiet) ending;
     faulty = λ bytes line what was says quiet. by_stage REFUSED (faulty_by bytes was line what says quiet) ending;
+    bit_count = λ bytes given wanted was other quiet. by_stage WORDS (bit_count_by bytes was given wanted other quiet) ending;
     too_many = λ bytes output was many quiet. by_stage TOO_MANY_TERMS (too_many_by bytes was output many quiet) ending;
     complete = λ bytes was within none. by_stage DONE (complete_by bytes was within none) ending;
   }

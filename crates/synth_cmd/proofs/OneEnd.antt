@@ -11,7 +11,7 @@ use Rattle.synth_cmd.specs.Outcome.Ending.{at_stage, untouched, in_part, half_to
 use Rattle.synth_cmd.specs.Outcome.Stage.{Refuses, Fails, Writes}
 use Rattle.synth_cmd.specs.Outside.{Outside}
 use Rattle.synth_cmd.specs.declared.tell.Refusal.{Refusal}
-use Rattle.synth_cmd.specs.declared.tell.Refusal.TheVariants.{ReadFault, TooLong, Text, TooManyTerms}
+use Rattle.synth_cmd.specs.declared.tell.Refusal.TheVariants.{ReadFault, TooLong, Text, BitCount, TooManyTerms}
 use Rattle.synth_cmd.specs.declared.TheConstants.{DONE}
 use Rattle.synth_cmd.proofs.Completed.{held_at}
 
@@ -19,6 +19,7 @@ no_refusal : (r : Refusal) → DONE ≡ status_of r → ⊥
 no_refusal ReadFault e = omega (arith, e)
 no_refusal TooLong e = omega (arith, e)
 no_refusal (Text line what) e = omega (arith, e)
+no_refusal (BitCount given wanted) e = omega (arith, e)
 no_refusal (TooManyTerms output) e = omega (arith, e)
 
 -- what is done: texts were made and written, and the report took its lines

@@ -2,7 +2,7 @@
 use Rattle.std.proofs.Common.{◌≡◌, ℕ, List, Option, Err, refl, subst}
 use Rattle.ae_outside.specs.Counts.{Tally}
 use Rattle.ae_outside.specs.Files.{Shelf}
-use Rattle.synth_core.specs.Asked.{HasTooMany}
+use Rattle.synth_core.specs.Asked.{HasOtherCount, HasTooMany}
 use Rattle.synth_core.specs.Errors.{of_text}
 use Rattle.synth_core.specs.Says.{source_says}
 use Rattle.synth_core.specs.declared.error.SynthErr.{SynthErr}
@@ -17,23 +17,26 @@ use Rattle.synth_cmd.specs.declared.stop.Stop.TheVariants as stop
 use Rattle.synth_cmd.specs.declared.stop.TextsErr.{TextsErr}
 use Rattle.synth_cmd.specs.declared.stop.TextsErr.TheVariants as texts
 use Rattle.synth_cmd.specs.declared.tell.Refusal.{Refusal}
-use Rattle.synth_cmd.specs.declared.tell.Refusal.TheVariants.{Text, TooManyTerms}
+use Rattle.synth_cmd.specs.declared.tell.Refusal.TheVariants.{Text, BitCount, TooManyTerms}
 
 -- a source that is refused has the cause that the error tells
 pub synth_cause : (settings : Settings) (Was : List ℕ → Type 0) (held : Option Shelf) (before now : Tally) (name bytes : List ℕ) (e : SynthErr) (r : Refusal) → Was bytes
     → ((line : ℕ) (what : TextFault) → e ≡ of_text line what → source_says settings.kind bytes ≡ Err (line, what))
-    → ((output : ℕ) → e ≡ synth_err.TooManyTerms output → HasTooMany settings bytes output)
+    → ((given wanted : ℕ) → e ≡ synth_err.BitCount given wanted → HasOtherCount settings bytes given wanted) → ((output : ℕ) → e ≡ synth_err.TooManyTerms output → HasTooMany settings bytes output)
     → of_synth e ≡ source_err.Refused r → Cause settings Was held before now name r
-synth_cause settings Was held before now name bytes (synth_err.Pla line what) r was says many is =
+synth_cause settings Was held before now name bytes (synth_err.Pla line what) r was says counts many is =
     let same : Text line (text.Pla what) ≡ r = cc in
     subst (Cause settings Was held before now name) same (bytes, was, says line (text.Pla what) refl)
-synth_cause settings Was held before now name bytes (synth_err.Blif line what) r was says many is =
+synth_cause settings Was held before now name bytes (synth_err.Blif line what) r was says counts many is =
     let same : Text line (text.Blif what) ≡ r = cc in
     subst (Cause settings Was held before now name) same (bytes, was, says line (text.Blif what) refl)
-synth_cause settings Was held before now name bytes (synth_err.TooManyTerms output) r was says many is =
+synth_cause settings Was held before now name bytes (synth_err.BitCount given wanted) r was says counts many is =
+    let same : BitCount given wanted ≡ r = cc in
+    subst (Cause settings Was held before now name) same (bytes, was, counts given wanted refl)
+synth_cause settings Was held before now name bytes (synth_err.TooManyTerms output) r was says counts many is =
     let same : TooManyTerms output ≡ r = cc in
     subst (Cause settings Was held before now name) same (bytes, was, many output refl)
-synth_cause settings Was held before now name bytes synth_err.Memory r was says many is = absurd (cc is)
+synth_cause settings Was held before now name bytes synth_err.Memory r was says counts many is = absurd (cc is)
 
 pub net_fault : (e : TextsErr) → of_texts e ≡ stop.NetFault → e ≡ texts.NetFault
 net_fault texts.NetFault is = refl

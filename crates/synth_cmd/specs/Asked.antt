@@ -1,10 +1,15 @@
 -- What the words of the command line ask for.
-use Rattle.std.specs.Prelude.{ℕ, not, ◌&&◌, Option, Some, None, option_map, List, [], ◌∷◌, codes, map, string_bytes, String, if◌then◌else◌, bytes_eq}
-use Rattle.std.specs.Option.{option_map_or}
+use Rattle.std.specs.Prelude.{ℕ, Bool, not, ◌&&◌, ◌||◌, ◌==◌, nat_le, nat_lt, Option, Some, None, option_map, List, [], ◌∷◌, length, slice_index, codes, map, string_bytes, String, if◌then◌else◌, bytes_eq}
+use Rattle.std.specs.List.{list_all}
+use Rattle.std.specs.Option.{option_and_then, option_map_or}
 use Rattle.std.specs.declared.alloc.Global.{Global}
+use Rattle.ae_base.specs.Cube.{Signs}
+use Rattle.ae_base.specs.Mask.{where_below}
+use Rattle.ae_base.specs.declared.limits.TheConstants.{SOURCE_LINES}
+use Rattle.synth_core.specs.declared.settings.Choice.{Choice}
 use Rattle.synth_core.specs.declared.settings.SourceKind.{SourceKind}
 use Rattle.synth_core.specs.declared.settings.SourceKind.TheVariants.{Pla, Blif}
-use Rattle.synth_core.specs.declared.settings.Choice.TheVariants.{Positive}
+use Rattle.synth_core.specs.declared.settings.Choice.TheVariants.{Positive, Given}
 use Rattle.synth_core.specs.declared.settings.Settings.{Settings}
 use Rattle.vec_text.specs.declared.file.Form.TheVariants.{Reddy}
 
@@ -12,19 +17,38 @@ pub data Asked : Type 0 where
   Refused : Asked
   Synth : Settings → (source net vectors : List ℕ) → Asked
 
--- a PLA text, the Reddy form, and the plain literal of each input
-abbrev pub usual : Settings
-usual = record { kind = Pla; form = Reddy; polarity = Positive }
-
 -- the kind of a source's text that a word names
 abbrev pub kind_of : List ℕ → Option SourceKind
 kind_of word = if bytes_eq word (codes "pla") then Some Pla else if bytes_eq word (codes "blif") then Some Blif else None
 
--- the settings that the words after the names ask for: the usual ones, or those with another kind of source
+-- a digit 0 or 1
+abbrev pub is_bit : ℕ → Bool
+is_bit b = (b == 48) || (b == 49)
+
+-- the polarity that a word tells: 1 to 64 digits, of which the k-th is 1 where the literal of input k is plain
+abbrev pub bits_of : List ℕ → Option Signs
+bits_of word =
+    if nat_lt 0 (length word) && (nat_le (length word) SOURCE_LINES && list_all is_bit word)
+    then Some (record { n = length word; plain = where_below (length word) (λ j. slice_index word j == 49) })
+    else None
+
+-- the choice of a polarity that a word names
+abbrev pub choice_of : List ℕ → Option Choice
+choice_of word = if bytes_eq word (codes "positive") then Some Positive else option_map (λ p. Given p) (bits_of word)
+
+-- What an option's word says where the words begin with it, else what is usual; with the words that are left.
+abbrev pub option_at : {X : Type 0} → List ℕ → (List ℕ → Option X) → X → List (List ℕ) → Option (X × List (List ℕ))
+option_at name says usual (option ∷ word ∷ rest) = if bytes_eq option name then option_map (λ x. (x, rest)) (says word) else Some (usual, option ∷ word ∷ rest)
+option_at name says usual words = Some (usual, words)
+
+-- the settings, where no words are left
+abbrev pub settings_with : SourceKind → Option (Choice × List (List ℕ)) → Option Settings
+settings_with kind (Some (polarity, [])) = Some (record { kind = kind; form = Reddy; polarity = polarity })
+settings_with kind _ = None
+
+-- the settings that the words after the names ask for: `--kind` and a kind, and then `--polarity` and a polarity, each or neither
 abbrev pub settings_of : List (List ℕ) → Option Settings
-settings_of [] = Some usual
-settings_of (option ∷ value ∷ []) = if bytes_eq option (codes "--kind") then option_map (λ kind. record usual { kind = kind }) (kind_of value) else None
-settings_of words = None
+settings_of words = option_and_then (λ kind. settings_with kind.0 (option_at (codes "--polarity") choice_of Positive kind.1)) (option_at (codes "--kind") kind_of Pla words)
 
 -- `synth` and the names of three files, which differ as texts, and then the words that say how
 abbrev pub asked_by : List (List ℕ) → Asked

@@ -3,9 +3,9 @@ use Rattle.std.specs.Prelude.{ℕ, suc, List, [], ◌∷◌, ◌++◌, codes}
 use Rattle.std.specs.Fmt.{decimal}
 use Rattle.ae_base.specs.Text.{text_of}
 use Rattle.vec_text.specs.VectorFile.{form_line, polarity_line}
-use Rattle.synth_cmd.specs.declared.TheConstants.{READ_FAULT, REFUSED, TOO_LONG, TOO_MANY_TERMS}
+use Rattle.synth_cmd.specs.declared.TheConstants.{WORDS, READ_FAULT, REFUSED, TOO_LONG, TOO_MANY_TERMS}
 use Rattle.synth_cmd.specs.declared.tell.Refusal.{Refusal}
-use Rattle.synth_cmd.specs.declared.tell.Refusal.TheVariants.{ReadFault, TooLong, Text, TooManyTerms}
+use Rattle.synth_cmd.specs.declared.tell.Refusal.TheVariants.{ReadFault, TooLong, Text, BitCount, TooManyTerms}
 use Rattle.synth_core.specs.declared.fault.TextFault.{TextFault}
 use Rattle.synth_core.specs.Says.{text_fault_name}
 use Rattle.synth_core.specs.declared.made.Summary.{Summary}
@@ -24,6 +24,9 @@ refused_line name line what = codes "refused: " ++ (name ++ (codes ": line " ++ 
 
 abbrev pub too_long_line : List ℕ → List ℕ
 too_long_line name = codes "too long: " ++ (name ++ codes "\n")
+
+abbrev pub bit_count_line : ℕ → ℕ → List ℕ
+bit_count_line given wanted = codes "polarity: " ++ (decimal given ++ (codes " bits for " ++ (decimal wanted ++ codes " inputs\n")))
 
 -- outputs are printed from 1 on
 abbrev pub too_many_line : ℕ → List ℕ
@@ -55,10 +58,12 @@ abbrev pub status_of : Refusal → ℕ
 status_of ReadFault = READ_FAULT
 status_of TooLong = TOO_LONG
 status_of (Text line what) = REFUSED
+status_of (BitCount given wanted) = WORDS
 status_of (TooManyTerms output) = TOO_MANY_TERMS
 
 abbrev pub line_of : Refusal → List ℕ → List ℕ
 line_of ReadFault name = read_fault_line name
 line_of TooLong name = too_long_line name
 line_of (Text line what) name = refused_line name line what
+line_of (BitCount given wanted) name = bit_count_line given wanted
 line_of (TooManyTerms output) name = too_many_line output

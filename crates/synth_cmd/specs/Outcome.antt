@@ -4,7 +4,7 @@ use Rattle.std.specs.List.{zip}
 use Rattle.ae_base.specs.declared.limits.TheConstants.{TEXT_BYTES}
 use Rattle.ae_outside.specs.Counts.{Tally, Rose, RoseAt}
 use Rattle.ae_outside.specs.Files.{Shelf, bytes_of, written, added, IsWrittenInPart, TookFront}
-use Rattle.synth_core.specs.Asked.{HasTooMany}
+use Rattle.synth_core.specs.Asked.{HasOtherCount, HasTooMany}
 use Rattle.synth_core.specs.Made.{IsMade, Texts}
 use Rattle.synth_core.specs.Says.{source_says}
 use Rattle.synth_core.specs.declared.settings.Settings.{Settings}
@@ -15,7 +15,7 @@ use Rattle.synth_cmd.specs.Headline.{Holds}
 use Rattle.synth_cmd.specs.Outside.{Outside, CountsAmong}
 use Rattle.synth_cmd.specs.Lines.{write_fault_line, usage_line, memory_line, report_lines, status_of, line_of}
 use Rattle.synth_cmd.specs.declared.tell.Refusal.{Refusal}
-use Rattle.synth_cmd.specs.declared.tell.Refusal.TheVariants.{ReadFault, TooLong, Text, TooManyTerms}
+use Rattle.synth_cmd.specs.declared.tell.Refusal.TheVariants.{ReadFault, TooLong, Text, BitCount, TooManyTerms}
 use Rattle.synth_cmd.specs.declared.TheConstants.{DONE, WORDS, WRITE_FAULT, MEMORY}
 
 -- ---- the report
@@ -81,6 +81,7 @@ abbrev pub Cause : Settings → (List ℕ → Type 0) → Option Shelf → (befo
 Cause settings Was held before now name ReadFault = RoseAt name before now
 Cause settings Was held before now name TooLong = IfSome held (λ m. TEXT_BYTES < length (bytes_of m name))
 Cause settings Was held before now name (Text line what) = (bytes : List ℕ) × Was bytes × (source_says settings.kind bytes ≡ Err (line, what))
+Cause settings Was held before now name (BitCount given wanted) = (bytes : List ℕ) × Was bytes × HasOtherCount settings bytes given wanted
 Cause settings Was held before now name (TooManyTerms output) = (bytes : List ℕ) × Was bytes × HasTooMany settings bytes output
 
 -- what stands at a stage, by the names that are read and those that are written

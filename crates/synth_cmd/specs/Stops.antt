@@ -10,7 +10,7 @@ use Rattle.synth_cmd.specs.declared.stop.Stop.{Stop}
 use Rattle.synth_cmd.specs.declared.stop.Stop.TheVariants as stop
 use Rattle.synth_cmd.specs.declared.stop.TextsErr.{TextsErr}
 use Rattle.synth_cmd.specs.declared.stop.TextsErr.TheVariants as texts
-use Rattle.synth_cmd.specs.declared.tell.Refusal.TheVariants.{ReadFault, TooLong, Text, TooManyTerms}
+use Rattle.synth_cmd.specs.declared.tell.Refusal.TheVariants.{ReadFault, TooLong, Text, BitCount, TooManyTerms}
 
 -- a source that is not read
 abbrev pub of_read : ReadErr → SourceErr
@@ -22,6 +22,7 @@ of_read read.Memory = source_err.Memory
 abbrev pub of_synth : SynthErr → SourceErr
 of_synth (synth_err.Pla line what) = source_err.Refused (Text line (text.Pla what))
 of_synth (synth_err.Blif line what) = source_err.Refused (Text line (text.Blif what))
+of_synth (synth_err.BitCount given wanted) = source_err.Refused (BitCount given wanted)
 of_synth (synth_err.TooManyTerms output) = source_err.Refused (TooManyTerms output)
 of_synth synth_err.Memory = source_err.Memory
 

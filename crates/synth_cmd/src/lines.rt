@@ -33,6 +33,13 @@ pub fn too_long(alloc: Global, name: &str) -> Result<String, AllocError>
     format!(in alloc; "too long: {name}\n")
 }
 
+/// Tells that the polarity that is handed has another number of inputs than the source.
+pub fn bit_count(alloc: Global, given: u32, wanted: u32) -> Result<String, AllocError>
+    ensures { IfOk result (λ line. string_bytes line ≡ spec.bit_count_line given wanted) }
+{
+    format!(in alloc; "polarity: {given} bits for {wanted} inputs\n")
+}
+
 /// Tells the first output at which there are too many terms. Outputs are counted from 0, and printed from 1 on.
 pub fn too_many_terms(alloc: Global, output: u32) -> Result<String, AllocError>
     ensures { IfOk result (λ line. string_bytes line ≡ spec.too_many_line output) }

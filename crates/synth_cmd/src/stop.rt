@@ -38,6 +38,9 @@ impl From<SynthErr> for SourceErr {
                 let what = TextFault::Blif(what);
                 SourceErr::Refused(Refusal::Text { line, what })
             }
+            SynthErr::BitCount { given, wanted } => {
+                SourceErr::Refused(Refusal::BitCount { given, wanted })
+            }
             SynthErr::TooManyTerms { output } => {
                 SourceErr::Refused(Refusal::TooManyTerms { output })
             }

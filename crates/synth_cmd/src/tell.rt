@@ -5,7 +5,7 @@ ghost use Rattle.synth_cmd.specs.Lines.{memory_line, report_lines, status_of, li
 ghost use Rattle.synth_cmd.specs.Telling.{Tells, Reports};
 
 use crate::report::report as report_of;
-use crate::{DONE, MEMORY, READ_FAULT, REFUSED, TOO_LONG, TOO_MANY_TERMS, WRITE_FAULT, lines};
+use crate::{DONE, MEMORY, READ_FAULT, REFUSED, TOO_LONG, TOO_MANY_TERMS, WORDS, WRITE_FAULT, lines};
 use ae_outside::{Sink, WriteErr, file_laws, put_all};
 use std::alloc::{AllocError, Global};
 use synth_core::{Summary, TextFault};
@@ -19,6 +19,8 @@ pub enum Refusal {
     TooLong,
     /// Its text has this first fault.
     Text { line: u32, what: TextFault },
+    /// The polarity that is handed has another number of inputs.
+    BitCount { given: u32, wanted: u32 },
     /// Its expansions have too many terms, first at this output.
     TooManyTerms { output: u32 },
 }
@@ -53,6 +55,7 @@ fn status(refusal: Refusal) -> u8
         Refusal::ReadFault => READ_FAULT,
         Refusal::TooLong => TOO_LONG,
         Refusal::Text { .. } => REFUSED,
+        Refusal::BitCount { .. } => WORDS,
         Refusal::TooManyTerms { .. } => TOO_MANY_TERMS,
     }
 }
@@ -64,6 +67,7 @@ fn line(alloc: Global, refusal: Refusal, name: &str) -> Result<String, AllocErro
         Refusal::ReadFault => lines::read_fault(alloc, name),
         Refusal::TooLong => lines::too_long(alloc, name),
         Refusal::Text { line, what } => lines::refused(alloc, name, line, what),
+        Refusal::BitCount { given, wanted } => lines::bit_count(alloc, given, wanted),
         Refusal::TooManyTerms { output } => lines::too_many_terms(alloc, output),
     }
 }

@@ -1,18 +1,17 @@
 //! The words of the command line.
-ghost use Rattle.std.specs.Prelude.{◌≡◌, map, string_bytes};
+ghost use Rattle.std.specs.Prelude.{◌≡◌, ◌≤◌, ◌==◌, ◌&&◌, nat_le, nat_lt, Some, None, IfSome, codes, length, map, slice_index, string_bytes};
+ghost use Rattle.std.specs.List.{list_all};
+ghost use Rattle.ae_base.specs.Mask.{where_below};
+ghost use Rattle.ae_base.specs.declared.limits.TheConstants.{SOURCE_LINES};
+ghost use Rattle.synth_core.specs.declared.settings.Choice.TheVariants.{Positive as positive};
+ghost use Rattle.synth_core.specs.declared.settings.SourceKind.TheVariants.{Pla as pla};
 ghost use Rattle.synth_cmd.specs.Asked as spec;
 ghost use Rattle.synth_cmd.specs.Asked.{asked};
 ghost use Rattle.synth_cmd.specs.Words.{command_of, AreApart};
 
+use ae_base::{Mask, Polarity, SOURCE_LINES};
 use synth_core::{Choice, Settings, SourceKind};
 use vec_text::Form;
-
-/// A PLA text, the Reddy form, and the plain literal of each input.
-const USUAL: Settings = Settings {
-    kind: SourceKind::Pla,
-    form: Form::Reddy,
-    polarity: Choice::Positive,
-};
 
 /// The names of the files of a synthesis: the source, and where the network and its vectors are written.
 #[derive(Clone, Copy)]
@@ -43,16 +42,110 @@ fn kind_of(word: &str) -> Option<SourceKind>
     }
 }
 
-/// The settings that the words after the names ask for: `--kind` and a kind, or none.
-fn settings_of(options: &[String]) -> Option<Settings>
-    ensures { result ≡ spec.settings_of (map string_bytes options.now) }
+/// Whether all characters are digits 0 and 1.
+fn are_bits(word: &[u8]) -> bool
+    ensures { result ≡ list_all spec.is_bit word.now }
 {
-    match options {
-        [] => Some(USUAL),
-        [option, value] if option.as_str() == "--kind" => {
-            kind_of(value.as_str()).map(|kind| Settings { kind, ..USUAL })
+    word.iter().all(|b| *b == b'0' || *b == b'1')
+}
+
+/// Whether the word has a digit 0 or 1 for each of some inputs of a source.
+fn is_bit_word(word: &[u8]) -> bool
+    ensures { result ≡ (nat_lt 0 (length word.now) && (nat_le (length word.now) SOURCE_LINES && list_all spec.is_bit word.now)) }
+{
+    let count = word.len();
+    0 < count && count <= SOURCE_LINES as usize && are_bits(word)
+}
+
+/// The places of the digits 1.
+fn ones(word: &[u8]) -> Mask
+    requires { length word.now ≤ SOURCE_LINES }
+    ensures { result ≡ where_below (length word.now) (λ j. slice_index word.now j == 49) }
+{
+    let mut plain = Mask::empty();
+    for j in 0..word.len() {
+        if word[j] == b'1' {
+            plain = plain.with(j as u32);
         }
+    }
+    plain
+}
+
+/// The polarity that a word of digits tells: 1 where the literal of the input is plain.
+fn bits_of(word: &[u8]) -> Option<Polarity>
+    ensures { result ≡ spec.bits_of word.now }
+{
+    if is_bit_word(word) {
+        Some(Polarity {
+            n: word.len() as u32,
+            plain: ones(word),
+        })
+    } else {
+        None
+    }
+}
+
+/// The choice of a polarity that a word names.
+fn choice_of(word: &str) -> Option<Choice>
+    ensures { result ≡ spec.choice_of word.now }
+{
+    if word == "positive" {
+        Some(Choice::Positive)
+    } else {
+        bits_of(word.as_bytes()).map(Choice::Given)
+    }
+}
+
+/// What `--kind` says where the words begin with it, else a PLA; with the words that are left.
+fn kind_option(words: &[String]) -> Option<(SourceKind, &[String])>
+    ensures some { IfSome result (λ found. spec.option_at (codes "--kind") spec.kind_of pla (map string_bytes words.now) ≡ Some (found.0, map string_bytes found.1.now)) }
+    ensures none { result ≡ None → spec.option_at (codes "--kind") spec.kind_of pla (map string_bytes words.now) ≡ None }
+{
+    match words {
+        [option, value, rest @ ..] if option.as_str() == "--kind" => {
+            Some((kind_of(value.as_str())?, rest))
+        }
+        _ => Some((SourceKind::Pla, words)),
+    }
+}
+
+/// What `--polarity` says where the words begin with it, else the plain literals; with the words that are left.
+fn polarity_option(words: &[String]) -> Option<(Choice, &[String])>
+    ensures some { IfSome result (λ found. spec.option_at (codes "--polarity") spec.choice_of positive (map string_bytes words.now) ≡ Some (found.0, map string_bytes found.1.now)) }
+    ensures none { result ≡ None → spec.option_at (codes "--polarity") spec.choice_of positive (map string_bytes words.now) ≡ None }
+{
+    match words {
+        [option, value, rest @ ..] if option.as_str() == "--polarity" => {
+            Some((choice_of(value.as_str())?, rest))
+        }
+        _ => Some((Choice::Positive, words)),
+    }
+}
+
+/// The settings of a kind and a polarity, where no words are left.
+fn settings_with(kind: SourceKind, polarity: Choice, rest: &[String]) -> Option<Settings>
+    ensures { result ≡ spec.settings_with kind (Some (polarity, map string_bytes rest.now)) }
+{
+    match rest {
+        [] => Some(Settings {
+            kind,
+            form: Form::Reddy,
+            polarity,
+        }),
         _ => None,
+    }
+}
+
+/// The settings that the words after the names ask for.
+fn settings_of(words: &[String]) -> Option<Settings>
+    ensures { result ≡ spec.settings_of (map string_bytes words.now) }
+{
+    match kind_option(words) {
+        Some((kind, rest)) => match polarity_option(rest) {
+            Some((polarity, rest)) => settings_with(kind, polarity, rest),
+            None => None,
+        },
+        None => None,
     }
 }
 

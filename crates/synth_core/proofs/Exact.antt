@@ -1,5 +1,5 @@
 -- What is answered of the bytes of a source, from what is answered of the source.
-use Rattle.std.proofs.Common.{◌≡◌, ◌≤◌, ◌⊎◌, inl, inr, ℕ, Bool, List, length, refl, sym, ap, ◌∙◌, subst}
+use Rattle.std.proofs.Common.{◌≡◌, ◌≤◌, ◌⊎◌, inl, inr, ℕ, Bool, List, length, refl, sym, ap, ap₂, ◌∙◌, subst}
 use Rattle.std.specs.Prelude.{Result, Ok, Err, IfOk, IsOk, IsErrOf}
 use Rattle.ae_base.specs.Mask.{Set}
 use Rattle.ae_base.specs.Cube.{Signs}
@@ -8,7 +8,7 @@ use Rattle.cascade.specs.declared.limits.TheConstants.{REDDY_TERMS}
 use Rattle.expansion.specs.Functions.{AreExpansions}
 use Rattle.expansion.specs.Terms.{Terms, cost, PassesAt}
 use Rattle.fn_store.specs.Davio.{IsExpansion}
-use Rattle.synth_core.specs.Asked.{IsExpanded, IsWithin, HasTooMany, polarity_of, terms_limit}
+use Rattle.synth_core.specs.Asked.{IsExpanded, IsWithin, HasOtherCount, HasTooMany, polarity_of, terms_limit}
 use Rattle.synth_core.specs.Errors.{of_text}
 use Rattle.synth_core.specs.Made.{IsMade, IsSynthesised, Texts, texts_of}
 use Rattle.synth_core.specs.Says.{source_says}
@@ -36,23 +36,53 @@ same_err : (e d : ℕ × TextFault) → same {X = Result Source (ℕ × TextFaul
 same_err e d h = cc h
 
 module _ (settings : Settings) (bytes : List ℕ) where
+  one_source : (s r : Source) → source_says settings.kind bytes ≡ Ok s → source_says settings.kind bytes ≡ Ok r → s ≡ r
+  one_source s r a b = let both = sym a ∙ b in cc both
+
+  -- a polarity with the number of inputs has no other number
+  pub same_count : (given wanted : ℕ) → HasOtherCount settings bytes given wanted → (s : Source) → source_says settings.kind bytes ≡ Ok s
+      → (polarity_of settings.polarity (length s.inputs)).n ≡ length s.inputs → ⊥
+  same_count given wanted other s says same =
+      let sources : other.source ≡ s = one_source other.source s other.says says in
+      let wants : wanted ≡ length s.inputs = other.wants ∙ ap (λ r. length r.inputs) sources in
+      other.differ (other.gives ∙ ap (λ n. (polarity_of settings.polarity n).n) wants ∙ same ∙ sym wants)
+
+  one_count : (g n : ℕ) → HasOtherCount settings bytes g n → (given wanted : ℕ) → HasOtherCount settings bytes given wanted → (g ≡ given) × (n ≡ wanted)
+  one_count g n a given wanted b =
+      let wants : n ≡ wanted = a.wants ∙ ap (λ r. length r.inputs) (one_source a.source b.source a.says b.says) ∙ sym b.wants in
+      (a.gives ∙ ap (λ m. (polarity_of settings.polarity m).n) wants ∙ sym b.gives, wants)
+
   -- where a text has a fault, the error is that fault, or memory is wanting
   pub is_refused : {T : Type 0} (e : SynthErr) → ((line : ℕ) (what : TextFault) → IsErrOf {T = T} (Err e) (of_text line what) → source_says settings.kind bytes ≡ Err (line, what))
-      → ((output : ℕ) → IsErrOf {T = T} (Err e) (err.TooManyTerms output) → ⊥)
+      → ((given wanted : ℕ) → IsErrOf {T = T} (Err e) (err.BitCount given wanted) → HasOtherCount settings bytes given wanted) → ((output : ℕ) → IsErrOf {T = T} (Err e) (err.TooManyTerms output) → ⊥)
       → (line : ℕ) (what : TextFault) → source_says settings.kind bytes ≡ Err (line, what) → (e ≡ of_text line what) ⊎ (e ≡ err.Memory)
-  is_refused (err.Pla l w) refused no_terms line what says = inl (ap (λ q. of_text q.0 q.1) (same_err (l, text.Pla w) (line, what) (sym (refused l (text.Pla w) refl) ∙ says)))
-  is_refused (err.Blif l w) refused no_terms line what says = inl (ap (λ q. of_text q.0 q.1) (same_err (l, text.Blif w) (line, what) (sym (refused l (text.Blif w) refl) ∙ says)))
-  is_refused (err.TooManyTerms o) refused no_terms line what says = absurd (no_terms o refl)
-  is_refused err.Memory refused no_terms line what says = inr refl
+  is_refused (err.Pla l w) refused counts no_terms line what says = inl (ap (λ q. of_text q.0 q.1) (same_err (l, text.Pla w) (line, what) (sym (refused l (text.Pla w) refl) ∙ says)))
+  is_refused (err.Blif l w) refused counts no_terms line what says = inl (ap (λ q. of_text q.0 q.1) (same_err (l, text.Blif w) (line, what) (sym (refused l (text.Blif w) refl) ∙ says)))
+  is_refused (err.TooManyTerms o) refused counts no_terms line what says = absurd (no_terms o refl)
+  is_refused (err.BitCount g n) refused counts no_terms line what says = absurd (let both = sym (counts g n refl).says ∙ says in cc both)
+  is_refused err.Memory refused counts no_terms line what says = inr refl
 
-  -- where it says a source, memory is wanting
+  -- where it says a source, and the polarity has its number of inputs, memory is wanting
   pub is_memory : {T : Type 0} (e : SynthErr) → ((line : ℕ) (what : TextFault) → IsErrOf {T = T} (Err e) (of_text line what) → source_says settings.kind bytes ≡ Err (line, what))
-      → ((output : ℕ) → IsErrOf {T = T} (Err e) (err.TooManyTerms output) → ⊥)
-      → (s : Source) → source_says settings.kind bytes ≡ Ok s → e ≡ err.Memory
-  is_memory (err.Pla l w) refused no_terms s says = absurd (let both = sym (refused l (text.Pla w) refl) ∙ says in cc both)
-  is_memory (err.Blif l w) refused no_terms s says = absurd (let both = sym (refused l (text.Blif w) refl) ∙ says in cc both)
-  is_memory (err.TooManyTerms o) refused no_terms s says = absurd (no_terms o refl)
-  is_memory err.Memory refused no_terms s says = refl
+      → ((given wanted : ℕ) → IsErrOf {T = T} (Err e) (err.BitCount given wanted) → HasOtherCount settings bytes given wanted) → ((output : ℕ) → IsErrOf {T = T} (Err e) (err.TooManyTerms output) → ⊥)
+      → (s : Source) → source_says settings.kind bytes ≡ Ok s → (polarity_of settings.polarity (length s.inputs)).n ≡ length s.inputs → e ≡ err.Memory
+  is_memory (err.Pla l w) refused counts no_terms s says same = absurd (let both = sym (refused l (text.Pla w) refl) ∙ says in cc both)
+  is_memory (err.Blif l w) refused counts no_terms s says same = absurd (let both = sym (refused l (text.Blif w) refl) ∙ says in cc both)
+  is_memory (err.BitCount g n) refused counts no_terms s says same = absurd (same_count g n (counts g n refl) s says same)
+  is_memory (err.TooManyTerms o) refused counts no_terms s says same = absurd (no_terms o refl)
+  is_memory err.Memory refused counts no_terms s says same = refl
+
+  -- where it says a source, and the polarity has another number, that is told, or memory is wanting
+  pub is_counted : {T : Type 0} (e : SynthErr) → ((line : ℕ) (what : TextFault) → IsErrOf {T = T} (Err e) (of_text line what) → source_says settings.kind bytes ≡ Err (line, what))
+      → ((given wanted : ℕ) → IsErrOf {T = T} (Err e) (err.BitCount given wanted) → HasOtherCount settings bytes given wanted) → ((output : ℕ) → IsErrOf {T = T} (Err e) (err.TooManyTerms output) → ⊥)
+      → (given wanted : ℕ) → HasOtherCount settings bytes given wanted → (e ≡ err.BitCount given wanted) ⊎ (e ≡ err.Memory)
+  is_counted (err.Pla l w) refused counts no_terms given wanted other = absurd (let both = sym (refused l (text.Pla w) refl) ∙ other.says in cc both)
+  is_counted (err.Blif l w) refused counts no_terms given wanted other = absurd (let both = sym (refused l (text.Blif w) refl) ∙ other.says in cc both)
+  is_counted (err.BitCount g n) refused counts no_terms given wanted other =
+      let both = one_count g n (counts g n refl) given wanted other in
+      inl (ap₂ (λ x y. err.BitCount x y) both.0 both.1)
+  is_counted (err.TooManyTerms o) refused counts no_terms given wanted other = absurd (no_terms o refl)
+  is_counted err.Memory refused counts no_terms given wanted other = inr refl
 
 -- ---- where the text says a source
 
@@ -99,17 +129,19 @@ module _ (settings : Settings) (bytes : List ℕ) (s : Source) (says : source_sa
         passes_once (terms_limit settings.form) a b y.expansions.outs (subst (λ e. PassesAt (terms_limit settings.form) e.outs a) same x.passes) y.passes
 
     pub always_too_many : (r : Result Made SynthErr) → IfOk r (λ m. IsMadeOf s p (texts_of m)) → ((output : ℕ) → IsErrOf r (err.TooManyTerms output) → TooMany s p output)
-        → ((line : ℕ) (what : TextFault) → IsErrOf r (of_text line what) → ⊥) → (output : ℕ) → HasTooMany settings bytes output → IsErrOf r (err.TooManyTerms output) ⊎ IsErrOf r err.Memory
-    always_too_many (Ok m) made passes accepted output many = absurd (apart one settings bytes output (is_within (texts_of m) made) many)
-    always_too_many (Err (err.TooManyTerms o)) made passes accepted output many = inl (ap (λ k. Err (err.TooManyTerms k)) (same_output o output (has_too_many o (passes o refl)) many))
-    always_too_many (Err (err.Pla l w)) made passes accepted output many = absurd (accepted l (text.Pla w) refl)
-    always_too_many (Err (err.Blif l w)) made passes accepted output many = absurd (accepted l (text.Blif w) refl)
-    always_too_many (Err err.Memory) made passes accepted output many = inr refl
+        → ((line : ℕ) (what : TextFault) → IsErrOf r (of_text line what) → ⊥) → ((given wanted : ℕ) → IsErrOf r (err.BitCount given wanted) → ⊥) → (output : ℕ) → HasTooMany settings bytes output → IsErrOf r (err.TooManyTerms output) ⊎ IsErrOf r err.Memory
+    always_too_many (Ok m) made passes accepted counted output many = absurd (apart one settings bytes output (is_within (texts_of m) made) many)
+    always_too_many (Err (err.TooManyTerms o)) made passes accepted counted output many = inl (ap (λ k. Err (err.TooManyTerms k)) (same_output o output (has_too_many o (passes o refl)) many))
+    always_too_many (Err (err.Pla l w)) made passes accepted counted output many = absurd (accepted l (text.Pla w) refl)
+    always_too_many (Err (err.Blif l w)) made passes accepted counted output many = absurd (accepted l (text.Blif w) refl)
+    always_too_many (Err (err.BitCount g n)) made passes accepted counted output many = absurd (counted g n refl)
+    always_too_many (Err err.Memory) made passes accepted counted output many = inr refl
 
     pub complete : (r : Result Made SynthErr) → ((output : ℕ) → IsErrOf r (err.TooManyTerms output) → TooMany s p output)
-        → ((line : ℕ) (what : TextFault) → IsErrOf r (of_text line what) → ⊥) → IsWithin settings bytes → IsOk r ⊎ IsErrOf r err.Memory
-    complete (Ok m) passes accepted within = inl refl
-    complete (Err (err.TooManyTerms o)) passes accepted within = absurd (apart one settings bytes o within (has_too_many o (passes o refl)))
-    complete (Err (err.Pla l w)) passes accepted within = absurd (accepted l (text.Pla w) refl)
-    complete (Err (err.Blif l w)) passes accepted within = absurd (accepted l (text.Blif w) refl)
-    complete (Err err.Memory) passes accepted within = inr refl
+        → ((line : ℕ) (what : TextFault) → IsErrOf r (of_text line what) → ⊥) → ((given wanted : ℕ) → IsErrOf r (err.BitCount given wanted) → ⊥) → IsWithin settings bytes → IsOk r ⊎ IsErrOf r err.Memory
+    complete (Ok m) passes accepted counted within = inl refl
+    complete (Err (err.TooManyTerms o)) passes accepted counted within = absurd (apart one settings bytes o within (has_too_many o (passes o refl)))
+    complete (Err (err.Pla l w)) passes accepted counted within = absurd (accepted l (text.Pla w) refl)
+    complete (Err (err.Blif l w)) passes accepted counted within = absurd (accepted l (text.Blif w) refl)
+    complete (Err (err.BitCount g n)) passes accepted counted within = absurd (counted g n refl)
+    complete (Err err.Memory) passes accepted counted within = inr refl

@@ -1,6 +1,7 @@
 -- What is read of a cover and of a network is what the source says.
-use Rattle.std.proofs.Common.{◌≡◌, ◌≤◌, ◌-◌, ℕ, Bool, true, List, length, get_or, refl, sym, ap, ◌∙◌, subst, arith}
-use Rattle.std.specs.Prelude.{All, Some, None, slice_get}
+use Rattle.std.proofs.Common.{◌≡◌, ◌≢◌, ◌≤◌, ◌-◌, ℕ, Bool, true, List, length, get_or, refl, sym, ap, ◌∙◌, subst, arith}
+use Rattle.std.specs.Prelude.{All, Some, None, Result, Ok, Err, IsErrAnd, slice_get}
+use Rattle.ae_base.proofs.Results.{passed_on}
 use Rattle.std.proofs.lemmas.Bool.{and_parts, leb-true}
 use Rattle.std.proofs.lemmas.Option.{slice_get-get_or}
 use Rattle.std.proofs.lemmas.List.{length-map}
@@ -32,9 +33,10 @@ use Rattle.expansion.specs.declared.functions.ExpandErr.{ExpandErr}
 use Rattle.expansion.specs.declared.functions.ExpandErr.TheVariants as expand_err
 use Rattle.synth_core.specs.declared.error.SynthErr.TheVariants as err
 use Rattle.synth_core.specs.Errors.{of_expand}
-use Rattle.synth_core.specs.Asked.{polarity_of}
-use Rattle.synth_core.specs.declared.settings.Choice.{Choice}
-use Rattle.synth_core.specs.declared.settings.Choice.TheVariants.{Positive}
+use Rattle.synth_core.specs.declared.error.SynthErr.{SynthErr}
+use Rattle.synth_core.specs.declared.settings.Settings.{Settings}
+use Rattle.synth_core.specs.Asked.{HasOtherCount, polarity_of}
+use Rattle.synth_core.specs.Says.{source_says}
 use Rattle.synth_core.specs.Made.{IsSynthesised, Texts, names_of}
 use Rattle.synth_core.specs.Sourced.{Parts, IsSourced, IsWhole}
 use Rattle.synth_core.specs.Steps.{IsMadeOf, TooMany}
@@ -67,9 +69,6 @@ net_named n valid keeps = record {
 module _ (agree : (s : Functions) (r : FnRef) (f g : Set → Bool) → AgreeAt s.polarity.n f g → Shows s r f → Shows s r g) (functions : Functions) (refs : List FnRef) where
   pub net_shows : (n : Network) → ShowEach functions refs (λ o x. has (out n None x) o) → ShowEach functions refs (on_set (net.source_of n))
   net_shows n show = record { each = λ o r at. agree functions r _ _ (λ x point. on_set_net n o x) (show.each o r at) }
-
-pub polarity_inputs : (choice : Choice) (n : ℕ) → (polarity_of choice n).n ≡ n
-polarity_inputs Positive n = refl
 
 -- ---- what is expanded
 
@@ -105,3 +104,20 @@ are_live functions refs fs shows = λ k d l. (shows.each k (get_or refs k d) (sl
 pub too_many_of : (e : ExpandErr) (output : ℕ) → of_expand e ≡ err.TooManyTerms output → e ≡ expand_err.TooManyTerms output
 too_many_of (expand_err.TooManyTerms o) output h = let same : o ≡ output = cc h in ap (λ k. expand_err.TooManyTerms k) same
 too_many_of expand_err.Memory output h = absurd (cc h)
+
+-- ---- a polarity of another number of inputs
+
+pub other_count : {T : Type 0} (settings : Settings) (bytes : List ℕ) (s : Source) (n : ℕ) (e : SynthErr) (r : Result T SynthErr)
+    → source_says settings.kind bytes ≡ Ok s → n ≡ length s.inputs → e ≡ err.BitCount (polarity_of settings.polarity n).n n → (polarity_of settings.polarity n).n ≢ n
+    → IsErrAnd r (λ y. y ≡ e) → (given wanted : ℕ) → r ≡ Err (err.BitCount given wanted) → HasOtherCount settings bytes given wanted
+other_count settings bytes s n e r says count is differ was given wanted answer =
+    let same : err.BitCount (polarity_of settings.polarity n).n n ≡ err.BitCount given wanted = (let both = sym (passed_on r e was ∙ ap Err is) ∙ answer in cc both) in
+    let wants : n ≡ wanted = cc same in
+    let gives : (polarity_of settings.polarity n).n ≡ given = cc same in
+    record {
+      source = s;
+      says = says;
+      wants = sym wants ∙ count;
+      gives = sym gives ∙ ap (λ m. (polarity_of settings.polarity m).n) wants;
+      differ = λ e. differ (gives ∙ e ∙ sym wants);
+    }

@@ -1,5 +1,5 @@
 -- What a synthesis is asked for, and which sources have too many terms for it.
-use Rattle.std.specs.Prelude.{◌≡◌, ℕ, ◌≤◌, Ok, List, length}
+use Rattle.std.specs.Prelude.{◌≡◌, ◌≢◌, ℕ, ◌≤◌, Ok, List, length}
 use Rattle.ae_base.specs.Mask.{first}
 use Rattle.ae_base.specs.Cube.{Signs}
 use Rattle.ae_base.specs.Source.{Source}
@@ -8,7 +8,7 @@ use Rattle.expansion.specs.Functions.{AreExpansions}
 use Rattle.expansion.specs.Terms.{Terms, cost, PassesAt}
 use Rattle.synth_core.specs.Says.{source_says}
 use Rattle.synth_core.specs.declared.settings.Choice.{Choice}
-use Rattle.synth_core.specs.declared.settings.Choice.TheVariants.{Positive}
+use Rattle.synth_core.specs.declared.settings.Choice.TheVariants.{Positive, Given}
 use Rattle.synth_core.specs.declared.settings.Settings.{Settings}
 use Rattle.vec_text.specs.declared.file.Form.{Form}
 use Rattle.vec_text.specs.declared.file.Form.TheVariants.{Reddy}
@@ -20,6 +20,7 @@ all_plain n = record { n = n; plain = first n }
 -- the polarity of n inputs
 abbrev pub polarity_of : Choice → ℕ → Signs
 polarity_of Positive n = all_plain n
+polarity_of (Given p) n = p
 
 -- the greatest number of terms of all outputs
 abbrev pub terms_limit : Form → ℕ
@@ -29,6 +30,14 @@ terms_limit Reddy = REDDY_TERMS
 pub record IsExpanded (settings : Settings) (bytes : List ℕ) (s : Source) (e : Terms) : Type 0 where
   pub says : source_says settings.kind bytes ≡ Ok s
   pub expansions : AreExpansions s (polarity_of settings.polarity (length s.inputs)) e
+
+-- The bytes say a source, and the polarity has another number of inputs.
+pub record HasOtherCount (settings : Settings) (bytes : List ℕ) (given wanted : ℕ) : Type 0 where
+  pub source : Source
+  pub says : source_says settings.kind bytes ≡ Ok source
+  pub wants : wanted ≡ length source.inputs
+  pub gives : given ≡ (polarity_of settings.polarity wanted).n
+  pub differ : given ≢ wanted
 
 -- The bytes say a source whose expansions have no more terms than the form may have.
 pub record IsWithin (settings : Settings) (bytes : List ℕ) : Type 0 where

@@ -18,6 +18,9 @@ pub enum SynthErr {
     /// The BLIF text has this first fault.
     #[error("line {line}: {what}")]
     Blif { line: u32, what: BlifFault },
+    /// The polarity that is handed has another number of inputs than the source.
+    #[error("a polarity of {given} inputs for {wanted} inputs")]
+    BitCount { given: u32, wanted: u32 },
     /// The running sum of the expansions' terms passes the limit of the form, first at this output. Outputs are counted from 0.
     #[error("too many terms: output {output}, counted from 0")]
     TooManyTerms { output: u32 },

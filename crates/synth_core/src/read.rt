@@ -1,6 +1,6 @@
 //! A source as it is read: its names, and the functions of its outputs in a store. Nothing after this knows the kind of its text.
-ghost use Rattle.std.specs.Prelude.{◌≡◌, ◌≤◌, ℕ, IfOk, IsErrOf, Err, length};
-ghost use Rattle.ae_base.specs.declared.limits.TheConstants.{TEXT_BYTES};
+ghost use Rattle.std.specs.Prelude.{◌≡◌, ◌≢◌, ◌≤◌, ℕ, IfOk, IfErr, IsErrOf, Err, length};
+ghost use Rattle.ae_base.specs.declared.limits.TheConstants.{NET_LINES, TEXT_BYTES};
 ghost use Rattle.ae_cover.specs.Cover.{source_of};
 ghost use Rattle.ae_net.specs.Implements.{port_names};
 ghost use Rattle.ae_net.specs.Source as net_spec;
@@ -8,7 +8,7 @@ ghost use Rattle.blif_read.specs.declared.fault.NetLimits.TheVariants.{Source as
 ghost use Rattle.blif_read.specs.Limits.{KeepsLimits};
 ghost use Rattle.synth_core.specs.declared.error.SynthErr.TheVariants as synth_err;
 ghost use Rattle.synth_core.specs.declared.fault.TextFault.{TextFault};
-ghost use Rattle.synth_core.specs.Asked.{polarity_of};
+ghost use Rattle.synth_core.specs.Asked.{HasOtherCount, polarity_of};
 ghost use Rattle.synth_core.specs.Errors.{of_text};
 ghost use Rattle.synth_core.specs.Made.{names_of};
 ghost use Rattle.synth_core.specs.Says.{source_says};
@@ -16,7 +16,7 @@ ghost use Rattle.synth_core.specs.Sourced.{IsSourced, IsWhole, SaysSourced, part
 
 use crate::error::SynthErr;
 use crate::settings::{Choice, Settings, SourceKind, polarity_of};
-use ae_base::{Memory, Name, Seq, copies};
+use ae_base::{Memory, Name, Polarity, Seq, copies};
 use ae_cover::Cover;
 use ae_net::{Net, NetNames};
 use blif_read::{NetLimits, read_blif, said_law};
@@ -52,13 +52,32 @@ fn cover_names(alloc: Global, cover: &Cover) -> Result<NetNames, Memory>
     })
 }
 
-/// The source that a cover is.
-fn cover_source(alloc: Global, cover: &Cover, choice: Choice) -> Result<Sourced, Memory>
-    ensures sourced { IfOk result (λ r. IsSourced (source_of cover.now) (polarity_of choice (length cover.now.inputs)) (parts r.names (⟦<Store as FnStore>⟧.functions r.functions) r.outputs.items)) }
+/// The polarity that is asked for, of `n` inputs. `BitCount` comes exactly where one with another number is handed.
+fn polarity_for(choice: Choice, n: u32) -> Result<Polarity, SynthErr>
+    requires { n ≤ NET_LINES }
+    ensures polarity { IfOk result (λ p. p ≡ polarity_of choice n) }
+    ensures inputs { IfOk result (λ p. p.n ≡ n) }
+    ensures other { IfErr result (λ e. e ≡ synth_err.BitCount (polarity_of choice n).n n) }
+    ensures differ { IfErr result (λ e. (polarity_of choice n).n ≢ n) }
+{
+    let polarity = polarity_of(choice, n);
+    if polarity.n != n {
+        return Err(SynthErr::BitCount {
+            given: polarity.n,
+            wanted: n,
+        });
+    }
+    Ok(polarity)
+}
+
+/// The source that a cover is, at a polarity of its inputs.
+fn cover_source(alloc: Global, cover: &Cover, polarity: Polarity) -> Result<Sourced, Memory>
+    requires { polarity.n ≡ length cover.now.inputs }
+    ensures sourced { IfOk result (λ r. IsSourced (source_of cover.now) polarity (parts r.names (⟦<Store as FnStore>⟧.functions r.functions) r.outputs.items)) }
     ensures whole { IfOk result (λ r. IsWhole (parts r.names (⟦<Store as FnStore>⟧.functions r.functions) r.outputs.items)) }
 {
     let names = cover_names(alloc, cover)?;
-    let polarity = polarity_of(choice, cover.inputs().len() as u32);
+    let _ = cover.outputs();
     let mut functions = Store::new(alloc, polarity)?;
     let outputs = cover_values(alloc, &mut functions, cover)?;
     Ok(Sourced {
@@ -95,14 +114,14 @@ fn net_names(alloc: Global, net: &Net) -> Result<NetNames, Memory>
     })
 }
 
-/// The source that a network is.
-fn net_source(alloc: Global, net: &Net, choice: Choice) -> Result<Sourced, Memory>
-    requires { KeepsLimits source_limits net.now }
-    ensures sourced { IfOk result (λ r. IsSourced (net_spec.source_of net.now) (polarity_of choice (length net.now.inputs)) (parts r.names (⟦<Store as FnStore>⟧.functions r.functions) r.outputs.items)) }
+/// The source that a network is, at a polarity of its inputs.
+fn net_source(alloc: Global, net: &Net, polarity: Polarity) -> Result<Sourced, Memory>
+    requires limits { KeepsLimits source_limits net.now }
+    requires inputs { polarity.n ≡ length net.now.inputs }
+    ensures sourced { IfOk result (λ r. IsSourced (net_spec.source_of net.now) polarity (parts r.names (⟦<Store as FnStore>⟧.functions r.functions) r.outputs.items)) }
     ensures whole { IfOk result (λ r. IsWhole (parts r.names (⟦<Store as FnStore>⟧.functions r.functions) r.outputs.items)) }
 {
     let names = net_names(alloc, net)?;
-    let polarity = polarity_of(choice, net.inputs().len() as u32);
     let mut functions = Store::new(alloc, polarity)?;
     let outputs = net_values(alloc, &mut functions, net, None)?;
     store_laws();
@@ -119,17 +138,20 @@ pub fn read_source(alloc: Global, bytes: &[u8], settings: &Settings) -> Result<S
     ensures sourced { IfOk result (λ r. SaysSourced settings.now bytes.now (parts r.names (⟦<Store as FnStore>⟧.functions r.functions) r.outputs.items)) }
     ensures whole { IfOk result (λ r. IsWhole (parts r.names (⟦<Store as FnStore>⟧.functions r.functions) r.outputs.items)) }
     ensures refused { (line : ℕ) (what : TextFault) → IsErrOf result (of_text line what) → source_says settings.now.kind bytes.now ≡ Err (line, what) }
+    ensures bit_count { (given wanted : ℕ) → IsErrOf result (synth_err.BitCount given wanted) → HasOtherCount settings.now bytes.now given wanted }
     ensures no_terms { (output : ℕ) → ¬ (IsErrOf result (synth_err.TooManyTerms output)) }
 {
     match settings.kind {
         SourceKind::Pla => {
             let cover = read_pla(alloc, bytes)?;
-            Ok(cover_source(alloc, &cover, settings.polarity)?)
+            let polarity = polarity_for(settings.polarity, cover.inputs().len() as u32)?;
+            Ok(cover_source(alloc, &cover, polarity)?)
         }
         SourceKind::Blif => {
             said_law();
             let net = read_blif(alloc, bytes, NetLimits::Source)?;
-            Ok(net_source(alloc, &net, settings.polarity)?)
+            let polarity = polarity_for(settings.polarity, net.inputs().len() as u32)?;
+            Ok(net_source(alloc, &net, polarity)?)
         }
     }
 }

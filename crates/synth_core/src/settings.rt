@@ -20,6 +20,8 @@ pub enum SourceKind {
 pub enum Choice {
     /// Each input has its plain literal.
     Positive,
+    /// This one. Its number of inputs is that of the source, or the source is refused.
+    Given(Polarity),
 }
 
 /// What a synthesis is asked for.
@@ -37,5 +39,6 @@ pub fn polarity_of(choice: Choice, n: u32) -> Polarity
 {
     match choice {
         Choice::Positive => Polarity::all_plain(n),
+        Choice::Given(polarity) => polarity,
     }
 }

@@ -11,7 +11,7 @@ ghost use Rattle.expansion.specs.Functions.{AreExpansions};
 ghost use Rattle.expansion.specs.Terms.{cost};
 ghost use Rattle.synth_core.specs.declared.error.SynthErr.TheVariants as synth_err;
 ghost use Rattle.synth_core.specs.declared.fault.TextFault.{TextFault};
-ghost use Rattle.synth_core.specs.Asked.{HasTooMany, IsWithin};
+ghost use Rattle.synth_core.specs.Asked.{HasOtherCount, HasTooMany, IsWithin};
 ghost use Rattle.synth_core.specs.Errors.{of_text};
 ghost use Rattle.synth_core.specs.Made.{IsMade, IsSynthesised, names_of, texts_of};
 ghost use Rattle.synth_core.specs.Says.{source_says};
@@ -152,6 +152,7 @@ fn synthesise_functions<S: FnStore>(
     ensures made { IfOk result (λ made. (s : Source) (p : Signs) → IsSourced s p (parts names.now (S.functions store.now) outputs.now) → IsMadeOf s p (texts_of made)) }
     ensures too_many { (output : ℕ) → IsErrOf result (synth_err.TooManyTerms output) → (s : Source) (p : Signs) → IsSourced s p (parts names.now (S.functions store.now) outputs.now) → TooMany s p output }
     ensures accepted { (line : ℕ) (what : TextFault) → ¬ (IsErrOf result (of_text line what)) }
+    ensures counted { (given wanted : ℕ) → ¬ (IsErrOf result (synth_err.BitCount given wanted)) }
 {
     expanded_law();
     let expansion = expand(alloc, store, outputs, REDDY_TERMS)?;
@@ -160,15 +161,18 @@ fn synthesise_functions<S: FnStore>(
 
 /// Reads a source of the kind that is asked for, and gives the texts of its network in the form that is asked for and of the network's
 /// vectors, with their numbers. `Pla` and `Blif` come exactly where the text is asked for as of that kind and has a fault, with the first
-/// one and its line; `TooManyTerms` exactly where it has none and the running sum of the expansions' terms passes the limit of the form,
+/// one and its line; `BitCount` exactly where it has none and the polarity that is handed has another number of inputs than the text;
+/// `TooManyTerms` exactly where neither holds and the running sum of the expansions' terms passes the limit of the form,
 /// with the first output at which it does; `Memory` for want of memory alone.
 pub fn synthesise(alloc: Global, bytes: &[u8], settings: &Settings) -> Result<Made, SynthErr>
     requires { length bytes.now ≤ TEXT_BYTES }
     ensures made { IfOk result (λ made. IsMade settings.now bytes.now (texts_of made)) }
     ensures refused { (line : ℕ) (what : TextFault) → IsErrOf result (of_text line what) → source_says settings.now.kind bytes.now ≡ Err (line, what) }
+    ensures bit_count { (given wanted : ℕ) → IsErrOf result (synth_err.BitCount given wanted) → HasOtherCount settings.now bytes.now given wanted }
     ensures too_many { (output : ℕ) → IsErrOf result (synth_err.TooManyTerms output) → HasTooMany settings.now bytes.now output }
     // Each cause has its answer, unless memory is wanting.
     ensures always_refused { (line : ℕ) (what : TextFault) → source_says settings.now.kind bytes.now ≡ Err (line, what) → IsErrOf result (of_text line what) ⊎ IsErrOf result synth_err.Memory }
+    ensures always_bit_count { (given wanted : ℕ) → HasOtherCount settings.now bytes.now given wanted → IsErrOf result (synth_err.BitCount given wanted) ⊎ IsErrOf result synth_err.Memory }
     ensures always_too_many { (output : ℕ) → HasTooMany settings.now bytes.now output → IsErrOf result (synth_err.TooManyTerms output) ⊎ IsErrOf result synth_err.Memory }
     ensures complete { IsWithin settings.now bytes.now → IsOk result ⊎ IsErrOf result synth_err.Memory }
 {

@@ -12,5 +12,6 @@ returns-in_err-synthesise-clause-refused g c r is =
     let was = subst (HoldsText (g.F.Files.held c.args.files.now) c.args.source.now) (sym c.deref.ensures.value) c.in_ok-bytes.ensures.held in
     synth_cause c.args.settings.now _ _ _ _ _ c.deref.result.now _ r was
     (λ line what e. c.in_err-synthesise.ensures.refused line what (ap Err e))
+    (λ given wanted e. c.in_err-synthesise.ensures.bit_count given wanted (ap Err e))
     (λ output e. c.in_err-synthesise.ensures.too_many output (ap Err e))
     (answered from.result of_synth _ (source_err.Refused r) from.ensures.1 is)

@@ -4,14 +4,14 @@ use Rattle.ae_base.proofs.Results.{passed_on}
 use Rattle.synth_core.specs.Asked.{polarity_of}
 use Rattle.synth_core.specs.Made.{texts_of}
 use Rattle.synth_core.specs.Steps.{IsMadeOf}
-use Rattle.synth_core.proofs.Exact.{is_refused, is_memory, all_made, has_too_many, always_too_many, complete}
+use Rattle.synth_core.proofs.Exact.{is_refused, is_memory, is_counted, same_count, all_made, has_too_many, always_too_many, complete}
 use Rattle.synth_core.proofs.synthesis.synthesise.Goals as goal
 
 pub returns-in_err-sourced-clause-always_refused : goal.returns-in_err-sourced-clause-always_refused
 returns-in_err-sourced-clause-always_refused c line what says =
     let e = c.in_err-sourced.field-0.0 in
     let is = passed_on c.from_residual.result e c.from_residual.ensures.1 in
-    elim (is_refused c.args.settings.now c.args.bytes.now e c.in_err-sourced.ensures.refused c.in_err-sourced.ensures.no_terms line what says) [
+    elim (is_refused c.args.settings.now c.args.bytes.now e c.in_err-sourced.ensures.refused c.in_err-sourced.ensures.bit_count c.in_err-sourced.ensures.no_terms line what says) [
       | inl fault ↦ inl (is ∙ ap Err fault)
       | inr memory ↦ inr (is ∙ ap Err memory)
     ]
@@ -19,12 +19,12 @@ returns-in_err-sourced-clause-always_refused c line what says =
 pub returns-in_err-sourced-clause-always_too_many : goal.returns-in_err-sourced-clause-always_too_many
 returns-in_err-sourced-clause-always_too_many c output many =
     let e = c.in_err-sourced.field-0.0 in
-    inr (passed_on c.from_residual.result e c.from_residual.ensures.1 ∙ ap Err (is_memory c.args.settings.now c.args.bytes.now e c.in_err-sourced.ensures.refused c.in_err-sourced.ensures.no_terms many.source many.expanded.says))
+    inr (passed_on c.from_residual.result e c.from_residual.ensures.1 ∙ ap Err (is_memory c.args.settings.now c.args.bytes.now e c.in_err-sourced.ensures.refused c.in_err-sourced.ensures.bit_count c.in_err-sourced.ensures.no_terms many.source many.expanded.says many.expanded.expansions.inputs))
 
 pub returns-in_err-sourced-clause-complete : goal.returns-in_err-sourced-clause-complete
 returns-in_err-sourced-clause-complete c within =
     let e = c.in_err-sourced.field-0.0 in
-    inr (passed_on c.from_residual.result e c.from_residual.ensures.1 ∙ ap Err (is_memory c.args.settings.now c.args.bytes.now e c.in_err-sourced.ensures.refused c.in_err-sourced.ensures.no_terms within.source within.expanded.says))
+    inr (passed_on c.from_residual.result e c.from_residual.ensures.1 ∙ ap Err (is_memory c.args.settings.now c.args.bytes.now e c.in_err-sourced.ensures.refused c.in_err-sourced.ensures.bit_count c.in_err-sourced.ensures.no_terms within.source within.expanded.says within.expanded.expansions.inputs))
 
 pub returns-clause-made : goal.returns-clause-made
 returns-clause-made c =
@@ -42,9 +42,23 @@ returns-clause-always_too_many c output many =
     let is = c.in_ok-sourced.ensures.sourced in
     always_too_many c.args.settings.now c.args.bytes.now is.source is.says c.expansion_law.ensures.one c.synthesise_functions.result
     (IfOk-weaker c.synthesise_functions.result _ (λ made. IsMadeOf is.source (polarity_of c.args.settings.now.polarity (length is.source.inputs)) (texts_of made)) (λ made law. law is.source (polarity_of c.args.settings.now.polarity (length is.source.inputs)) (rw c.deref.ensures.value is.is)) c.synthesise_functions.ensures.made)
-    (λ o e. c.synthesise_functions.ensures.too_many o e is.source (polarity_of c.args.settings.now.polarity (length is.source.inputs)) (rw c.deref.ensures.value is.is)) c.synthesise_functions.ensures.accepted output many
+    (λ o e. c.synthesise_functions.ensures.too_many o e is.source (polarity_of c.args.settings.now.polarity (length is.source.inputs)) (rw c.deref.ensures.value is.is)) c.synthesise_functions.ensures.accepted c.synthesise_functions.ensures.counted output many
 
 pub returns-clause-complete : goal.returns-clause-complete
 returns-clause-complete c within =
     let is = c.in_ok-sourced.ensures.sourced in
-    complete c.args.settings.now c.args.bytes.now is.source is.says c.expansion_law.ensures.one c.synthesise_functions.result (λ o e. c.synthesise_functions.ensures.too_many o e is.source (polarity_of c.args.settings.now.polarity (length is.source.inputs)) (rw c.deref.ensures.value is.is)) c.synthesise_functions.ensures.accepted within
+    complete c.args.settings.now c.args.bytes.now is.source is.says c.expansion_law.ensures.one c.synthesise_functions.result (λ o e. c.synthesise_functions.ensures.too_many o e is.source (polarity_of c.args.settings.now.polarity (length is.source.inputs)) (rw c.deref.ensures.value is.is)) c.synthesise_functions.ensures.accepted c.synthesise_functions.ensures.counted within
+
+pub returns-in_err-sourced-clause-always_bit_count : goal.returns-in_err-sourced-clause-always_bit_count
+returns-in_err-sourced-clause-always_bit_count c given wanted other =
+    let e = c.in_err-sourced.field-0.0 in
+    let is = passed_on c.from_residual.result e c.from_residual.ensures.1 in
+    elim (is_counted c.args.settings.now c.args.bytes.now e c.in_err-sourced.ensures.refused c.in_err-sourced.ensures.bit_count c.in_err-sourced.ensures.no_terms given wanted other) [
+      | inl count ↦ inl (is ∙ ap Err count)
+      | inr memory ↦ inr (is ∙ ap Err memory)
+    ]
+
+pub returns-clause-always_bit_count : goal.returns-clause-always_bit_count
+returns-clause-always_bit_count c given wanted other =
+    let is = c.in_ok-sourced.ensures.sourced in
+    absurd (same_count c.args.settings.now c.args.bytes.now given wanted other is.source is.says is.is.inputs)
