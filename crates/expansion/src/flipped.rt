@@ -13,7 +13,7 @@ use ae_base::{Mask, Memory, Polarity, Seq, Term};
 use fn_store::{expansion_law, sum};
 use std::alloc::Global;
 
-/// The expansions of the same functions at the polarity that differs in input `j` alone, in one pass over the terms. Where memory runs
+/// The expansions of the same functions at the polarity that differs in input `j` alone, in time linear in the terms. Where memory runs
 /// out, `Memory`.
 pub fn flip(alloc: Global, e: &Expansion, j: u32) -> Result<Expansion, Memory>
     requires input { j < e.now.polarity.n }
