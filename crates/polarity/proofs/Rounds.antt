@@ -13,7 +13,7 @@ use Rattle.expansion.specs.Flipped.{flipped_polarity}
 use Rattle.expansion.specs.Functions.{AreExpansions, KeepsFunctions}
 use Rattle.expansion.specs.Terms.{Terms, cost}
 use Rattle.polarity.specs.Cost.{cost_of, IsLocallyCheapest}
-use Rattle.polarity.specs.Scratch.{IsRound, NoneCheaper}
+use Rattle.polarity.specs.Round.{IsRound, NoneCheaper}
 use Rattle.polarity.specs.Settling.{first_cheaper, with_flip, rounds, settling}
 
 -- input j's flip costs less

@@ -1,3 +1,3 @@
 pub mod Cost
-pub mod Scratch
+pub mod Round
 pub mod Settling

@@ -4,7 +4,7 @@ ghost use Rattle.ae_base.specs.Source.{Source};
 ghost use Rattle.expansion.specs.Functions.{AreExpansions, KeepsFunctions};
 ghost use Rattle.expansion.specs.Terms.{cost};
 ghost use Rattle.polarity.specs.Cost.{IsLocallyCheapest};
-ghost use Rattle.polarity.specs.Scratch.{IsRound, NoneCheaper};
+ghost use Rattle.polarity.specs.Round.{IsRound, NoneCheaper};
 ghost use Rattle.polarity.specs.Settling.{settling};
 
 use crate::laws::cost_law;

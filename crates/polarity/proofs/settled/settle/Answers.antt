@@ -1,5 +1,5 @@
 use Rattle.std.proofs.lemmas.Option.{MatchOption-at_some, MatchOption-at_none}
-use Rattle.polarity.specs.Scratch.{IsRound, NoneCheaper}
+use Rattle.polarity.specs.Round.{IsRound, NoneCheaper}
 use Rattle.polarity.proofs.Rounds.{settles-on, settled-is, settled-cheapest}
 use Rattle.polarity.proofs.settled.settle.Goals as goal
 

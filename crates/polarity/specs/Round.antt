@@ -1,4 +1,4 @@
--- Words of private contracts alone.
+-- Words of private contracts alone: a round of settling.
 use Rattle.std.specs.Prelude.{◌≡◌, ◌<◌, None}
 use Rattle.ae_base.specs.Source.{Source}
 use Rattle.expansion.specs.Functions.{AreExpansions, KeepsFunctions}
