@@ -10,7 +10,8 @@ ghost use Rattle.fn_store.specs.declared.store.FnRef.{FnRef};
 
 /// Each truth function has one expansion at each polarity. Its terms are over the inputs. The EXOR of the products of its terms is the
 /// function, and no other list in term order without repeats has that EXOR. The function depends on exactly the inputs that its terms
-/// hold. It has as many terms as there are sets of inputs (written as the numbers below 2 to the n) whose coefficient is 1.
+/// hold. It has as many terms as there are sets of inputs (written as the numbers below 2 to the n) whose coefficient is 1, and so at most
+/// 2 to the n.
 pub fn expansion_law()
     ensures inside { (p : Signs) (f : Set → Bool) (ts : List Set) → IsExpansion p f ts → All (λ t. inside t (first p.n) ≡ true) ts }
     ensures meaning { (p : Signs) (f : Set → Bool) (ts : List Set) → IsExpansion p f ts → (x : Set) → IsPoint p.n x → value p ts x ≡ f x }

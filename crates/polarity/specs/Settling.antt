@@ -10,6 +10,7 @@ use Rattle.polarity.specs.Cost.{cost_of}
 abbrev pub first_cheaper : Source → Signs → Option ℕ
 first_cheaper s p = find (λ j. nat_lt (cost_of s (flipped_polarity p j)) (cost_of s p)) (range_with_len 0 p.n)
 
+-- the polarity with that input flipped, where there is one
 abbrev pub with_flip : Signs → Option ℕ → Signs
 with_flip p None = p
 with_flip p (Some j) = flipped_polarity p j
