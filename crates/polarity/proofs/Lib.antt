@@ -1,2 +1,4 @@
+pub mod Asked
 pub mod Costs
 pub mod Rounds
+pub mod Seams

@@ -1,0 +1,51 @@
+-- A loop over a list that writes each element: what was passed, place by place, and the rest.
+use Rattle.std.proofs.Common.{◌≡◌, ℕ, ◌+◌, ◌<◌, List, [], ◌∷◌, ◌++◌, length, map, take, drop, get_or, ap, sym, subst, ◌∙◌, arith, add-one, suc}
+use Rattle.std.proofs.Math.ListN.{set}
+use Rattle.std.proofs.Math.Seq.{take-suc, take-suc-set, drop-cons}
+use Rattle.std.specs.List.{AllZip}
+use Rattle.std.proofs.lemmas.List.{take-append-drop, drop-set-lt, map-append}
+use Rattle.std.proofs.lemmas.List.Elements.{AllZip-push}
+
+-- as f sees them: the elements passed before and after the write at i, and the rest, which stays
+pub record Seam {X Y : Type 0} (f : X → Y) (xs0 xs : List X) (i : ℕ) (x y : X) : Type 0 where
+  pub before : map f (take (i + 1) xs0) ≡ map f (take i xs0) ++ f x ∷ []
+  pub after : map f (take (i + 1) (set xs i y)) ≡ map f (take i xs) ++ f y ∷ []
+  pub rest : drop (i + 1) (set xs i y) ≡ drop (i + 1) xs0
+
+pub seam : {X Y : Type 0} (f : X → Y) (xs0 xs : List X) (i : ℕ) (d y : X) → length xs ≡ length xs0 → i < length xs → drop i xs ≡ drop i xs0 → Seam f xs0 xs i (get_or xs i d) y
+seam f xs0 xs i d y long lt rest =
+    let lt0 : i < length xs0 = omega arith in
+    let here : drop i xs ≡ get_or xs i d ∷ drop (suc i) xs = drop-cons xs i d lt in
+    let here0 : drop i xs0 ≡ get_or xs0 i d ∷ drop (suc i) xs0 = drop-cons xs0 i d lt0 in
+    let both : get_or xs i d ∷ drop (suc i) xs ≡ get_or xs0 i d ∷ drop (suc i) xs0 = sym here ∙ rest ∙ here0 in
+    let same : get_or xs0 i d ≡ get_or xs i d = cc in
+    let next : drop (suc i) xs ≡ drop (suc i) xs0 = cc in
+    let before : take (i + 1) xs0 ≡ take i xs0 ++ get_or xs i d ∷ [] = rw add-one (take-suc xs0 i d lt0 ∙ ap (λ v. take i xs0 ++ v ∷ []) same) in
+    let after : take (i + 1) (set xs i y) ≡ take i xs ++ y ∷ [] = rw add-one (take-suc-set xs i y lt) in
+    record {
+      before = ap (map f) before ∙ map-append f (take i xs0) (get_or xs i d ∷ []);
+      after = ap (map f) after ∙ map-append f (take i xs) (y ∷ []);
+      rest = rw add-one (drop-set-lt (suc i) xs i y (omega arith) ∙ next);
+    }
+
+pub AllZip-pass : {X Y : Type 0} (f : X → Y) (R : Y → Y → Type 0) (xs0 xs : List X) (i : ℕ) (x y : X) → Seam f xs0 xs i x y → AllZip R (map f (take i xs0)) (map f (take i xs)) → R (f x) (f y)
+    → AllZip R (map f (take (i + 1) xs0)) (map f (take (i + 1) (set xs i y)))
+AllZip-pass f R xs0 xs i x y s h r = rw (s.before, s.after) (AllZip-push R (map f (take i xs0)) (map f (take i xs)) (f x) (f y) h r)
+
+AllZip-beside : {Y : Type 0} (R : Y → Y → Type 0) → ((y : Y) → R y y) → (xs ys zs : List Y) → AllZip R xs ys → AllZip R (xs ++ zs) (ys ++ zs)
+AllZip-beside R r [] [] [] h = tt
+AllZip-beside R r [] [] (z ∷ zs) h = (r z, AllZip-beside R r [] [] zs tt)
+AllZip-beside R r [] (y ∷ ys) zs h = absurd h
+AllZip-beside R r (x ∷ xs) [] zs h = absurd h
+AllZip-beside R r (x ∷ xs) (y ∷ ys) zs h = (h.0, AllZip-beside R r xs ys zs h.1)
+
+map-parts : {X Y : Type 0} (f : X → Y) (i : ℕ) (xs : List X) → map f (take i xs) ++ map f (drop i xs) ≡ map f xs
+map-parts f i xs = sym (map-append f (take i xs) (drop i xs)) ∙ ap (map f) (take-append-drop i xs)
+
+-- all places, where those up to i were passed and the rest stayed
+pub AllZip-whole : {X Y : Type 0} (f : X → Y) (R : Y → Y → Type 0) → ((y : Y) → R y y) → (xs0 xs : List X) (i : ℕ) → AllZip R (map f (take i xs0)) (map f (take i xs)) → drop i xs ≡ drop i xs0
+    → AllZip R (map f xs0) (map f xs)
+AllZip-whole f R r xs0 xs i h rest =
+    subst (λ l. AllZip R l (map f xs)) (map-parts f i xs0)
+    (subst (λ l. AllZip R (map f (take i xs0) ++ map f (drop i xs0)) l) (ap (λ l. map f (take i xs) ++ map f l) (sym rest) ∙ map-parts f i xs)
+    (AllZip-beside R r (map f (take i xs0)) (map f (take i xs)) (map f (drop i xs0)) h))

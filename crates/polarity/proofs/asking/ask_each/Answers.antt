@@ -1,0 +1,23 @@
+use Rattle.std.proofs.Common.{◌+◌, arith, ◌∙◌, sym}
+use Rattle.polarity.specs.Search.{Stands, advised}
+use Rattle.polarity.proofs.Asked.{asked_more, stands_still}
+use Rattle.polarity.proofs.Seams.{seam, AllZip-pass, AllZip-whole}
+use Rattle.polarity.proofs.asking.ask_each.Goals as goal
+
+pub returns-in_err-best-clause-stands : goal.returns-in_err-best-clause-stands
+returns-in_err-best-clause-stands g c =
+    let f = λ (a : g.row.A.Denot). advised (g.A.Advisor.left a) (g.A.Advisor.log a) in
+    let s = seam f c.args.advisors.now c.each.advisors c.each.advisor-index c.advisor-item.result c.ask_one.new.advisor (omega arith) (omega arith) c.each.invariant.rest in
+    AllZip-whole f Stands stands_still _ _ (c.each.advisor-index + 1) (AllZip-pass f Stands _ _ _ _ _ s c.each.invariant.stands c.ask_one.ensures.stands) s.rest
+
+pub each-preserved : goal.each-preserved
+each-preserved g c =
+    let f = λ (a : g.row.A.Denot). advised (g.A.Advisor.left a) (g.A.Advisor.log a) in
+    let s = seam f c.args.advisors.now c.each.advisors c.each.advisor-index c.advisor-item.result c.ask_one.new.advisor (omega arith) (omega arith) c.each.invariant.rest in
+    record {
+      inputs = c.in_ok-best.ensures.best.inputs ∙ sym c.requires.best.inputs;
+      best = c.in_ok-best.ensures.best;
+      asked = λ o h. rw (s.before, s.after) (asked_more o _ _ _ _ _ _ _ _ (c.each.invariant.asked o h) (c.in_ok-best.ensures.asked o h) c.in_ok-best.ensures.left);
+      stands = AllZip-pass f Stands _ _ _ _ _ s c.each.invariant.stands c.ask_one.ensures.stands;
+      rest = s.rest;
+    }
