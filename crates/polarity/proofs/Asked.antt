@@ -58,14 +58,19 @@ module _ (s : Source) (limit : ℕ) (best p : Signs) where
   becomes_best h l = grind (arith, nat_tests)
 
 -- the cheaper one of two expansions of the source
-pub cheaper_is : Costs → (s : Source) (limit : ℕ) (best e : Terms) → AreExpansions s best.polarity best → AreExpansions s e.polarity e → cost e ≤ limit
+pub cheaper_is : Costs → (s : Source) (limit : ℕ) (best e : Terms) → AreExpansions s best.polarity best → AreExpansions s e.polarity e
+    → cost e ≤ limit
     → (cond (ltb (cost e) (cost best)) e best).polarity ≡ cheaper_at s limit best.polarity e.polarity
 cheaper_is costs s limit best e hb he within =
     let new : cost e ≡ cost_of s e.polarity = costs s e.polarity e he in
     let old : cost best ≡ cost_of s best.polarity = costs s best.polarity best hb in
     elim (cases_lt (cost e) (cost best)) [
-      | inl l ↦ ap (λ x. x.polarity) (sym (cond_below (cost e) (cost best) e best l)) ∙ becomes_best s limit best.polarity e.polarity (omega (arith, new, within)) (omega (arith, new, old, l))
-      | inr l ↦ ap (λ x. x.polarity) (sym (cond_above (cost e) (cost best) e best best l refl)) ∙ stays_first s limit best.polarity e.polarity (omega (arith, new, old, l))
+      | inl l ↦
+          ap (λ x. x.polarity) (sym (cond_below (cost e) (cost best) e best l))
+          ∙ becomes_best s limit best.polarity e.polarity (omega (arith, new, within)) (omega (arith, new, old, l))
+      | inr l ↦
+          ap (λ x. x.polarity) (sym (cond_above (cost e) (cost best) e best best l refl))
+          ∙ stays_first s limit best.polarity e.polarity (omega (arith, new, old, l))
     ]
 
 -- ---- the first cheapest of a list that grows
@@ -76,9 +81,19 @@ first_as {s} {ps} {b} qs c h lists best = subst (λ q. IsFirstCheapest s qs q) b
 pub first_alone : (s : Source) (p : Signs) → IsFirstCheapest s (p ∷ []) p
 first_alone s p = record { before = []; after = []; is = refl; dearer = All-nil (λ q. cost_of s p < cost_of s q); no_cheaper = All-nil (λ q. cost_of s p ≤ cost_of s q) }
 
-module _ (s : Source) (ps : List Signs) (b p : Signs) (h : IsFirstCheapest s ps b) where
-  first_kept : cost_of s b ≤ cost_of s p → IsFirstCheapest s (ps ++ p ∷ []) b
-  first_kept le = record {
+module _ (s : Source) (ps : List Signs) (b : Signs) (h : IsFirstCheapest s ps b) where
+  -- what holds of each polarity that costs no less holds of the whole list
+  all_from : (P : Signs → Type 0) → ((q : Signs) → cost_of s b ≤ cost_of s q → P q) → All P ps
+  all_from P holds =
+      let before : All P h.before = All-weaker (λ q. cost_of s b < cost_of s q) P (λ q l. holds q (omega (arith, l))) h.before h.dearer in
+      let after : All P h.after = All-weaker (λ q. cost_of s b ≤ cost_of s q) P holds h.after h.no_cheaper in
+      subst (All P) (sym h.is) (All-append P h.before (b ∷ h.after) before (All-cons P b h.after (holds b (omega arith)) after))
+
+  no_dearer : (p : Signs) → cost_of s p ≤ cost_of s b → All (λ q. cost_of s p ≤ cost_of s q) ps
+  no_dearer p le = all_from (λ q. cost_of s p ≤ cost_of s q) (λ q l. omega (arith, l, le))
+
+  first_kept : (p : Signs) → cost_of s b ≤ cost_of s p → IsFirstCheapest s (ps ++ p ∷ []) b
+  first_kept p le = record {
     before = h.before;
     after = h.after ++ p ∷ [];
     is = ap (λ l. l ++ p ∷ []) h.is ∙ append_assoc h.before (b ∷ h.after) (p ∷ []);
@@ -86,17 +101,14 @@ module _ (s : Source) (ps : List Signs) (b p : Signs) (h : IsFirstCheapest s ps 
     no_cheaper = All-push (λ q. cost_of s b ≤ cost_of s q) h.after p h.no_cheaper le;
   }
 
-  first_new : cost_of s p < cost_of s b → IsFirstCheapest s (ps ++ p ∷ []) p
-  first_new lt =
-      let before : All (λ q. cost_of s p < cost_of s q) h.before = All-weaker (λ q. cost_of s b < cost_of s q) (λ q. cost_of s p < cost_of s q) (λ q l. omega (arith, l, lt)) h.before h.dearer in
-      let after : All (λ q. cost_of s p < cost_of s q) h.after = All-weaker (λ q. cost_of s b ≤ cost_of s q) (λ q. cost_of s p < cost_of s q) (λ q l. omega (arith, l, lt)) h.after h.no_cheaper in
-      record {
-        before = ps;
-        after = [];
-        is = refl;
-        dearer = subst (All (λ q. cost_of s p < cost_of s q)) (sym h.is) (All-append (λ q. cost_of s p < cost_of s q) h.before (b ∷ h.after) before (All-cons (λ q. cost_of s p < cost_of s q) b h.after lt after));
-        no_cheaper = All-nil (λ q. cost_of s p ≤ cost_of s q);
-      }
+  first_new : (p : Signs) → cost_of s p < cost_of s b → IsFirstCheapest s (ps ++ p ∷ []) p
+  first_new p lt = record {
+    before = ps;
+    after = [];
+    is = refl;
+    dearer = all_from (λ q. cost_of s p < cost_of s q) (λ q l. omega (arith, l, lt));
+    no_cheaper = All-nil (λ q. cost_of s p ≤ cost_of s q);
+  }
 
 candidates-append : (xs ys : List Entry) → candidates (xs ++ ys) ≡ candidates xs ++ candidates ys
 candidates-append xs ys =
@@ -108,14 +120,15 @@ candidate_over p t is = rw is refl
 candidate_cost : (p : Signs) (t : Told) (c : ℕ) → t ≡ Cost c → candidates (entry_of p t ∷ []) ≡ p ∷ []
 candidate_cost p t c is = rw is refl
 
-first_told : (s : Source) (limit : ℕ) (ps : List Signs) (b p : Signs) (t : Told) → t ≡ told_at s limit p → IsFirstCheapest s ps b → IsFirstCheapest s (ps ++ candidates (entry_of p t ∷ [])) (cheaper_at s limit b p)
+first_told : (s : Source) (limit : ℕ) (ps : List Signs) (b p : Signs) (t : Told) → t ≡ told_at s limit p → IsFirstCheapest s ps b
+    → IsFirstCheapest s (ps ++ candidates (entry_of p t ∷ [])) (cheaper_at s limit b p)
 first_told s limit ps b p t is h = elim (cases_lt limit (cost_of s p)) [
   | inl over ↦ first_as _ _ h (sym (ap (λ l. ps ++ l) (candidate_over p t (is ∙ sym (told_over s limit p over))) ∙ append-nil ps)) (stays_best s limit b p over)
   | inr within ↦
       let lists : ps ++ p ∷ [] ≡ ps ++ candidates (entry_of p t ∷ []) = ap (λ l. ps ++ l) (sym (candidate_cost p t (cost_of s p) (is ∙ sym (told_cost s limit p within)))) in
       elim (cases_lt (cost_of s p) (cost_of s b)) [
-        | inl l ↦ first_as _ _ (first_new s ps b p h l) lists (becomes_best s limit b p within l)
-        | inr l ↦ first_as _ _ (first_kept s ps b p h l) lists (stays_first s limit b p l)
+        | inl l ↦ first_as _ _ (first_new s ps b h p l) lists (becomes_best s limit b p within l)
+        | inr l ↦ first_as _ _ (first_kept s ps b h p l) lists (stays_first s limit b p l)
       ]
 ]
 
@@ -125,8 +138,8 @@ pub part_none : (s : Source) (limit : ℕ) (start : Signs) (log : List Entry) �
 part_none s limit start log = record { new = []; log = sym (append-nil log); told = All-nil (IsTold s limit); first = λ ps h. first_as _ _ h (sym (append-nil ps)) refl }
 
 -- after one more proposal
-pub part_more : (s : Source) (limit : ℕ) (start : Signs) (before mid after : List Entry) (best p best' : Signs) (t : Told) → IsBeingAsked s limit start before mid best → after ≡ mid ++ entry_of p t ∷ [] → p.n ≡ length s.inputs → t ≡ told_at s limit p
-    → best' ≡ cheaper_at s limit best p → IsBeingAsked s limit start before after best'
+pub part_more : (s : Source) (limit : ℕ) (start : Signs) (before mid after : List Entry) (best p best' : Signs) (t : Told) → IsBeingAsked s limit start before mid best
+    → after ≡ mid ++ entry_of p t ∷ [] → p.n ≡ length s.inputs → t ≡ told_at s limit p → best' ≡ cheaper_at s limit best p → IsBeingAsked s limit start before after best'
 part_more s limit start before mid after best p best' t h grows inputs is cheaper = record {
   new = h.new ++ entry_of p t ∷ [];
   log = grows ∙ ap (λ l. l ++ entry_of p t ∷ []) h.log ∙ append_assoc before h.new (entry_of p t ∷ []);
@@ -139,7 +152,8 @@ part_more s limit start before mid after best p best' t h grows inputs is cheape
 pub stands_still : (a : Advised) → Stands a a
 stands_still a = record { left = omega arith; new = []; log = sym (append-nil a.log) }
 
-pub stands_more : (before : Advised) (left left' : ℕ) (log log' : List Entry) (e : Entry) → Stands before (advised left log) → left' ≤ left → log' ≡ log ++ e ∷ [] → Stands before (advised left' log')
+pub stands_more : (before : Advised) (left left' : ℕ) (log log' : List Entry) (e : Entry) → Stands before (advised left log)
+    → left' ≤ left → log' ≡ log ++ e ∷ [] → Stands before (advised left' log')
 stands_more before left left' log log' e h less grows = record {
   left = omega (arith, h.left, less);
   new = h.new ++ e ∷ [];
@@ -148,38 +162,33 @@ stands_more before left left' log log' e h less grows = record {
 
 -- ---- all advisors
 
-new_entries-push : (bs us : List Advised) (b u : Advised) → length bs ≡ length us → new_entries (bs ++ b ∷ []) (us ++ u ∷ []) ≡ new_entries bs us ++ drop (length b.log) u.log
+new_entries-push : (bs us : List Advised) (b u : Advised) → length bs ≡ length us
+    → new_entries (bs ++ b ∷ []) (us ++ u ∷ []) ≡ new_entries bs us ++ drop (length b.log) u.log
 new_entries-push [] [] b u e = append-nil (drop (length b.log) u.log)
 new_entries-push [] (v ∷ us) b u e = absurd (omega (arith, e))
 new_entries-push (c ∷ bs) [] b u e = absurd (omega (arith, e))
 new_entries-push (c ∷ bs) (v ∷ us) b u e =
-    ap (λ l. drop (length c.log) v.log ++ l) (new_entries-push bs us b u (omega (arith, e))) ∙ sym (append_assoc (drop (length c.log) v.log) (new_entries bs us) (drop (length b.log) u.log))
-
-pub asked_none : (s : Source) (limit : ℕ) (start : Signs) → AreAsked s limit start [] [] start
-asked_none s limit start = record { asked = tt; first = λ ps h. first_as _ _ h (sym (append-nil ps)) refl }
+    ap (λ l. drop (length c.log) v.log ++ l) (new_entries-push bs us b u (omega (arith, e)))
+    ∙ sym (append_assoc (drop (length c.log) v.log) (new_entries bs us) (drop (length b.log) u.log))
 
 -- after one more advisor
-pub asked_more : (s : Source) (limit : ℕ) (start : Signs) (bs us : List Advised) (b u : Advised) (best best' : Signs) → AreAsked s limit start bs us best → IsBeingAsked s limit best b.log u.log best' → u.left ≡ 0
-    → AreAsked s limit start (bs ++ b ∷ []) (us ++ u ∷ []) best'
+pub asked_more : (s : Source) (limit : ℕ) (start : Signs) (bs us : List Advised) (b u : Advised) (best best' : Signs) → AreAsked s limit start bs us best
+    → IsBeingAsked s limit best b.log u.log best' → u.left ≡ 0 → AreAsked s limit start (bs ++ b ∷ []) (us ++ u ∷ []) best'
 asked_more s limit start bs us b u best best' h part none =
     let new : drop (length b.log) u.log ≡ part.new = ap (drop (length b.log)) part.log ∙ drop-append_seam b.log part.new in
-    let entries : new_entries (bs ++ b ∷ []) (us ++ u ∷ []) ≡ new_entries bs us ++ part.new = new_entries-push bs us b u (length_all_zip (IsAsked s limit) bs us h.asked) ∙ ap (λ l. new_entries bs us ++ l) new in
+    let entries : new_entries (bs ++ b ∷ []) (us ++ u ∷ []) ≡ new_entries bs us ++ part.new =
+    new_entries-push bs us b u (length_all_zip (IsAsked s limit) bs us h.asked) ∙ ap (λ l. new_entries bs us ++ l) new in
     record {
       asked = AllZip-push (IsAsked s limit) bs us b u h.asked (record { left = none; new = part.new; log = part.log; told = part.told });
       first = λ ps f.
           first_as _ _ (part.first (ps ++ candidates (new_entries bs us)) (h.first ps f))
-          (append_assoc ps (candidates (new_entries bs us)) (candidates part.new) ∙ ap (λ l. ps ++ l) (sym (candidates-append (new_entries bs us) part.new)) ∙ ap (λ es. ps ++ candidates es) (sym entries)) refl;
+          (append_assoc ps (candidates (new_entries bs us)) (candidates part.new) ∙ ap (λ l. ps ++ l) (sym (candidates-append (new_entries bs us) part.new))
+          ∙ ap (λ es. ps ++ candidates es) (sym entries)) refl;
     }
 
-no_dearer : (s : Source) (ps : List Signs) (c p : Signs) → IsFirstCheapest s ps c → cost_of s p ≤ cost_of s c → All (λ q. cost_of s p ≤ cost_of s q) ps
-no_dearer s ps c p h le =
-    let before : All (λ q. cost_of s p ≤ cost_of s q) h.before = All-weaker (λ q. cost_of s c < cost_of s q) (λ q. cost_of s p ≤ cost_of s q) (λ q l. omega (arith, l, le)) h.before h.dearer in
-    let after : All (λ q. cost_of s p ≤ cost_of s q) h.after = All-weaker (λ q. cost_of s c ≤ cost_of s q) (λ q. cost_of s p ≤ cost_of s q) (λ q l. omega (arith, l, le)) h.after h.no_cheaper in
-    subst (All (λ q. cost_of s p ≤ cost_of s q)) (sym h.is) (All-append (λ q. cost_of s p ≤ cost_of s q) h.before (c ∷ h.after) before (All-cons (λ q. cost_of s p ≤ cost_of s q) c h.after le after))
-
 -- the best after all advisors, once it is settled
-pub chosen : Costs → (s : Source) (limit : ℕ) (start : Signs) (bs us : List Advised) (best e : Terms) → AreAsked s limit start bs us best.polarity → AreExpansions s best.polarity best → AreExpansions s e.polarity e → cost e ≤ cost best
-    → e.polarity ≡ settling s best.polarity → IsLocallyCheapest s e.polarity → IsChosen s start bs us e.polarity
+pub chosen : Costs → (s : Source) (limit : ℕ) (start : Signs) (bs us : List Advised) (best e : Terms) → AreAsked s limit start bs us best.polarity
+    → AreExpansions s best.polarity best → AreExpansions s e.polarity e → cost e ≤ cost best → e.polarity ≡ settling s best.polarity → IsLocallyCheapest s e.polarity → IsChosen s start bs us e.polarity
 chosen costs s limit start bs us best e h hb he le settles settled =
     let first = h.first (start ∷ []) (first_alone s start) in
     record {
@@ -187,7 +196,7 @@ chosen costs s limit start bs us best e h hb he le settles settled =
       first = first;
       settling = settles;
       settled = settled;
-      no_dearer = no_dearer s _ best.polarity e.polarity first (omega (arith, le, costs s best.polarity best hb, costs s e.polarity e he));
+      no_dearer = no_dearer s _ best.polarity first e.polarity (omega (arith, le, costs s best.polarity best hb, costs s e.polarity e he));
     }
 
 -- ---- telling

@@ -1,13 +1,12 @@
 //! The asking of advisors, and the choice among what they propose.
 ghost use Rattle.std.specs.Prelude.{◌≡◌, ◌≤◌, IfOk, OnOk, length, map, if◌then◌else◌, nat_lt};
 ghost use Rattle.std.specs.List.{AllZip};
-ghost use Rattle.ae_base.specs.Source.{Source};
 ghost use Rattle.ae_base.specs.declared.limits.TheConstants.{SOURCE_LINES};
-ghost use Rattle.expansion.specs.Functions.{AreExpansions, KeepsFunctions};
+ghost use Rattle.expansion.specs.Functions.{KeepsFunctions};
 ghost use Rattle.expansion.specs.Terms.{cost};
 ghost use Rattle.polarity.specs.Advisors.{told_of};
 ghost use Rattle.polarity.specs.Asking.{AreAsked, IsCandidate, IsBeingAsked, cheaper_at};
-ghost use Rattle.polarity.specs.Search.{IsAsked, IsChosen, Stands, advised, told_at};
+ghost use Rattle.polarity.specs.Search.{IsAsked, IsChosen, OfEachSource, Stands, advised, told_at};
 
 use crate::advisor::Advisor;
 use crate::laws::cost_law;
@@ -38,8 +37,8 @@ fn compare<M: Maker>(
     requires inputs { proposal.n ≡ (M.base maker.now).polarity.n }
     requires best { IsCandidate (M.base maker.now) (M.limit maker.now) best }
     ensures best { IfOk result (λ r. IsCandidate (M.base maker.now) (M.limit maker.now) r.1) }
-    ensures told { IfOk result (λ r. (s : Source) → AreExpansions s (M.base maker.now).polarity (M.base maker.now) → told_of r.0 ≡ told_at s (M.limit maker.now) proposal) }
-    ensures cheaper { IfOk result (λ r. (s : Source) → AreExpansions s (M.base maker.now).polarity (M.base maker.now) → r.1.polarity ≡ cheaper_at s (M.limit maker.now) best.polarity proposal) }
+    ensures told { IfOk result (λ r. OfEachSource (M.base maker.now) (λ s. told_of r.0 ≡ told_at s (M.limit maker.now) proposal)) }
+    ensures cheaper { IfOk result (λ r. OfEachSource (M.base maker.now) (λ s. r.1.polarity ≡ cheaper_at s (M.limit maker.now) best.polarity proposal)) }
 {
     cost_law();
     match maker.at(alloc, proposal) {
@@ -60,7 +59,8 @@ fn ask_one<A: Advisor, M: Maker>(
     requires best { IsCandidate (M.base maker.now) (M.limit maker.now) start }
     ensures left { OnOk result (A.left advisor.new ≡ 0) }
     ensures best { IfOk result (IsCandidate (M.base maker.now) (M.limit maker.now)) }
-    ensures asked { IfOk result (λ e. (s : Source) → AreExpansions s (M.base maker.now).polarity (M.base maker.now) → IsBeingAsked s (M.limit maker.now) start.polarity (A.log advisor.old) (A.log advisor.new) e.polarity) }
+    ensures asked { IfOk result (λ e. OfEachSource (M.base maker.now) (λ s.
+        IsBeingAsked s (M.limit maker.now) start.polarity (A.log advisor.old) (A.log advisor.new) e.polarity)) }
     ensures stands { Stands (advised (A.left advisor.old) (A.log advisor.old)) (advised (A.left advisor.new) (A.log advisor.new)) }
 {
     let n = start.inputs();
@@ -83,8 +83,9 @@ fn ask_each<A: Advisor, M: Maker>(
     requires inputs { start.polarity.n ≤ SOURCE_LINES }
     requires best { IsCandidate (M.base maker.now) (M.limit maker.now) start }
     ensures best { IfOk result (IsCandidate (M.base maker.now) (M.limit maker.now)) }
-    ensures asked { IfOk result (λ e. (s : Source) → AreExpansions s (M.base maker.now).polarity (M.base maker.now)
-        → AreAsked s (M.limit maker.now) start.polarity (map (λ a. advised (A.left a) (A.log a)) advisors.old) (map (λ a. advised (A.left a) (A.log a)) advisors.new) e.polarity) }
+    ensures asked { IfOk result (λ e. OfEachSource (M.base maker.now) (λ s.
+        AreAsked s (M.limit maker.now) start.polarity (map (λ a. advised (A.left a) (A.log a)) advisors.old) (map (λ a. advised (A.left a) (A.log a)) advisors.new)
+        e.polarity)) }
     ensures stands { AllZip Stands (map (λ a. advised (A.left a) (A.log a)) advisors.old) (map (λ a. advised (A.left a) (A.log a)) advisors.new) }
 {
     let mut best = start;
@@ -104,8 +105,9 @@ fn ask_all<M: Maker>(
     requires inputs { start.polarity.n ≤ SOURCE_LINES }
     requires best { IsCandidate (M.base maker.now) (M.limit maker.now) start }
     ensures best { IfOk result (IsCandidate (M.base maker.now) (M.limit maker.now)) }
-    ensures asked { IfOk result (λ e. (s : Source) → AreExpansions s (M.base maker.now).polarity (M.base maker.now)
-        → AreAsked s (M.limit maker.now) start.polarity (map (λ b. advised (left b) (log b)) advisors.old.items) (map (λ b. advised (left b) (log b)) advisors.new.items) e.polarity) }
+    ensures asked { IfOk result (λ e. OfEachSource (M.base maker.now) (λ s.
+        AreAsked s (M.limit maker.now) start.polarity (map (λ b. advised (left b) (log b)) advisors.old.items) (map (λ b. advised (left b) (log b)) advisors.new.items)
+        e.polarity)) }
     ensures stands { AllZip Stands (map (λ b. advised (left b) (log b)) advisors.old.items) (map (λ b. advised (left b) (log b)) advisors.new.items) }
     ensures kept { length advisors.new.items ≡ length advisors.old.items }
 {
@@ -126,10 +128,10 @@ pub fn choose<M: Maker>(
     requires within { cost start ≤ M.limit maker.now }
     requires inputs { start.polarity.n ≤ SOURCE_LINES }
     ensures functions { IfOk result (KeepsFunctions start) }
-    ensures asked { OnOk result ((s : Source) → AreExpansions s start.polarity start
-        → AllZip (IsAsked s (M.limit maker.now)) (map (λ b. advised (left b) (log b)) advisors.old.items) (map (λ b. advised (left b) (log b)) advisors.new.items)) }
-    ensures chosen { IfOk result (λ e. (s : Source) → AreExpansions s start.polarity start
-        → IsChosen s start.polarity (map (λ b. advised (left b) (log b)) advisors.old.items) (map (λ b. advised (left b) (log b)) advisors.new.items) e.polarity) }
+    ensures asked { OnOk result (OfEachSource start (λ s.
+        AllZip (IsAsked s (M.limit maker.now)) (map (λ b. advised (left b) (log b)) advisors.old.items) (map (λ b. advised (left b) (log b)) advisors.new.items))) }
+    ensures chosen { IfOk result (λ e. OfEachSource start (λ s.
+        IsChosen s start.polarity (map (λ b. advised (left b) (log b)) advisors.old.items) (map (λ b. advised (left b) (log b)) advisors.new.items) e.polarity)) }
     ensures stands { AllZip Stands (map (λ b. advised (left b) (log b)) advisors.old.items) (map (λ b. advised (left b) (log b)) advisors.new.items) }
     ensures kept { length advisors.new.items ≡ length advisors.old.items }
 {

@@ -1,10 +1,10 @@
 //! Makers of expansions, at any polarity.
 ghost use Rattle.std.specs.Prelude.{◌≡◌, ℕ, ◌<◌, ◌≤◌, ◌^◌, IfOk, IsErrOf};
-ghost use Rattle.ae_base.specs.Source.{Source};
-ghost use Rattle.expansion.specs.Functions.{AreExpansions, KeepsFunctions};
+ghost use Rattle.expansion.specs.Functions.{KeepsFunctions};
 ghost use Rattle.expansion.specs.Terms.{Terms, cost};
 ghost use Rattle.expansion.specs.declared.functions.ExpandErr.TheVariants as expand_err;
 ghost use Rattle.polarity.specs.Makers.{HasTooManyAt};
+ghost use Rattle.polarity.specs.Search.{OfEachSource};
 
 use ae_base::Polarity;
 use expansion::{ExpandErr, Expansion};
@@ -25,7 +25,8 @@ pub trait Maker {
         ensures polarity { IfOk result (λ e. e.polarity ≡ p) }
         ensures functions { IfOk result (KeepsFunctions (base self.now)) }
         ensures within { IfOk result (λ e. cost e ≤ limit self.now) }
-        ensures too_many { (output : ℕ) → IsErrOf result (expand_err.TooManyTerms output) → (s : Source) → AreExpansions s (base self.now).polarity (base self.now) → HasTooManyAt s (limit self.now) p output };
+        ensures too_many { (output : ℕ) → IsErrOf result (expand_err.TooManyTerms output)
+            → OfEachSource (base self.now) (λ s. HasTooManyAt s (limit self.now) p output) };
 
     /// The limit is a number below 2 to the 61.
     ghost limit_fits: { (m : Self) → limit m < 2 ^ 61 };
