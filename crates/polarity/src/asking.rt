@@ -128,6 +128,7 @@ pub fn choose<M: Maker>(
     requires within { cost start ≤ M.limit maker.now }
     requires inputs { start.polarity.n ≤ SOURCE_LINES }
     ensures functions { IfOk result (KeepsFunctions start) }
+    ensures within { IfOk result (λ e. cost e ≤ M.limit maker.now) }
     ensures asked { OnOk result (OfEachSource start (λ s.
         AllZip (IsAsked s (M.limit maker.now)) (map (λ b. advised (left b) (log b)) advisors.old.items) (map (λ b. advised (left b) (log b)) advisors.new.items))) }
     ensures chosen { IfOk result (λ e. OfEachSource start (λ s.
