@@ -56,8 +56,8 @@ fn flip_terms(alloc: Global, terms: &[Term], j: u32) -> Result<Vec<Term>, Memory
     sum(alloc, terms, &taken)
 }
 
-/// The terms that hold input `j`, without it.
-fn taken_out(alloc: Global, terms: &[Term], j: u32) -> Result<Vec<Term>, Memory>
+/// The terms that hold input `j`, without it. Where memory runs out, `Memory`.
+pub fn taken_out(alloc: Global, terms: &[Term], j: u32) -> Result<Vec<Term>, Memory>
     requires { j < WIDTH }
     ensures { IfOk result (λ ts. ts.items ≡ map (λ t. without t j) (filter (λ t. has t j) terms.now)) }
 {

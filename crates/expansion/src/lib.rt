@@ -9,7 +9,7 @@ mod limits;
 mod used;
 
 pub use expansion::{Expansion, pairs};
-pub use flipped::flip;
+pub use flipped::{flip, taken_out};
 pub use functions::{ExpandErr, expand};
 pub use laws::{even_law, expanded_law};
 pub use limits::{LISTS, TERMS};
