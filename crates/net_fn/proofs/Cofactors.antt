@@ -18,13 +18,13 @@ use Rattle.net_fn.specs.Cofactor.{allows, rest, cofactor, is_read, is_whole, Are
 
 -- ---- one cube
 
-without-other : (s : Set) (j k : ℕ) → (k ≢ j) → has (without s j) k ≡ has s k
+pub without-other : (s : Set) (j k : ℕ) → (k ≢ j) → has (without s j) k ≡ has s k
 without-other s j k ne = has-without s j k ∙ rw (ne_eqb k j ne) refl
 
 without-same : (s : Set) (j : ℕ) → has (without s j) j ≡ false
 without-same s j = has-without s j j ∙ rw (eq-eqb j j refl) refl
 
-without-member : (s : Set) (j k : ℕ) → has (without s j) k ≡ true → (k ≢ j) × (has s k ≡ true)
+pub without-member : (s : Set) (j k : ℕ) → has (without s j) k ≡ true → (k ≢ j) × (has s k ≡ true)
 without-member s j k m =
     let ne : k ≢ j = λ e. false≢true (sym (without-same s j) ∙ ap (has (without s j)) (sym e) ∙ m) in
     (ne, sym (without-other s j k ne) ∙ m)

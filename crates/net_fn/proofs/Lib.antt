@@ -5,3 +5,4 @@ pub mod Outputs
 pub mod References
 pub mod Signals
 pub mod Truth
+pub mod TermLists

@@ -3,3 +3,4 @@ pub mod Literals
 pub mod Refs
 pub mod Seen
 pub mod Signals
+pub mod Splits

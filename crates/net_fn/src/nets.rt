@@ -172,7 +172,7 @@ fn seen<S: FnStore>(store: &S, fault: Option<Fault>, at: Place, value: FnRef) ->
 }
 
 /// The function that is the value everywhere.
-fn constant<S: FnStore>(store: &S, value: bool) -> FnRef
+pub(crate) fn constant<S: FnStore>(store: &S, value: bool) -> FnRef
     ensures { Shows (S.functions store.now) result (λ x. value) }
 {
     if value { store.one() } else { store.zero() }
