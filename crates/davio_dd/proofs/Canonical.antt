@@ -85,7 +85,7 @@ value-put p nodes is at j v x place =
 
 -- ---- the parts of a node, by its values
 
-differ-twice : (a b : Bool) → differ a (differ a b) ≡ b
+pub differ-twice : (a b : Bool) → differ a (differ a b) ≡ b
 differ-twice a b = sym (differ-assoc a a b) ∙ ap (λ c. differ c b) (differ-same a)
 
 -- where its literal is 0 a node is its low part

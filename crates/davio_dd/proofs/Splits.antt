@@ -1,17 +1,17 @@
 -- Two places by their first input, and the operations by the parts.
-use Rattle.std.proofs.Common.{◌≡◌, ◌≢◌, ℕ, ◌+◌, ◌<◌, ◌≤◌, min, Bool, true, false, ◌&&◌, ◌⊎◌, inl, inr, List, refl, ap, ap₂, sym, ◌∙◌, arith, rules}
+use Rattle.std.proofs.Common.{◌≡◌, ◌≢◌, ℕ, ◌+◌, ◌-◌, ◌*◌, ◌<◌, ◌≤◌, min, Bool, true, false, ◌&&◌, ◌⊎◌, inl, inr, List, refl, ap, ap₂, sym, ◌∙◌, arith, rules}
 use Rattle.std.proofs.Math.Bool.{and-true, and_self}
 use Rattle.std.proofs.lemmas.Bool.{and_right, cases_lt}
 use Rattle.ae_base.specs.Mask.{Set, differ}
 use Rattle.ae_base.specs.Cube.{Signs}
 use Rattle.ae_base.specs.Terms.{literal}
 use Rattle.ae_base.proofs.Truth.{differ-same, differ-false}
-use Rattle.ae_base.proofs.Truth.{differ-swap}
+use Rattle.ae_base.proofs.Truth.{differ-swap, and-differ}
 use Rattle.davio_dd.specs.declared.node.Node.{Node}
 use Rattle.davio_dd.specs.Diagram.{place_value, top, IsDiagram, IsPlace, IsAnswer, product}
-use Rattle.davio_dd.specs.Scratch.{Grows, IsNode, IsPart, IsSplit, IsProducts}
+use Rattle.davio_dd.specs.Scratch.{Grows, IsNode, IsPart, IsSplit, IsLater, IsHalf, IsHigh}
 use Rattle.davio_dd.proofs.Places.{value-zero, value-one, top-zero, top-one, IsNodeAt, node_at, place-cases}
-use Rattle.davio_dd.proofs.Canonical.{top-place, value-place, parts}
+use Rattle.davio_dd.proofs.Canonical.{top-place, value-place, parts, differ-twice}
 use Rattle.davio_dd.proofs.Growing.{top-grows, value-grows, length-grows, Grows-trans, answer-grows}
 
 -- ---- tops
@@ -197,43 +197,6 @@ sum-step p p1 p2 p3 n0 n1 n2 n3 a b i al ah bl bh low high r e1 e2 e3 s pa pb g1
     rw f3 (combine differ (λ (al ah bl bh : Bool). differ al bl) (λ (al ah bl bh : Bool). differ ah bh) sum_law p n0 n3 a b i al ah bl bh r s pa pb (Grows-trans n0 n2 n3 g g3) place later
     (λ x. at_r x ∙ ap₂ (λ u v. differ u (literal p i x && v)) (answer-later differ p n0 n1 n2 al bl low g1 g2 pal pbl first x) (second.is x ∙ ap₂ differ (value-grows p n0 n2 g ah pah x) (value-grows p n0 n2 g bh pbh x))))
 
--- ---- what stays right
-
-pub part-grows : (p p1 : Signs) (n0 n1 : List Node) (at i low high : ℕ) → p1 ≡ p → Grows n0 n1 → IsPlace n0 at → IsPart p n0 at i low high → IsPart p1 n1 at i low high
-part-grows p p1 n0 n1 at i low high e g place h =
-    let pl : IsPlace n0 low = omega (arith, h.low_le) in
-    let ph : IsPlace n0 high = omega (arith, h.high_le) in
-    rw e (part_grown p n0 n1 at i low high g place pl ph h)
-  where
-    part_grown : (p : Signs) (n0 n1 : List Node) (at i low high : ℕ) → Grows n0 n1 → IsPlace n0 at → IsPlace n0 low → IsPlace n0 high → IsPart p n0 at i low high → IsPart p n1 at i low high
-    part_grown p n0 n1 at i low high g place pl ph h = record {
-      is = λ x. value-grows p n0 n1 g at place x ∙ h.is x ∙ sym (ap₂ (λ a b. differ a (literal p i x && b)) (value-grows p n0 n1 g low pl x) (value-grows p n0 n1 g high ph x));
-      low_le = h.low_le;
-      high_le = h.high_le;
-      low_falls = λ f. h.low_falls (f ∙ top-grows p.n n0 n1 g at place);
-      high_falls = h.high_falls;
-      over_low = omega (arith, top-grows p.n n0 n1 g low pl, h.over_low);
-      over_high = omega (arith, top-grows p.n n0 n1 g high ph, h.over_high);
-    }
-
-pub split-grows : (p p1 : Signs) (n0 n1 : List Node) (a b i al ah bl bh : ℕ) → p1 ≡ p → Grows n0 n1 → IsPlace n0 a → IsPlace n0 b → IsSplit p n0 a b i al ah bl bh → IsSplit p1 n1 a b i al ah bl bh
-split-grows p p1 n0 n1 a b i al ah bl bh e g pa pb s = record {
-  left = part-grows p p1 n0 n1 a i al ah e g pa s.left;
-  right = part-grows p p1 n0 n1 b i bl bh e g pb s.right;
-  below = rw e s.below;
-  least = λ j la lb. s.least j (omega (arith, ta, la)) (omega (arith, tb, lb));
-  low_falls = s.low_falls;
-}
-  where
-    ta : top p.n n0 a ≡ top p1.n n1 a
-    ta = sym (rw e (top-grows p.n n0 n1 g a pa))
-
-    tb : top p.n n0 b ≡ top p1.n n1 b
-    tb = sym (rw e (top-grows p.n n0 n1 g b pb))
-
-pub carry : (op : Bool → Bool → Bool) (p p1 : Signs) (n0 n1 : List Node) (u v r : ℕ) → p1 ≡ p → Grows n0 n1 → IsAnswer op p n0 u v r → IsAnswer op p1 n1 u v r
-carry op p p1 n0 n1 u v r e g h = rw e (answer-grows op p n0 n1 g u v r h)
-
 -- ---- products
 
 pub product-same : (p : Signs) (nodes : List Node) (a b : ℕ) → IsPlace nodes a → IsPlace nodes b → (a ≡ b) ⊎ ((a ≢ b) × (b ≡ 1)) → IsAnswer product p nodes a b a
@@ -265,74 +228,122 @@ product-zero p nodes is a b pa pb either = record {
     by_case (inl e) x = ap (λ (v : Bool). v && place_value p nodes b x) (ap (λ (c : ℕ). place_value p nodes c x) e ∙ value-zero p nodes x)
     by_case (inr (apart, e)) x = and_right _ _ (ap (λ (c : ℕ). place_value p nodes c x) e ∙ value-zero p nodes x)
 
-product_law : (l al ah bl bh : Bool) → differ (al && bl) (l && differ (differ (ah && bl) (al && bh)) (ah && bh)) ≡ (differ al (l && ah) && differ bl (l && bh))
+product_law : (l al ah bl bh : Bool) → differ (al && bl) (l && differ (al && bl) (differ al ah && differ bl bh)) ≡ (differ al (l && ah) && differ bl (l && bh))
 product_law false al ah bl bh = differ-false _ ∙ sym (ap₂ (λ a b. a && b) (differ-false al) (differ-false bl))
-product_law true true true true true = refl
-product_law true true true true false = refl
-product_law true true true false true = refl
-product_law true true true false false = refl
-product_law true true false true true = refl
-product_law true true false true false = refl
-product_law true true false false true = refl
-product_law true true false false false = refl
-product_law true false true true true = refl
-product_law true false true true false = refl
-product_law true false true false true = refl
-product_law true false true false false = refl
-product_law true false false bl bh = refl
+product_law true al ah bl bh = differ-twice _ _
 
--- what was below a top stays below it
-pub top-kept : (p p1 : Signs) (n0 n1 : List Node) (at i : ℕ) → p1 ≡ p → Grows n0 n1 → IsPlace n0 at → i < top p.n n0 at → i < top p1.n n1 at
-top-kept p p1 n0 n1 at i e g place l =
-    let h : i < top p.n n1 at = omega (arith, top-grows p.n n0 n1 g at place) in
-    rw e h
+-- what is later stays so, and an answer stays right
+later-grows : (p p1 : Signs) (n0 n1 : List Node) (i at : ℕ) → p1 ≡ p → Grows n0 n1 → IsLater p.n n0 i at → IsLater p1.n n1 i at
+later-grows p p1 n0 n1 i at e g h = rw e (record { place = omega (arith, length-grows n0 n1 g, h.place); over = omega (arith, top-grows p.n n0 n1 g at h.place, h.over) })
 
-pub products-low : (p p1 p2 : Signs) (n0 n1 n2 : List Node) (a b i al ah bl bh low left right high : ℕ) → p1 ≡ p → p2 ≡ p1 → Grows n0 n1 → Grows n1 n2 → IsProducts p n0 a b i al ah bl bh low left right high → i < top p2.n n2 low
-products-low p p1 p2 n0 n1 n2 a b i al ah bl bh low left right high e1 e2 g1 g2 h =
-    top-kept p p2 n0 n2 low i (e2 ∙ e1) (Grows-trans n0 n1 n2 g1 g2) h.is_low.place (h.is_low.over i h.split.left.over_low h.split.right.over_low)
+carry : (op : Bool → Bool → Bool) (p p1 : Signs) (n0 n1 : List Node) (u v r : ℕ) → p1 ≡ p → Grows n0 n1 → IsAnswer op p n0 u v r → IsAnswer op p1 n1 u v r
+carry op p p1 n0 n1 u v r e g h = rw e (answer-grows op p n0 n1 g u v r h)
 
-pub products-high : (p p1 p2 : Signs) (n0 n1 n2 : List Node) (a b i al ah bl bh low left right high sides all : ℕ) → p1 ≡ p → p2 ≡ p1 → Grows n0 n1 → Grows n1 n2 → IsProducts p n0 a b i al ah bl bh low left right high
-    → IsAnswer differ p1 n1 left right sides → IsAnswer differ p2 n2 sides high all → i < top p2.n n2 all
-products-high p p1 p2 n0 n1 n2 a b i al ah bl bh low left right high sides all e1 e2 g1 g2 h is_sides is_all =
-    is_all.over i
-    (top-kept p1 p2 n1 n2 sides i e2 g2 is_sides.place
-    (is_sides.over i
-    (top-kept p p1 n0 n1 left i e1 g1 h.is_left.place (h.is_left.over i h.split.left.over_high h.split.right.over_low))
-    (top-kept p p1 n0 n1 right i e1 g1 h.is_right.place (h.is_right.over i h.split.left.over_low h.split.right.over_high))))
-    (top-kept p p2 n0 n2 high i (e2 ∙ e1) (Grows-trans n0 n1 n2 g1 g2) h.is_high.place (h.is_high.over i h.split.left.over_high h.split.right.over_high))
+pub half-from : (p p1 : Signs) (n0 n1 : List Node) (a b i al ah bl bh low : ℕ) → p1 ≡ p → Grows n0 n1 → IsPlace n0 a → IsPlace n0 b → IsSplit p n0 a b i al ah bl bh → IsAnswer product p1 n1 al bl low
+    → IsHalf p1 n1 i al ah bl bh low
+half-from p p1 n0 n1 a b i al ah bl bh low e g pa pb s is = record {
+  below = rw e s.below;
+  left_low = later-grows p p1 n0 n1 i al e g (record { place = omega (arith, pa, s.left.low_le); over = s.left.over_low });
+  left_high = later-grows p p1 n0 n1 i ah e g (record { place = omega (arith, pa, s.left.high_le); over = s.left.over_high });
+  right_low = later-grows p p1 n0 n1 i bl e g (record { place = omega (arith, pb, s.right.low_le); over = s.right.over_low });
+  right_high = later-grows p p1 n0 n1 i bh e g (record { place = omega (arith, pb, s.right.high_le); over = s.right.over_high });
+  is_low = is;
+}
 
-pub product-step : (p p1 p2 p3 : Signs) (n0 n1 n2 n3 : List Node) (a b i al ah bl bh low left right high sides all r : ℕ) → p1 ≡ p → p2 ≡ p1 → p3 ≡ p2 → Grows n0 n1 → Grows n1 n2 → Grows n2 n3
-    → IsProducts p n0 a b i al ah bl bh low left right high → IsAnswer differ p1 n1 left right sides → IsAnswer differ p2 n2 sides high all → IsPlace n3 r → i ≤ top p3.n n3 r
-    → ((x : Set) → place_value p3 n3 r x ≡ differ (place_value p2 n2 low x) (literal p2 i x && place_value p2 n2 all x)) → IsAnswer product p3 n3 a b r
-product-step p p1 p2 p3 n0 n1 n2 n3 a b i al ah bl bh low left right high sides all r e1 e2 e3 g1 g2 g3 h is_sides is_all place over value =
-    let f2 : p2 ≡ p = e2 ∙ e1 in
-    let f3 : p3 ≡ p = e3 ∙ f2 in
-    let first : IsAnswer differ p n1 left right sides = rw e1 at is_sides in
-    let second : IsAnswer differ p n2 sides high all = rw f2 at is_all in
-    let g : Grows n0 n2 = Grows-trans n0 n1 n2 g1 g2 in
-    let at_r : (x : Set) → place_value p n3 r x ≡ differ (place_value p n2 low x) (literal p i x && place_value p n2 all x) = rw (f3, f2) at value in
-    let later : i ≤ top p.n n3 r = rw f3 at over in
-    rw f3 (combine product (λ (al ah bl bh : Bool). al && bl) (λ (al ah bl bh : Bool). differ (differ (ah && bl) (al && bh)) (ah && bh)) product_law p n0 n3 a b i al ah bl bh r h.split h.a_place h.b_place (Grows-trans n0 n2 n3 g g3) place later
-    (λ x. at_r x ∙ ap₂ (λ u v. differ u (literal p i x && v))
-    (value-grows p n0 n2 g low h.is_low.place x ∙ h.is_low.is x)
-    (second.is x ∙ ap₂ differ
-    (value-grows p n1 n2 g2 sides first.place x ∙ first.is x ∙ ap₂ differ (value-grows p n0 n1 g1 left h.is_left.place x ∙ h.is_left.is x) (value-grows p n0 n1 g1 right h.is_right.place x ∙ h.is_right.is x))
-    (value-grows p n0 n2 g high h.is_high.place x ∙ h.is_high.is x))))
+-- the answer to an operation of later places is later
+answer-later_place : (op : Bool → Bool → Bool) (p : Signs) (nodes : List Node) (i u v r : ℕ) → IsLater p.n nodes i u → IsLater p.n nodes i v → IsAnswer op p nodes u v r → IsLater p.n nodes i r
+answer-later_place op p nodes i u v r lu lv is = record { place = is.place; over = is.over i lu.over lv.over }
 
-pub products-from : (p p1 p2 p3 p4 : Signs) (n0 n1 n2 n3 n4 : List Node) (a b i al ah bl bh low left right high : ℕ) → p1 ≡ p → p2 ≡ p1 → p3 ≡ p2 → p4 ≡ p3 → Grows n0 n1 → Grows n1 n2 → Grows n2 n3 → Grows n3 n4
-    → IsPlace n0 a → IsPlace n0 b → IsSplit p n0 a b i al ah bl bh → IsAnswer product p1 n1 al bl low → IsAnswer product p2 n2 ah bl left → IsAnswer product p3 n3 al bh right → IsAnswer product p4 n4 ah bh high
-    → IsProducts p4 n4 a b i al ah bl bh low left right high
-products-from p p1 p2 p3 p4 n0 n1 n2 n3 n4 a b i al ah bl bh low left right high e1 e2 e3 e4 g1 g2 g3 g4 pa pb s is_low is_left is_right is_high =
+pub high-right_none : (p p1 : Signs) (n0 n1 : List Node) (i al ah bl bh low r : ℕ) → p1 ≡ p → Grows n0 n1 → IsHalf p n0 i al ah bl bh low → bh ≡ 0 → IsAnswer product p1 n1 ah bl r → IsHigh p1 n1 i al ah bl bh r
+high-right_none p p1 n0 n1 i al ah bl bh low r e g h none is = record {
+  later = answer-later_place product p1 n1 i ah bl r (later-grows p p1 n0 n1 i ah e g h.left_high) (later-grows p p1 n0 n1 i bl e g h.right_low) is;
+  is = λ x.
+      is.is x
+      ∙ sym (ap (λ b. differ (place_value p1 n1 al x && place_value p1 n1 bl x) (differ (place_value p1 n1 al x) (place_value p1 n1 ah x) && differ (place_value p1 n1 bl x) b)) (ap (λ (c : ℕ). place_value p1 n1 c x) none ∙ value-zero p1 n1 x)
+      ∙ left (place_value p1 n1 al x) (place_value p1 n1 ah x) (place_value p1 n1 bl x));
+}
+  where
+    left : (al ah bl : Bool) → differ (al && bl) (differ al ah && differ bl false) ≡ (ah && bl)
+    left al ah bl = ap (λ b. differ (al && bl) (differ al ah && b)) (differ-false bl) ∙ ap (differ (al && bl)) (and-differ al ah bl) ∙ differ-twice (al && bl) (ah && bl)
+
+pub high-left_none : (p p1 : Signs) (n0 n1 : List Node) (i al ah bl bh low r : ℕ) → p1 ≡ p → Grows n0 n1 → IsHalf p n0 i al ah bl bh low → ah ≡ 0 → IsAnswer product p1 n1 al bh r → IsHigh p1 n1 i al ah bl bh r
+high-left_none p p1 n0 n1 i al ah bl bh low r e g h none is = record {
+  later = answer-later_place product p1 n1 i al bh r (later-grows p p1 n0 n1 i al e g h.left_low) (later-grows p p1 n0 n1 i bh e g h.right_high) is;
+  is = λ x.
+      is.is x
+      ∙ sym (ap (λ b. differ (place_value p1 n1 al x && place_value p1 n1 bl x) (differ (place_value p1 n1 al x) b && differ (place_value p1 n1 bl x) (place_value p1 n1 bh x))) (ap (λ (c : ℕ). place_value p1 n1 c x) none ∙ value-zero p1 n1 x)
+      ∙ right (place_value p1 n1 al x) (place_value p1 n1 bl x) (place_value p1 n1 bh x));
+}
+  where
+    right : (al bl bh : Bool) → differ (al && bl) (differ al false && differ bl bh) ≡ (al && bh)
+    right al bl bh = ap (λ a. differ (al && bl) (a && differ bl bh)) (differ-false al) ∙ ap (differ (al && bl)) (and_differ al bl bh) ∙ differ-twice (al && bl) (al && bh)
+
+pub high-both : (p p1 p2 p3 p4 : Signs) (n0 n1 n2 n3 n4 : List Node) (i al ah bl bh low a_one b_one one r : ℕ) → p1 ≡ p → p2 ≡ p1 → p3 ≡ p2 → p4 ≡ p3 → Grows n0 n1 → Grows n1 n2 → Grows n2 n3 → Grows n3 n4
+    → IsHalf p n0 i al ah bl bh low → IsAnswer differ p1 n1 al ah a_one → IsAnswer differ p2 n2 bl bh b_one → IsAnswer product p3 n3 a_one b_one one → IsAnswer differ p4 n4 low one r → IsHigh p4 n4 i al ah bl bh r
+high-both p p1 p2 p3 p4 n0 n1 n2 n3 n4 i al ah bl bh low a_one b_one one r e1 e2 e3 e4 g1 g2 g3 g4 h is_a is_b is_one is =
     let g24 = Grows-trans n2 n3 n4 g3 g4 in
     let g14 = Grows-trans n1 n2 n4 g2 g24 in
     let g04 = Grows-trans n0 n1 n4 g1 g14 in
-    let more = length-grows n0 n4 g04 in
+    let e : p4 ≡ p = e4 ∙ e3 ∙ e2 ∙ e1 in
+    let first = carry product p p4 n0 n4 al bl low e g04 h.is_low in
+    let left = carry differ p1 p4 n1 n4 al ah a_one (e4 ∙ e3 ∙ e2) g14 is_a in
+    let right = carry differ p2 p4 n2 n4 bl bh b_one (e4 ∙ e3) g24 is_b in
+    let both = carry product p3 p4 n3 n4 a_one b_one one e4 g4 is_one in
+    let later = λ (at : ℕ) (l : IsLater p.n n0 i at). later-grows p p4 n0 n4 i at e g04 l in
+    let later_a = answer-later_place differ p4 n4 i al ah a_one (later al h.left_low) (later ah h.left_high) left in
+    let later_b = answer-later_place differ p4 n4 i bl bh b_one (later bl h.right_low) (later bh h.right_high) right in
     record {
-      a_place = omega arith;
-      b_place = omega arith;
-      split = split-grows p p4 n0 n4 a b i al ah bl bh (e4 ∙ e3 ∙ e2 ∙ e1) g04 pa pb s;
-      is_low = carry product p1 p4 n1 n4 al bl low (e4 ∙ e3 ∙ e2) g14 is_low;
-      is_left = carry product p2 p4 n2 n4 ah bl left (e4 ∙ e3) g24 is_left;
-      is_right = carry product p3 p4 n3 n4 al bh right e4 g4 is_right;
-      is_high = is_high;
+      later = answer-later_place differ p4 n4 i low one r (answer-later_place product p4 n4 i al bl low (later al h.left_low) (later bl h.right_low) first) (answer-later_place product p4 n4 i a_one b_one one later_a later_b both) is;
+      is = λ x. is.is x ∙ ap₂ differ (first.is x) (both.is x ∙ ap₂ (λ u v. u && v) (left.is x) (right.is x));
     }
+
+pub product-step : (p p1 p2 p3 : Signs) (n0 n1 n2 n3 : List Node) (a b i al ah bl bh low high r : ℕ) → p1 ≡ p → p2 ≡ p1 → p3 ≡ p2 → IsSplit p n0 a b i al ah bl bh → IsPlace n0 a → IsPlace n0 b
+    → Grows n0 n1 → Grows n1 n2 → Grows n2 n3 → IsAnswer product p1 n1 al bl low → IsHigh p2 n2 i al ah bl bh high → IsPlace n3 r → i ≤ top p3.n n3 r
+    → ((x : Set) → place_value p3 n3 r x ≡ differ (place_value p2 n2 low x) (literal p2 i x && place_value p2 n2 high x)) → IsAnswer product p3 n3 a b r
+product-step p p1 p2 p3 n0 n1 n2 n3 a b i al ah bl bh low high r e1 e2 e3 s pa pb g1 g2 g3 is_low is_high place over value =
+    let f2 : p2 ≡ p = e2 ∙ e1 in
+    let f3 : p3 ≡ p = e3 ∙ f2 in
+    let first : IsAnswer product p n1 al bl low = rw e1 at is_low in
+    let second : IsHigh p n2 i al ah bl bh high = rw f2 at is_high in
+    let g : Grows n0 n2 = Grows-trans n0 n1 n2 g1 g2 in
+    let pal : IsPlace n0 al = omega (arith, s.left.low_le) in
+    let pah : IsPlace n0 ah = omega (arith, s.left.high_le) in
+    let pbl : IsPlace n0 bl = omega (arith, s.right.low_le) in
+    let pbh : IsPlace n0 bh = omega (arith, s.right.high_le) in
+    let at_r : (x : Set) → place_value p n3 r x ≡ differ (place_value p n2 low x) (literal p i x && place_value p n2 high x) = rw (f3, f2) at value in
+    let later : i ≤ top p.n n3 r = rw f3 at over in
+    rw f3 (combine product (λ (al ah bl bh : Bool). al && bl) (λ (al ah bl bh : Bool). differ (al && bl) (differ al ah && differ bl bh)) product_law p n0 n3 a b i al ah bl bh r s pa pb (Grows-trans n0 n2 n3 g g3) place later
+    (λ x. at_r x ∙ ap₂ (λ u v. differ u (literal p i x && v)) (answer-later product p n0 n1 n2 al bl low g1 g2 pal pbl first x)
+    (second.is x ∙ ap₂ differ
+    (ap₂ (λ u v. u && v) (value-grows p n0 n2 g al pal x) (value-grows p n0 n2 g bl pbl x))
+    (ap₂ (λ u v. u && v) (ap₂ differ (value-grows p n0 n2 g al pal x) (value-grows p n0 n2 g ah pah x)) (ap₂ differ (value-grows p n0 n2 g bl pbl x) (value-grows p n0 n2 g bh pbh x))))))
+
+-- ---- the tops rise
+
+-- how far a product goes down, and its high part
+abbrev pub depth : ℕ → ℕ → ℕ → ℕ
+depth n s t = 2 * (n - min s t)
+
+abbrev pub high_depth : ℕ → ℕ → ℕ
+high_depth n i = 2 * (n - i) - 1
+
+pub deeper-high : (n s t i : ℕ) → i < n → ((j : ℕ) → j < s → j < t → j < i) → high_depth n i < depth n s t
+deeper-high n s t i below least = elim (cases_lt i (min s t)) [ inl l ↦ absurd (omega (arith, least i (omega (arith, l)) (omega (arith, l)))) | inr l ↦ omega (arith, l, below) ]
+
+pub deeper-low : (n s t i u v : ℕ) → i < n → ((j : ℕ) → j < s → j < t → j < i) → i < u → i < v → depth n u v < depth n s t
+deeper-low n s t i u v below least lu lv = elim (cases_lt i (min s t)) [ inl l ↦ absurd (omega (arith, least i (omega (arith, l)) (omega (arith, l)))) | inr l ↦ omega (arith, l, below, lu, lv) ]
+
+pub deeper : (n i u v : ℕ) → i < n → i < u → i < v → depth n u v < high_depth n i
+deeper n i u v below lu lv = omega (arith, below, lu, lv)
+
+pub both-later : (p p1 p2 : Signs) (n0 n1 n2 : List Node) (i al ah bl bh low a_one b_one : ℕ) → p1 ≡ p → p2 ≡ p1 → Grows n0 n1 → Grows n1 n2 → IsHalf p n0 i al ah bl bh low → IsAnswer differ p1 n1 al ah a_one → IsAnswer differ p2 n2 bl bh b_one
+    → (depth p2.n (top p2.n n2 a_one) (top p2.n n2 b_one) < high_depth p.n i) × (IsPlace n2 a_one × IsPlace n2 b_one)
+both-later p p1 p2 n0 n1 n2 i al ah bl bh low a_one b_one e1 e2 g1 g2 h is_a is_b =
+    let e : p2 ≡ p = e2 ∙ e1 in
+    let g : Grows n0 n2 = Grows-trans n0 n1 n2 g1 g2 in
+    let later = λ (at : ℕ) (l : IsLater p.n n0 i at). later-grows p p2 n0 n2 i at e g l in
+    let later_a = answer-later_place differ p2 n2 i al ah a_one (later al h.left_low) (later ah h.left_high) (carry differ p1 p2 n1 n2 al ah a_one e2 g2 is_a) in
+    let later_b = answer-later_place differ p2 n2 i bl bh b_one (later bl h.right_low) (later bh h.right_high) is_b in
+    let inputs : p2.n ≡ p.n = ap (λ (q : Signs). q.n) e in
+    let below : i < p2.n = omega (arith, inputs, h.below) in
+    (omega (arith, inputs, deeper p2.n i (top p2.n n2 a_one) (top p2.n n2 b_one) below later_a.over later_b.over), (later_a.place, later_b.place))

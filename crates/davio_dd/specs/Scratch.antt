@@ -41,15 +41,25 @@ pub record IsSplit (p : Signs) (nodes : List Node) (a b input a_low a_high b_low
   pub least : (j : ℕ) → j < top p.n nodes a → j < top p.n nodes b → j < input
   pub low_falls : a_low + b_low < a + b
 
--- the four products of the parts of two places
-pub record IsProducts (p : Signs) (nodes : List Node) (a b input a_low a_high b_low b_high low left right high : ℕ) : Type 0 where
-  pub a_place : IsPlace nodes a
-  pub b_place : IsPlace nodes b
-  pub split : IsSplit p nodes a b input a_low a_high b_low b_high
+-- a place that tests later inputs alone
+pub record IsLater (n : ℕ) (nodes : List Node) (input at : ℕ) : Type 0 where
+  pub place : IsPlace nodes at
+  pub over : input < top n nodes at
+
+-- the parts of two places by an input, and the product of the two low ones
+pub record IsHalf (p : Signs) (nodes : List Node) (input a_low a_high b_low b_high low : ℕ) : Type 0 where
+  pub below : input < p.n
+  pub left_low : IsLater p.n nodes input a_low
+  pub left_high : IsLater p.n nodes input a_high
+  pub right_low : IsLater p.n nodes input b_low
+  pub right_high : IsLater p.n nodes input b_high
   pub is_low : IsAnswer product p nodes a_low b_low low
-  pub is_left : IsAnswer product p nodes a_high b_low left
-  pub is_right : IsAnswer product p nodes a_low b_high right
-  pub is_high : IsAnswer product p nodes a_high b_high high
+
+-- the high part of the product of two places: the product with the literal at 0, EXOR the one with the literal at 1
+pub record IsHigh (p : Signs) (nodes : List Node) (input a_low a_high b_low b_high high : ℕ) : Type 0 where
+  pub later : IsLater p.n nodes input high
+  pub is : (x : Set) → place_value p nodes high x ≡ differ (place_value p nodes a_low x && place_value p nodes b_low x)
+      (differ (place_value p nodes a_low x) (place_value p nodes a_high x) && differ (place_value p nodes b_low x) (place_value p nodes b_high x))
 
 -- the point at which every literal is 0
 unfoldable pub all_zero : Signs → Set

@@ -2,20 +2,11 @@
 ghost use Rattle.std.specs.Prelude.{◌≡◌, IfOk};
 ghost use Rattle.ae_base.specs.Mask.{differ};
 ghost use Rattle.davio_dd.specs.Diagram.{IsPlace, IsAnswer, product};
-ghost use Rattle.davio_dd.specs.Scratch.{Grows, IsProducts};
+ghost use Rattle.davio_dd.specs.Scratch.{Grows, IsHalf, IsHigh};
 
 use crate::diagram::{Davio, Split};
 use crate::node::Node;
 use ae_base::Memory;
-
-/// The products of the parts of two places.
-#[derive(Clone, Copy)]
-struct Products {
-    low: usize,
-    left: usize,
-    right: usize,
-    high: usize,
-}
 
 impl Davio {
     /// The place of the EXOR of two.
@@ -51,6 +42,7 @@ impl Davio {
     }
 
     /// The place of the AND of two.
+    #[cycle(product)]
     pub(crate) fn product(&mut self, a: usize, b: usize) -> Result<usize, Memory>
         requires a { IsPlace self.old.nodes.keys a }
         requires b { IsPlace self.old.nodes.keys b }
@@ -72,39 +64,34 @@ impl Davio {
         }
         let split = self.split(a, b);
         let low = self.product(split.a_low, split.b_low)?;
-        let left = self.product(split.a_high, split.b_low)?;
-        let right = self.product(split.a_low, split.b_high)?;
-        let high = self.product(split.a_high, split.b_high)?;
-        let parts = Products {
-            low,
-            left,
-            right,
-            high,
-        };
-        self.product_of_parts(a, b, split, parts)
-    }
-
-    /// The place of the AND of two, by the products of their parts.
-    fn product_of_parts(
-        &mut self,
-        a: usize,
-        b: usize,
-        split: Split,
-        parts: Products,
-    ) -> Result<usize, Memory>
-        requires { IsProducts self.old.polarity self.old.nodes.keys a b split.input split.a_low split.a_high split.b_low split.b_high parts.low parts.left parts.right parts.high }
-        ensures polarity { self.new.polarity ≡ self.old.polarity }
-        ensures grows { Grows self.old.nodes.keys self.new.nodes.keys }
-        ensures answer { IfOk result (IsAnswer product self.new.polarity self.new.nodes.keys a b) }
-    {
-        let sides = self.sum(parts.left, parts.right)?;
-        let high = self.sum(sides, parts.high)?;
+        let high = self.product_high(split, low)?;
         let answer = self.node(Node {
             input: split.input,
-            low: parts.low,
+            low,
             high,
         })?;
         self.remember_product(a, b, answer);
         Ok(answer)
+    }
+
+    /// The high part of the AND of two places, by their parts and its low part: the AND where the literal is 0, EXOR the AND where it
+    /// is 1. Where only one of the two tests the input, it is the AND of that one's high part with the other.
+    #[cycle(product)]
+    fn product_high(&mut self, split: Split, low: usize) -> Result<usize, Memory>
+        requires { IsHalf self.old.polarity self.old.nodes.keys split.input split.a_low split.a_high split.b_low split.b_high low }
+        ensures polarity { self.new.polarity ≡ self.old.polarity }
+        ensures grows { Grows self.old.nodes.keys self.new.nodes.keys }
+        ensures high { IfOk result (IsHigh self.new.polarity self.new.nodes.keys split.input split.a_low split.a_high split.b_low split.b_high) }
+    {
+        if split.b_high == 0 {
+            return self.product(split.a_high, split.b_low);
+        }
+        if split.a_high == 0 {
+            return self.product(split.a_low, split.b_high);
+        }
+        let a_one = self.sum(split.a_low, split.a_high)?;
+        let b_one = self.sum(split.b_low, split.b_high)?;
+        let one = self.product(a_one, b_one)?;
+        self.sum(low, one)
     }
 }
