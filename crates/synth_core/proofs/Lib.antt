@@ -3,6 +3,7 @@ pub mod Filed
 pub mod Limits
 pub mod Meaning
 pub mod OneAnswer
+pub mod Remade
 pub mod Shown
 pub mod Sources
 pub mod Synthesised

@@ -5,6 +5,7 @@ mod error;
 mod fault;
 mod laws;
 mod made;
+mod maker;
 mod one;
 mod read;
 mod settings;
