@@ -14,6 +14,7 @@ mod synthesis;
 pub use error::SynthErr;
 pub use fault::TextFault;
 pub use made::{Made, Summary};
+pub use maker::StoreMaker;
 pub use one::one_answer_law;
 pub use settings::{Choice, Settings, SourceKind};
 pub use synthesis::synthesise;

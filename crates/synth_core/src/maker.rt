@@ -9,11 +9,13 @@ use net_fn::expansion_values;
 use polarity::Maker;
 use std::alloc::Global;
 
-/// Expands the functions of an expansion at each polarity, through a store at it. No more terms are listed than the limit, a number below
-/// 2 to the 61, allows.
+/// Expands the functions of an expansion at each polarity, through a store at it. No more terms are listed than the limit allows, which is
+/// below 2 to the 61. It is what a search for a polarity asks of its proposals.
 #[derive(Drop)]
-pub(crate) struct StoreMaker {
+pub struct StoreMaker {
+    /// The functions, by their expansions at one polarity.
     pub base: Expansion,
+    /// The most terms of all outputs.
     pub limit: u64,
     ghost limit_fits: { limit < 2 ^ 61 },
 }
