@@ -3,8 +3,8 @@ ghost use Rattle.std.specs.Prelude.{◌≡◌, ◌&&◌, ◌<◌, ◌≤◌, Boo
 ghost use Rattle.ae_base.specs.Mask.{Set, differ};
 ghost use Rattle.ae_base.specs.Source.{Source, on_set};
 ghost use Rattle.ae_base.specs.Terms.{literal, value};
-ghost use Rattle.ae_base.specs.declared.limits.TheConstants.{WIDTH};
 ghost use Rattle.expansion.specs.Functions.{AreExpansions};
+ghost use Rattle.expansion.specs.declared.limits.TheConstants.{LISTS};
 ghost use Rattle.fn_store.specs.Functions.{IsLive, Shows, Keeps};
 ghost use Rattle.net_fn.specs.Refs.{ShowEach};
 ghost use Rattle.net_fn.specs.Splits as spec;
@@ -25,6 +25,7 @@ pub fn expansion_values<S: FnStore>(
 ) -> Result<Vec<FnRef>, Memory>
     requires { (S.functions store.old).polarity.n ≡ e.now.polarity.n }
     ensures count { IfOk result (λ refs. length refs.items ≡ length e.now.outs) }
+    ensures few { IfOk result (λ refs. length refs.items < LISTS) }
     ensures shows { IfOk result (λ refs. ShowEach (S.functions store.new) refs.items (λ o. value e.now.polarity (slice_index_or e.now.outs o []))) }
     ensures source { IfOk result (λ refs. (s : Source) → AreExpansions s e.now.polarity e.now → ShowEach (S.functions store.new) refs.items (on_set s)) }
     ensures keeps { Keeps (S.functions store.old) (S.functions store.new) }
