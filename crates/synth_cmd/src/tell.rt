@@ -5,7 +5,9 @@ ghost use Rattle.synth_cmd.specs.Lines.{memory_line, report_lines, status_of, li
 ghost use Rattle.synth_cmd.specs.Telling.{Tells, Reports};
 
 use crate::report::report as report_of;
-use crate::{DONE, MEMORY, READ_FAULT, REFUSED, TOO_LONG, TOO_MANY_TERMS, WORDS, WRITE_FAULT, lines};
+use crate::{
+    DONE, MEMORY, READ_FAULT, REFUSED, TOO_LONG, TOO_MANY_TERMS, WORDS, WRITE_FAULT, lines,
+};
 use ae_outside::{Sink, WriteErr, file_laws, put_all};
 use std::alloc::{AllocError, Global};
 use synth_core::{Summary, TextFault};

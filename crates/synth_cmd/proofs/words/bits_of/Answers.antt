@@ -1,4 +1,4 @@
-use Rattle.std.proofs.Common.{◌≡◌, ◌≤◌, sym, ap, ◌∙◌, arith, eqb, leb, ltb, get_or, length}
+use Rattle.std.proofs.Common.{◌≤◌, sym, ap, ◌∙◌, arith, eqb, leb, ltb, get_or, length}
 use Rattle.std.specs.List.{list_all}
 use Rattle.ae_base.specs.declared.limits.TheConstants.{SOURCE_LINES}
 use Rattle.synth_cmd.specs.Asked.{is_bit}

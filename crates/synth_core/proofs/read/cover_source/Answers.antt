@@ -1,4 +1,4 @@
-use Rattle.std.proofs.Common.{◌≡◌, ◌≤◌, length, ap, sym, ◌∙◌, arith}
+use Rattle.std.proofs.Common.{length, ap, sym, ◌∙◌, arith}
 use Rattle.synth_core.proofs.Sources.{are_live}
 use Rattle.synth_core.proofs.read.cover_source.Goals as goal
 

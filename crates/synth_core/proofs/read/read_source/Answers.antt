@@ -1,4 +1,4 @@
-use Rattle.std.proofs.Common.{◌≡◌, Ok, length, ap, ◌∙◌, refl}
+use Rattle.std.proofs.Common.{◌≡◌, Ok, length, ap, refl}
 use Rattle.ae_cover.specs.Cover.{source_of}
 use Rattle.ae_net.specs.Source as net
 use Rattle.synth_core.specs.Says.{source_says}

@@ -1,4 +1,4 @@
-use Rattle.std.proofs.Common.{◌≡◌, ◌⊎◌, ◌∙◌, length, inl, inr, ap, sym, Err}
+use Rattle.std.proofs.Common.{◌∙◌, length, inl, inr, ap, Err}
 use Rattle.std.proofs.lemmas.Result.{IfOk-weaker}
 use Rattle.ae_base.proofs.Results.{passed_on}
 use Rattle.synth_core.specs.Asked.{polarity_of}

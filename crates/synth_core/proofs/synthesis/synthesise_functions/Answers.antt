@@ -1,4 +1,4 @@
-use Rattle.std.proofs.Common.{◌≡◌, ◌≤◌, ◌<◌, Err, sym, ap, ◌∙◌, arith}
+use Rattle.std.proofs.Common.{Err, ap, arith}
 use Rattle.ae_base.proofs.Results.{answered}
 use Rattle.synth_core.specs.declared.error.SynthErr.TheVariants as err
 use Rattle.synth_core.specs.Errors.{of_expand}
