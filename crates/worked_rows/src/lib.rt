@@ -10,6 +10,8 @@ mod cut_texts;
 #[cfg(test)]
 mod files;
 #[cfg(test)]
+mod handed;
+#[cfg(test)]
 mod header_faults;
 #[cfg(test)]
 mod profile;

@@ -87,6 +87,36 @@ fn options_that_are_none(rt: HostRuntime) -> Result<(), Fail> {
     Ok(())
 }
 
+/// A search is no choice that is there. The longest of these words has 65 digits.
+static OTHER_POLARITIES: [&str; 19] = [
+    "synth in.pla n.blif v.vec --polarity",
+    "synth in.pla n.blif v.vec --polarity ",
+    "synth in.pla n.blif v.vec --polarity search",
+    "synth in.pla n.blif v.vec --polarity Positive",
+    "synth in.pla n.blif v.vec --polarity 12",
+    "synth in.pla n.blif v.vec --polarity 1x",
+    "synth in.pla n.blif v.vec --polarity=11",
+    "synth in.pla n.blif v.vec --polarity 1 1",
+    "synth in.pla n.blif v.vec --polarity 01010101010101010101010101010101010101010101010101010101010101010",
+    "synth in.pla n.blif v.vec polarity 11",
+    "synth in.pla n.blif v.vec 11 --polarity",
+    "synth in.pla n.blif v.vec --polarity 11 more",
+    "synth in.pla n.blif v.vec --polarity 11 --polarity 11",
+    "synth in.pla n.blif v.vec --polarity 11 --kind pla",
+    "synth in.pla n.blif v.vec --polarity positive --kind pla",
+    "synth in.pla n.blif v.vec --kind pla --polarity",
+    "synth in.pla n.blif v.vec --kind --polarity 11",
+    "synth --polarity 11 in.pla n.blif v.vec",
+    "grade in.pla n.blif v.vec --polarity 11",
+];
+
+#[test]
+fn polarities_that_are_none(rt: HostRuntime) -> Result<(), Fail> {
+    let taken = first_taken(rt.alloc(), &OTHER_POLARITIES)?;
+    assert_eq!(rt; taken, None);
+    Ok(())
+}
+
 #[test]
 fn the_kind_of_a_pla_may_be_said(rt: HostRuntime) -> Result<(), Fail> {
     let said = Given {

@@ -64,12 +64,17 @@ pub static ONE_INPUT: Row = Row {
     },
 };
 
-/// The report at these numbers, each literal being plain.
-pub fn report_of(alloc: Global, counts: &Counts) -> Result<String, AllocError> {
-    let mut polarity = String::new(alloc);
-    for _ in 0..counts.inputs {
-        polarity.push('1')?;
+/// The digits of the polarity of so many inputs at which each literal is plain.
+fn all_plain(alloc: Global, inputs: usize) -> Result<String, AllocError> {
+    let mut digits = String::new(alloc);
+    for _ in 0..inputs {
+        digits.push('1')?;
     }
+    Ok(digits)
+}
+
+/// The report at these numbers and the polarity of these digits.
+fn report_of(alloc: Global, polarity: &str, counts: &Counts) -> Result<String, AllocError> {
     format!(in alloc;
         "form reddy\ninputs {} outputs {}\npolarity {}\nterms {}\ngates {}\nfaults {}\nvectors {}\nunchanged 0\n",
         counts.inputs,
@@ -121,28 +126,52 @@ fn are_as_said(
     Ok(compare_files(files, given, &wanted))
 }
 
-/// Runs `synth` over these files, and compares the status and the report with those at these numbers.
+/// Runs `synth` over these files, and compares the status and the report with those at these numbers and the polarity of these digits.
+fn counts_at(
+    alloc: Global,
+    given: Given,
+    polarity: &str,
+    files: &mut MemFiles,
+    counts: &Counts,
+) -> Result<Differs, AllocError> {
+    let wanted = report_of(alloc, polarity, counts)?;
+    tells(alloc, given, files, DONE, wanted.as_bytes())
+}
+
+/// Runs `synth` over these files, and compares the status and the report with those at these numbers, each literal being plain.
 pub fn counts_for(
     alloc: Global,
     given: Given,
     files: &mut MemFiles,
     counts: &Counts,
 ) -> Result<Differs, AllocError> {
-    let wanted = report_of(alloc, counts)?;
-    tells(alloc, given, files, DONE, wanted.as_bytes())
+    let polarity = all_plain(alloc, counts.inputs)?;
+    counts_at(alloc, given, &polarity, files, counts)
 }
 
-/// Runs `synth` on a text, and compares all that is written and held with what is for the row's sources.
+/// Runs `synth` on a text, and compares all that is written and held with what is for the row's sources at the polarity of these digits.
+pub fn gives_at(
+    alloc: Global,
+    given: Given,
+    polarity: &str,
+    source: &[u8],
+    row: &Row,
+) -> Result<Differs, AllocError> {
+    let mut files = with_source(alloc, given, source)?;
+    let told = counts_at(alloc, given, polarity, &mut files, &row.counts)?;
+    let held = are_as_said(alloc, &files, given, source, row)?;
+    Ok(told.or(held))
+}
+
+/// Runs `synth` on a text, and compares all that is written and held with what is for the row's sources, each literal being plain.
 pub fn gives_for(
     alloc: Global,
     given: Given,
     source: &[u8],
     row: &Row,
 ) -> Result<Differs, AllocError> {
-    let mut files = with_source(alloc, given, source)?;
-    let told = counts_for(alloc, given, &mut files, &row.counts)?;
-    let held = are_as_said(alloc, &files, given, source, row)?;
-    Ok(told.or(held))
+    let polarity = all_plain(alloc, row.counts.inputs)?;
+    gives_at(alloc, given, &polarity, source, row)
 }
 
 /// Runs `synth` on each of the row's sources, and compares all that is written and held with what the row says.
