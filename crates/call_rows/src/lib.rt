@@ -5,6 +5,8 @@
 #[cfg(test)]
 mod cascades;
 #[cfg(test)]
+mod choices;
+#[cfg(test)]
 mod covers;
 #[cfg(test)]
 mod cube_lists;
@@ -26,6 +28,8 @@ mod netlists;
 mod networks;
 #[cfg(test)]
 mod placing;
+#[cfg(test)]
+mod polarities;
 #[cfg(test)]
 mod sets;
 #[cfg(test)]

@@ -24,7 +24,7 @@ fn literal_at<S: FnStore>(store: &mut S, j: u32, high: bool) -> Result<FnRef, Me
 }
 
 /// The product of the literals of three inputs, or of their complements.
-fn product<S: FnStore>(store: &mut S, high: (bool, bool, bool)) -> Result<FnRef, Memory>
+pub fn product<S: FnStore>(store: &mut S, high: (bool, bool, bool)) -> Result<FnRef, Memory>
     requires { 3 ≤ (S.functions store.old).polarity.n }
     ensures live { IfOk result (IsLive (S.functions store.new)) }
     ensures keeps { Keeps (S.functions store.old) (S.functions store.new) }
