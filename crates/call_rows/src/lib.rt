@@ -31,6 +31,8 @@ mod placing;
 #[cfg(test)]
 mod polarities;
 #[cfg(test)]
+mod replays;
+#[cfg(test)]
 mod sets;
 #[cfg(test)]
 mod stores;

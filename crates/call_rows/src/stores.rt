@@ -4,6 +4,7 @@ ghost use Rattle.fn_store.specs.Functions.{IsLive, Keeps};
 
 use crate::given::{has_terms, set};
 use ae_base::{Memory, Polarity};
+use davio_dd::Davio;
 use expansion::{ExpandErr, expand};
 use fn_store::{FnRef, FnStore, TermLists, TermsErr};
 use std::alloc::Global;
@@ -48,6 +49,7 @@ fn has_more<S: FnStore>(store: &S, f: FnRef, k: u64) -> bool
 /// Whether the product of three complements has eight terms.
 fn has_eight_terms<S: FnStore>(store: &mut S) -> Result<bool, Memory>
     requires { 3 ≤ (S.functions store.old).polarity.n }
+    ensures { Keeps (S.functions store.old) (S.functions store.new) }
 {
     let f = product(store, (false, false, false))?;
     let same = has_terms(
@@ -74,6 +76,7 @@ fn is_turned<S: FnStore>(store: &mut S) -> Result<bool, Memory>
 /// Whether a literal is not its complement.
 fn is_apart<S: FnStore>(store: &mut S) -> Result<bool, Memory>
     requires { 3 ≤ (S.functions store.old).polarity.n }
+    ensures { Keeps (S.functions store.old) (S.functions store.new) }
 {
     let literal = store.literal(0)?;
     let complement = store.not(literal)?;
@@ -83,34 +86,10 @@ fn is_apart<S: FnStore>(store: &mut S) -> Result<bool, Memory>
 /// Whether the product of two complements and a literal is 1 at the third input alone, and 0 nowhere.
 fn has_one_point<S: FnStore>(store: &mut S) -> Result<bool, Memory>
     requires { 3 ≤ (S.functions store.old).polarity.n }
+    ensures { Keeps (S.functions store.old) (S.functions store.new) }
 {
     let f = product(store, (false, false, true))?;
     Ok(store.point(f) == Some(set(&[2])) && store.point(store.zero()) == None)
-}
-
-#[test]
-fn terms(rt: HostRuntime) -> Result<(), Fail> {
-    let mut store = TermLists::new(rt.alloc(), Polarity::all_plain(3))?;
-    let eight = has_eight_terms(&mut store)?;
-    assert!(rt; eight);
-    Ok(())
-}
-
-#[test]
-fn functions(rt: HostRuntime) -> Result<(), Fail> {
-    let mut store = TermLists::new(rt.alloc(), Polarity::all_plain(3))?;
-    let turned = is_turned(&mut store)?;
-    let apart = is_apart(&mut store)?;
-    assert!(rt; turned && apart);
-    Ok(())
-}
-
-#[test]
-fn points(rt: HostRuntime) -> Result<(), Fail> {
-    let mut store = TermLists::new(rt.alloc(), Polarity::all_plain(3))?;
-    let one = has_one_point(&mut store)?;
-    assert!(rt; one);
-    Ok(())
 }
 
 /// The first output at which the functions' terms pass the limit, where they do.
@@ -144,11 +123,56 @@ fn keep_limits<S: FnStore>(alloc: Global, store: &mut S) -> Result<bool, Memory>
     Ok(nine == None && eight == Some(1) && none == Some(0))
 }
 
+/// Which of the calls answer as they should.
+#[derive(Debug, PartialEq, Clone, Copy)]
+struct Answers {
+    terms: bool,
+    turned: bool,
+    apart: bool,
+    point: bool,
+    limits: bool,
+}
+
+const RIGHT: Answers = Answers {
+    terms: true,
+    turned: true,
+    apart: true,
+    point: true,
+    limits: true,
+};
+
+/// Makes each call of a store.
+fn answer_each<S: FnStore>(alloc: Global, store: &mut S) -> Result<Answers, Memory>
+    requires { 3 ≤ (S.functions store.old).polarity.n }
+{
+    let terms = has_eight_terms(store)?;
+    let turned = is_turned(store)?;
+    let apart = is_apart(store)?;
+    let point = has_one_point(store)?;
+    let limits = keep_limits(alloc, store)?;
+    Ok(Answers {
+        terms,
+        turned,
+        apart,
+        point,
+        limits,
+    })
+}
+
 #[test]
-fn expansions(rt: HostRuntime) -> Result<(), Fail> {
+fn term_lists(rt: HostRuntime) -> Result<(), Fail> {
     let alloc = rt.alloc();
     let mut store = TermLists::new(alloc, Polarity::all_plain(3))?;
-    let kept = keep_limits(alloc, &mut store)?;
-    assert!(rt; kept);
+    let answers = answer_each(alloc, &mut store)?;
+    assert_eq!(rt; answers, RIGHT);
+    Ok(())
+}
+
+#[test]
+fn diagrams(rt: HostRuntime) -> Result<(), Fail> {
+    let alloc = rt.alloc();
+    let mut store = Davio::new(alloc, Polarity::all_plain(3))?;
+    let answers = answer_each(alloc, &mut store)?;
+    assert_eq!(rt; answers, RIGHT);
     Ok(())
 }
