@@ -126,6 +126,23 @@ pub static HALF_ADDER: Row = Row {
     },
 };
 
+/// The first of forty inputs. The network makes it as its EXOR with what is left of two equal products of forty complemented inputs, each
+/// of which has more terms than there may be.
+static CANCELLED_PRODUCTS: Row = Row {
+    pla: b".i 40\n.o 1\n.ob f\n1--------------------------------------- 1\n.e\n",
+    blif: b".model m\n.inputs x1 x2 x3 x4 x5 x6 x7 x8 x9 x10 x11 x12 x13 x14 x15 x16 x17 x18 x19 x20 x21 x22 x23 x24 x25 x26 x27 x28 x29 x30 x31 x32 x33 x34 x35 x36 x37 x38 x39 x40\n.outputs f\n.names x1 x2 x3 x4 x5 x6 x7 x8 x9 x10 x11 x12 x13 x14 x15 x16 x17 x18 x19 x20 x21 x22 x23 x24 x25 x26 x27 x28 x29 x30 x31 x32 x33 x34 x35 x36 x37 x38 x39 x40 g\n0000000000000000000000000000000000000000 1\n.names x1 x2 x3 x4 x5 x6 x7 x8 x9 x10 x11 x12 x13 x14 x15 x16 x17 x18 x19 x20 x21 x22 x23 x24 x25 x26 x27 x28 x29 x30 x31 x32 x33 x34 x35 x36 x37 x38 x39 x40 h\n0000000000000000000000000000000000000000 1\n.names g h k\n10 1\n01 1\n.names x1 k f\n10 1\n01 1\n.end\n",
+    net: ".inputs x1 x2 x3 x4 x5 x6 x7 x8 x9 x10 x11 x12 x13 x14 x15 x16 x17 x18 x19 x20 x21 x22 x23 x24 x25 x26 x27 x28 x29 x30 x31 x32 x33 x34 x35 x36 x37 x38 x39 x40 _c\n.outputs f\n.names _c x1 f\n10 1\n01 1\n.end\n",
+    vectors: b"andexor-vectors 1\nform reddy\ninputs x1 x2 x3 x4 x5 x6 x7 x8 x9 x10 x11 x12 x13 x14 x15 x16 x17 x18 x19 x20 x21 x22 x23 x24 x25 x26 x27 x28 x29 x30 x31 x32 x33 x34 x35 x36 x37 x38 x39 x40 _c\noutputs f\npolarity 1111111111111111111111111111111111111111\nvector 00000000000000000000000000000000000000000 0\nvector 10000000000000000000000000000000000000000 1\nvector 00000000000000000000000000000000000000001 1\nvector 10000000000000000000000000000000000000001 0\nend\n",
+    counts: Counts {
+        inputs: 40,
+        outputs: 1,
+        terms: 1,
+        gates: 1,
+        faults: 12,
+        vectors: 4,
+    },
+};
+
 #[test]
 fn two_inputs_even_and_one_odd(rt: HostRuntime) -> Result<(), Fail> {
     let given = gives(rt.alloc(), &TWO_EVEN_AND_ONE_ODD)?;
@@ -192,6 +209,13 @@ fn half_adder(rt: HostRuntime) -> Result<(), Fail> {
 #[test]
 fn an_input_that_nothing_reads(rt: HostRuntime) -> Result<(), Fail> {
     let given = gives(rt.alloc(), &UNREAD_INPUT)?;
+    assert_eq!(rt; given, Differs::Nothing);
+    Ok(())
+}
+
+#[test]
+fn two_products_that_cancel(rt: HostRuntime) -> Result<(), Fail> {
+    let given = gives(rt.alloc(), &CANCELLED_PRODUCTS)?;
     assert_eq!(rt; given, Differs::Nothing);
     Ok(())
 }

@@ -238,6 +238,17 @@ fn seventeen_complemented_inputs(rt: HostRuntime) -> Result<(), Fail> {
     Ok(())
 }
 
+/// The expansion has a term for each set of the forty inputs, more than any memory holds.
+static FORTY: &[u8] = b".i 40\n.o 1\n0000000000000000000000000000000000000000 1\n.e\n";
+
+#[test]
+fn forty_complemented_inputs(rt: HostRuntime) -> Result<(), Fail> {
+    let line = b"too many terms: output 1\n".as_slice();
+    let refused = ends(rt.alloc(), PLA, FORTY, TOO_MANY_TERMS, line)?;
+    assert_eq!(rt; refused, Differs::Nothing);
+    Ok(())
+}
+
 /// The output has a term for each set of the sixteen inputs: 65,536, as many as there may be in all.
 static SIXTEEN: &[u8] = b".i 16\n.o 1\n0000000000000000 1\n.e\n";
 
