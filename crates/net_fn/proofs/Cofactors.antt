@@ -6,14 +6,15 @@ use Rattle.std.proofs.lemmas.Bool.{cases_eq, cases_lt, cases_Bool, false≢true,
 use Rattle.std.proofs.lemmas.List.Elements.{recursion_from_All, All-from_recursion}
 use Rattle.std.proofs.lemmas.List.Folds.{list_any_more}
 use Rattle.ae_base.specs.Mask.{Set, has, empty, first, without, where_below, either, least}
-use Rattle.ae_base.specs.Cube.{Signs, Product, IsOver, EachHolds, holds, is_free}
+use Rattle.ae_base.specs.Cube.{Product, IsOver, EachHolds, holds, is_free}
 use Rattle.ae_base.proofs.Sets.{same_set, has-empty, has-either, has-without, inside-has, has-inside, has-where_below, inside-below}
 use Rattle.ae_base.proofs.Members.{least-is, least-empty}
 use Rattle.ae_base.proofs.Products.{holds-has, has-holds}
 use Rattle.ae_base.proofs.Truth.{same_truth, or-true}
-use Rattle.fn_store.specs.Davio.{put, low, high}
+use Rattle.fn_store.specs.Davio.{put}
 use Rattle.fn_store.specs.Cubes.{some_holds}
-use Rattle.fn_store.proofs.Coefficients.{put-same, put-other}
+use Rattle.fn_store.proofs.Coefficients.{put-same, put-other, put-has}
+use Rattle.net_fn.specs.Refs.{ones_at}
 use Rattle.net_fn.specs.Cofactor.{allows, rest, cofactor, is_read, is_whole, AreFrom}
 
 -- ---- one cube
@@ -199,12 +200,19 @@ read-more cubes i c read more k l at same e =
     ap (λ s. has s k) e ∙ has-either read (either c.pos c.neg) k ∙ ap₂ (λ a b. a || b) same (read-one c k ∙ ap (λ (d : Product). not (is_free d k)) at)
     ∙ sym (list_any_more (λ d. not (is_free d k)) cubes i c l)
 
--- at a literal's value, as the code reads it
-pub some-low : (p : Signs) (j : ℕ) (plain : Bool) (cubes cs : List Product) → plain ≡ has p.plain j → cs ≡ cofactor j (not plain) cubes → (x : Set) → some_holds cs x ≡ some_holds cubes (low p j x)
-some-low p j plain cubes cs e f x = ap (λ (ds : List Product). some_holds ds x) f ∙ some-cofactor j (not plain) x cubes ∙ ap (λ v. some_holds cubes (put j (not v) x)) e
+-- ---- at what references see
 
-pub some-high : (p : Signs) (j : ℕ) (plain : Bool) (cubes cs : List Product) → plain ≡ has p.plain j → cs ≡ cofactor j plain cubes → (x : Set) → some_holds cs x ≡ some_holds cubes (high p j x)
-some-high p j plain cubes cs e f x = ap (λ (ds : List Product). some_holds ds x) f ∙ some-cofactor j plain x cubes ∙ ap (λ v. some_holds cubes (put j v x)) e
+-- cubes with a number at its value there
+some-at : (k : ℕ) (v : Bool) (y : Set) (cubes : List Product) → has y k ≡ v → some_holds (cofactor k v cubes) y ≡ some_holds cubes y
+some-at k v y cubes e = some-cofactor k v y cubes ∙ ap (some_holds cubes) (put-has k v y e)
+
+pub some-split : (n k : ℕ) (fs : ℕ → Set → Bool) (cubes zeros ones : List Product) (x : Set) → k < n → zeros ≡ cofactor k false cubes → ones ≡ cofactor k true cubes
+    → cond (fs k x) (some_holds ones (ones_at n fs x)) (some_holds zeros (ones_at n fs x)) ≡ some_holds cubes (ones_at n fs x)
+some-split n k fs cubes zeros ones x l low high = by_value (fs k x) (has-where_below n (λ k. fs k x) k ∙ ap (λ b. b && fs k x) (lt-ltb k n l))
+  where
+    by_value : (v : Bool) → has (ones_at n fs x) k ≡ v → cond v (some_holds ones (ones_at n fs x)) (some_holds zeros (ones_at n fs x)) ≡ some_holds cubes (ones_at n fs x)
+    by_value true e = ap (λ (cs : List Product). some_holds cs (ones_at n fs x)) high ∙ some-at k true (ones_at n fs x) cubes e
+    by_value false e = ap (λ (cs : List Product). some_holds cs (ones_at n fs x)) low ∙ some-at k false (ones_at n fs x) cubes e
 
 -- ---- inputs as references see them
 

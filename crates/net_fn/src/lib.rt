@@ -9,7 +9,7 @@ mod nets;
 mod products;
 
 pub use covers::cover_values;
-pub use cubes::some_cube;
+pub use cubes::{some_cube, some_product};
 pub use expansions::expansion_values;
 pub use nets::{net_values, signal_values};
-pub use products::{input, some_product};
+pub use products::input;

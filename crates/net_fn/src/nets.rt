@@ -11,7 +11,8 @@ ghost use Rattle.ae_base.specs.declared.limits.TheConstants.{PINS};
 ghost use Rattle.net_fn.specs.Seen.{ShowSeen, place_of};
 ghost use Rattle.net_fn.specs.Signals.{ShowSignals};
 
-use crate::products::{input, some_product};
+use crate::cubes::some_product;
+use crate::products::input;
 use ae_base::Memory;
 use ae_net::{Fault, Gate, Net, Place, Sig, one_run};
 use fn_store::{FnRef, FnStore};
@@ -117,7 +118,7 @@ fn gate_value<S: FnStore>(
         gate.pins.as_slice(),
         signals,
     )?;
-    let some = some_product(store, gate.rows.as_slice(), &pins)?;
+    let some = some_product(alloc, store, gate.rows.as_slice(), &pins)?;
     turned(store, gate.on, some)
 }
 

@@ -75,8 +75,8 @@ fn times<S: FnStore>(
     }
 }
 
-/// The function that is 1 where some of the products holds of the references' values.
-pub fn some_product<S: FnStore>(
+/// The function that is 1 where some of the products holds of the references' values, product by product.
+pub(crate) fn product_by_product<S: FnStore>(
     store: &mut S,
     products: &[Cube],
     refs: &[FnRef],

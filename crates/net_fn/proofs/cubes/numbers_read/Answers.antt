@@ -3,7 +3,7 @@ use Rattle.ae_base.specs.Mask.{has, either}
 use Rattle.ae_base.specs.Cube.{Product}
 use Rattle.ae_base.proofs.Sets.{has-empty}
 use Rattle.net_fn.proofs.Cofactors.{read-more}
-use Rattle.net_fn.proofs.cubes.inputs_read.Goals as goal
+use Rattle.net_fn.proofs.cubes.numbers_read.Goals as goal
 
 pub loop-cube-init : goal.loop-cube-init
 loop-cube-init c k = ap (λ s. has s k) c.empty-read.ensures ∙ has-empty k

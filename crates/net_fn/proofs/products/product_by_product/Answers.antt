@@ -1,6 +1,6 @@
 use Rattle.std.proofs.Common.{◌≡◌, length, rules, arith}
 use Rattle.net_fn.proofs.Listed.{Summed-step, Summed-end}
-use Rattle.net_fn.proofs.products.some_product.Goals as goal
+use Rattle.net_fn.proofs.products.product_by_product.Goals as goal
 
 pub loop-product-preserved : goal.loop-product-preserved
 loop-product-preserved g c =

@@ -5,7 +5,7 @@ use Rattle.fn_store.specs.Cubes.{some_holds}
 use Rattle.net_fn.specs.Refs.{ones_at}
 use Rattle.net_fn.proofs.Cofactors.{some-inputs}
 use Rattle.net_fn.proofs.Kept.{Shows-same}
-use Rattle.net_fn.proofs.cubes.cube_by_cube.Goals as goal
+use Rattle.net_fn.proofs.cubes.some_cube.Goals as goal
 
 pub returns-clause-shows : goal.returns-clause-shows
 returns-clause-shows g c =
