@@ -1,4 +1,4 @@
-//! The function of a list of cubes.
+//! The function of a list of cubes, over the functions of any references.
 ghost use Rattle.std.specs.Prelude.{◌≡◌, ◌<◌, ◌≤◌, ℕ, Bool, length, All, IfOk};
 ghost use Rattle.std.specs.List.{list_any};
 ghost use Rattle.ae_base.specs.Mask.{Set, has};
