@@ -10,7 +10,8 @@ The sources:
 - a row of forty complemented inputs;
 - an adder of eight bits and a multiplier of four, each as a PLA of its minterms and as the BLIF of bench/circuits.py.
 
-For each, at each polarity that is listed below, the script prints the wall seconds of the whole program and of its reading alone (the same
+For each, with all literals plain and at the best polarity that a search by single flips finds within forty seconds (it asks the program
+for the terms of each), the script prints the wall seconds of the whole program and of its reading alone (the same
 source with a fault in its last line, which is refused with status 5), the most memory that it held, and its status and report. With WORDs
 it takes only the sources whose names hold one of them. A run is given 8 GiB, and is ended after SECONDS times six.
 
@@ -20,6 +21,7 @@ is missing.
 """
 import os
 import random
+import re
 import resource
 import subprocess
 import sys
@@ -33,8 +35,8 @@ import synthesis
 
 PROGRAM = os.path.abspath(synthesis.PROGRAM)
 MOST_BYTES = 8 << 30
-# the words that ask for each polarity; that of a best polarity has its place here
-POLARITIES = {"all plain": []}
+# the most seconds that the search for a good polarity of one source may take
+SEARCH_SECONDS = 40.0
 
 
 class Source(NamedTuple):
@@ -110,8 +112,37 @@ def run(folder, kind, text, options, most):
         return Run(child.returncode, ", ".join(report.read().splitlines()), seconds, usage.ru_maxrss / 1024)
 
 
-def ends_in_time(folder, source, polarity, most):
-    options = POLARITIES[polarity]
+def inputs_of(source):
+    if source.kind == "pla":
+        return int(re.search(r"^\.i (\d+)", source.text, re.M).group(1))
+    return sum(len(line.split()) - 1 for line in source.text.splitlines() if line.startswith(".inputs"))
+
+
+def terms_at(folder, source, digits, most):
+    """The number of terms at a polarity, and infinity where there are too many or the time is up."""
+    found = re.search(r"terms (\d+)", run(folder, source.kind, source.text, ["--polarity", digits], most).report)
+    return int(found.group(1)) if found else float("inf")
+
+
+def best_digits(folder, source, most):
+    """The best polarity found: from all literals plain and all complemented, single flips that lower the terms, while time is left."""
+    end = time.perf_counter() + SEARCH_SECONDS
+    count = inputs_of(source)
+    fewest, digits = min((terms_at(folder, source, start, most), start) for start in ("1" * count, "0" * count))
+    lowered = True
+    while lowered:
+        lowered = False
+        for j in range(count):
+            if time.perf_counter() > end:
+                return digits
+            flipped = digits[:j] + "10"[int(digits[j])] + digits[j + 1 :]
+            terms = terms_at(folder, source, flipped, most)
+            if terms < fewest:
+                fewest, digits, lowered = terms, flipped, True
+    return digits
+
+
+def ends_in_time(folder, source, polarity, options, most):
     reading = run(folder, source.kind, with_fault(source.text), options, most)
     whole = run(folder, source.kind, source.text, options, most)
     kept = reading.status == 5 and whole.status in (0, 7) and whole.seconds <= most
@@ -129,7 +160,11 @@ def main(most, words):
         return 2
     asked = [source for source in sources() if not words or any(word in source.name for word in words)]
     with tempfile.TemporaryDirectory() as folder:
-        kept = [ends_in_time(folder, source, polarity, most) for source in asked for polarity in POLARITIES]
+        kept = []
+        for source in asked:
+            kept.append(ends_in_time(folder, source, "all plain", [], most))
+            digits = best_digits(folder, source, most)
+            kept.append(ends_in_time(folder, source, "best polarity found", ["--polarity", digits], most))
     return int(not all(kept))
 
 
