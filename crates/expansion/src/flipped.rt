@@ -14,7 +14,7 @@ use fn_store::{expansion_law, sum};
 use std::alloc::Global;
 
 /// The expansions of the same functions at the polarity that differs in input `j` alone, in time linear in the terms. Where memory runs
-/// out, `Memory`.
+/// out, or the two lists of a sum together pass 8,388,608 terms, `Memory`.
 pub fn flip(alloc: Global, e: &Expansion, j: u32) -> Result<Expansion, Memory>
     requires input { j < e.now.polarity.n }
     requires cost { cost e.now < 2 ^ 61 }

@@ -28,7 +28,8 @@ pub(crate) fn single(alloc: Global, j: u32) -> Result<Vec<Term>, Memory>
     Ok(terms)
 }
 
-/// The expansion of the EXOR of two functions, in one pass over theirs. Where memory runs out, `Memory`.
+/// The expansion of the EXOR of two functions, in one pass over theirs. Where memory runs out, or the two lists
+/// together pass 8,388,608 terms, `Memory`.
 pub fn sum(alloc: Global, a: &[Term], b: &[Term]) -> Result<Vec<Term>, Memory>
     ensures expansion { IfOk result (λ ts. (p : Signs) (f g : Set → Bool) → IsExpansion p f a.now → IsExpansion p g b.now → IsExpansion p (λ x. differ (f x) (g x)) ts.items) }
     ensures count { IfOk result (λ ts. length ts.items ≤ length a.now + length b.now) }

@@ -13,7 +13,7 @@ use expansion::{Expansion, flip, pairs};
 use std::alloc::Global;
 
 /// The expansions of the same functions at the settled polarity: while some input's flip costs less, the first such input is flipped.
-/// Where memory runs out, `Memory`.
+/// Where memory runs out, or a flip on the way has to add lists of more than 8,388,608 terms, `Memory`.
 pub fn settle(alloc: Global, e: Expansion) -> Result<Expansion, Memory>
     requires { cost e < 2 ^ 61 }
     ensures settling { IfOk result (λ settled. (s : Source) → AreExpansions s e.polarity e → settled.polarity ≡ settling s e.polarity) }
