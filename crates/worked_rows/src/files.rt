@@ -1,6 +1,7 @@
 //! A run over files in memory, set up, run and compared by functions of their own.
 
 use ae_outside::{MemFiles, MemSink};
+use polarity::Advisor;
 use std::alloc::{AllocError, Global};
 use synth_cmd::run;
 
@@ -13,6 +14,7 @@ pub enum Differs {
     Net,
     Vectors,
     Source,
+    Advisors,
 }
 
 impl Differs {
@@ -64,15 +66,27 @@ pub fn words(alloc: Global, text: &str) -> Result<Vec<String>, AllocError> {
     Ok(words)
 }
 
-/// Runs the words over these files, and answers the status.
+/// Runs the words over these files with these advisors, and answers the status.
+pub fn run_advised(
+    alloc: Global,
+    text: &str,
+    files: &mut MemFiles,
+    report: &mut MemSink,
+    advisors: &mut Vec<Box<dyn Advisor>>,
+) -> Result<u8, AllocError> {
+    let words = words(alloc, text)?;
+    Ok(run(alloc, &words, files, report, advisors))
+}
+
+/// Runs the words over these files with no advisors, and answers the status.
 pub fn run_words(
     alloc: Global,
     text: &str,
     files: &mut MemFiles,
     report: &mut MemSink,
 ) -> Result<u8, AllocError> {
-    let words = words(alloc, text)?;
-    Ok(run(alloc, &words, files, report))
+    let mut advisors = Vec::new(alloc);
+    run_advised(alloc, text, files, report, &mut advisors)
 }
 
 /// Files of which one holds the source.
