@@ -1,6 +1,6 @@
 //! The top call, and a function for each command.
-ghost use Rattle.std.specs.Prelude.{◌≡◌, ◌≢◌, ◌≤◌, List, [], ◌∷◌, map};
-ghost use Rattle.polarity.specs.Search.{Advised, advised};
+ghost use Rattle.std.specs.Prelude.{◌≡◌, ◌≢◌, ◌≤◌, [], ◌∷◌, map};
+ghost use Rattle.polarity.specs.Search.{advised};
 ghost use Rattle.synth_core.specs.Searched.{AdvisorsStand};
 ghost use Rattle.synth_cmd.specs.Asked.{asked};
 ghost use Rattle.synth_cmd.specs.Headline.{HasHeadline, Holds, Tested};
@@ -74,10 +74,14 @@ fn synth_command<F: Files, K: Sink>(
 }
 
 /// Words that ask for nothing.
-fn refuse_words<F: Files, K: Sink>(_files: &F, report: &mut K) -> u8
-    ensures { (advisors : List Advised) → WordsEnd
-        (outside F.held F.read_faults F.write_faults K.taken K.faults _files.now report.old advisors)
-        (outside F.held F.read_faults F.write_faults K.taken K.faults _files.now report.new advisors)
+fn refuse_words<F: Files, K: Sink>(
+    _files: &F,
+    report: &mut K,
+    _advisors: &Vec<Box<dyn Advisor>>,
+) -> u8
+    ensures { WordsEnd
+        (outside F.held F.read_faults F.write_faults K.taken K.faults _files.now report.old (map (λ b. advised (left b) (log b)) _advisors.now.items))
+        (outside F.held F.read_faults F.write_faults K.taken K.faults _files.now report.new (map (λ b. advised (left b) (log b)) _advisors.now.items))
         result }
 {
     tell(
@@ -113,7 +117,7 @@ pub fn run<F: Files, K: Sink>(
         result }
 {
     match read_command(words) {
-        Command::Refused => refuse_words(files, report),
+        Command::Refused => refuse_words(files, report, advisors),
         Command::Synth { settings, names } => {
             synth_command(alloc, files, report, &settings, &names, advisors)
         }

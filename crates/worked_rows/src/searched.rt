@@ -109,7 +109,7 @@ fn first_other(alloc: Global, searches: &[Search]) -> Result<Option<Other>, Allo
 }
 
 /// The product of three complements: eight terms where each literal is plain, one where each is complemented.
-static COMPLEMENTS: Search = Search {
+const COMPLEMENTS: Search = Search {
     words: SEARCH,
     source: b".i 3\n.o 1\n000 1\n.e\n",
     brought: &[Brought::Sets(&[&[]])],
@@ -119,7 +119,7 @@ static COMPLEMENTS: Search = Search {
 };
 
 /// The OR of two inputs: three terms where each literal is plain and where one is, two where none is. So no single flip finds those two.
-static OR: Search = Search {
+const OR: Search = Search {
     words: SEARCH,
     source: b".i 2\n.o 1\n1- 1\n-1 1\n.e\n",
     brought: &[Brought::Sets(&[&[]])],
