@@ -1,0 +1,5 @@
+pub mod Esop
+pub mod Links
+pub mod Order
+pub mod Rewriting
+pub mod Settled
