@@ -28,7 +28,7 @@ pub record Link : Type 0 where
 abbrev pub link : Product → Product → ℕ → ℕ → Link
 link c d p q = record { first = with_third c d p; second = with_third d c q }
 
-abbrev links_at : List ℕ → Product → Product → List Link
+abbrev pub links_at : List ℕ → Product → Product → List Link
 links_at (p ∷ q ∷ []) c d = link c d p q ∷ link c d q p ∷ []
 links_at _ c d = []
 

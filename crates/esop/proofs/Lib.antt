@@ -1,0 +1,6 @@
+pub mod Close
+pub mod Pairs
+pub mod Placed
+pub mod Steps
+pub mod Thirds
+pub mod Values

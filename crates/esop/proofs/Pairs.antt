@@ -1,0 +1,131 @@
+-- The first pair of places that passes a test.
+use Rattle.std.proofs.Common.{◌≡◌, ◌<◌, ◌≤◌, ◌+◌, ◌-◌, ◌∙◌, ℕ, zero, suc, Bool, true, false, cond, List, [], ◌∷◌, map, refl, sym, ap, arith, inl, inr}
+use Rattle.std.specs.Prelude.{Option, Some, None, find, flat_map, option_map}
+use Rattle.std.specs.List.{range_with_len}
+use Rattle.std.specs.Option.{option_or}
+use Rattle.std.proofs.lemmas.Bool.{cases_eq, false≢true}
+use Rattle.std.proofs.lemmas.List.Folds.{find-append}
+use Rattle.std.proofs.lemmas.Option.{none-some}
+use Rattle.esop.specs.Rewriting.{pairs}
+
+-- ---- the first number of a range
+
+pub range_some : (t : ℕ → Bool) (n a j : ℕ) → a ≤ j → j < a + n → ((k : ℕ) → a ≤ k → k < j → t k ≡ false) → t j ≡ true → find t (range_with_len a n) ≡ Some j
+range_some t zero a j low high before at = absurd (omega (arith, low, high))
+range_some t (suc n) a j low high before at =
+    elim (cases_eq a j) [
+      | inl e ↦ rw (ap t e ∙ at) (ap (λ k. Some k) e)
+      | inr ne ↦ rw (before a (omega arith) (omega (arith, low, ne))) (range_some t n (a + 1) j (omega (arith, low, ne)) (omega (arith, high)) (λ k l h. before k (omega (arith, l)) h) at)
+    ]
+
+pub range_none : (t : ℕ → Bool) (n a : ℕ) → ((k : ℕ) → a ≤ k → k < a + n → t k ≡ false) → find t (range_with_len a n) ≡ None
+range_none t zero a none = refl
+range_none t (suc n) a none = rw (none a (omega arith) (omega arith)) (range_none t n (a + 1) (λ k l h. none k (omega (arith, l)) (omega (arith, h))))
+
+-- what is found is of the range, and passes
+record InRange (t : ℕ → Bool) (a b j : ℕ) : Type 0 where
+  low : a ≤ j
+  high : j < b
+  passes : t j ≡ true
+
+range_found : (t : ℕ → Bool) (n a j : ℕ) → find t (range_with_len a n) ≡ Some j → InRange t a (a + n) j
+range_found t zero a j h = absurd (none-some j h)
+range_found t (suc n) a j h = by (t a) refl h (range_found t n (a + 1) j)
+  where
+    by : (b : Bool) → t a ≡ b → cond b (Some a) (find t (range_with_len (a + 1) n)) ≡ Some j → (find t (range_with_len (a + 1) n) ≡ Some j → InRange t (a + 1) (a + 1 + n) j) → InRange t a (a + suc n) j
+    by true e f later = let same : a ≡ j = cc f in record { low = omega (arith, same); high = omega (arith, same); passes = ap t (sym same) ∙ e }
+    by false e f later = let r = later f in record { low = omega (arith, r.low); high = omega (arith, r.high); passes = r.passes }
+
+range_not : (t : ℕ → Bool) (n a : ℕ) → find t (range_with_len a n) ≡ None → (j : ℕ) → a ≤ j → j < a + n → t j ≡ false
+range_not t zero a h j low high = absurd (omega (arith, low, high))
+range_not t (suc n) a h j low high = by (t a) refl h (λ k l. range_not t n (a + 1) k j l (omega (arith, high)))
+  where
+    by : (b : Bool) → t a ≡ b → cond b (Some a) (find t (range_with_len (a + 1) n)) ≡ None → (find t (range_with_len (a + 1) n) ≡ None → a + 1 ≤ j → t j ≡ false) → t j ≡ false
+    by true e f later = absurd (none-some a (sym f))
+    by false e f later = elim (cases_eq j a) [ inl s ↦ ap t s ∙ e | inr ne ↦ later f (omega (arith, low, ne)) ]
+
+-- ---- the first pair
+
+-- the second places of the pairs whose first place is i
+abbrev pub row : ℕ → ℕ → List ℕ
+row n i = range_with_len (suc i) (n - suc i)
+
+module _ (q : ℕ × ℕ → Bool) (n : ℕ) where
+  abbrev rows : ℕ → ℕ → List (ℕ × ℕ)
+  rows a m = flat_map (λ i. map (λ j. (i, j)) (row n i)) (range_with_len a m)
+
+  abbrev pub in_row : ℕ → Option ℕ
+  in_row i = find (λ j. q (i, j)) (row n i)
+
+  find-row : (i : ℕ) (js : List ℕ) → find q (map (λ j. (i, j)) js) ≡ option_map (λ j. (i, j)) (find (λ j. q (i, j)) js)
+  find-row i [] = refl
+  find-row i (j ∷ js) = by (q (i, j)) (find-row i js)
+    where
+      by : (b : Bool) → find q (map (λ j. (i, j)) js) ≡ option_map (λ j. (i, j)) (find (λ j. q (i, j)) js)
+          → cond b (Some (i, j)) (find q (map (λ j. (i, j)) js)) ≡ option_map (λ j. (i, j)) (cond b (Some j) (find (λ j. q (i, j)) js))
+      by true h = refl
+      by false h = h
+
+  first_row : (a m : ℕ) → find q (rows a (suc m)) ≡ option_or (option_map (λ j. (a, j)) (in_row a)) (find q (rows (a + 1) m))
+  first_row a m = find-append q (map (λ j. (a, j)) (row n a)) (rows (a + 1) m) ∙ ap (λ o. option_or o (find q (rows (a + 1) m))) (find-row a (row n a))
+
+  rows_some : (m a i j : ℕ) → a ≤ i → i < a + m → ((h : ℕ) → a ≤ h → h < i → in_row h ≡ None) → in_row i ≡ Some j → find q (rows a m) ≡ Some (i, j)
+  rows_some zero a i j low high before at = absurd (omega (arith, low, high))
+  rows_some (suc m) a i j low high before at =
+      first_row a m
+      ∙ elim (cases_eq a i) [
+        | inl e ↦ ap (λ k. option_or (option_map (λ j. (k, j)) (in_row k)) (find q (rows (a + 1) m))) e ∙ ap (λ o. option_or (option_map (λ j. (i, j)) o) (find q (rows (a + 1) m))) at
+        | inr ne ↦
+            ap (λ o. option_or (option_map (λ j. (a, j)) o) (find q (rows (a + 1) m))) (before a (omega arith) (omega (arith, low, ne)))
+            ∙ rows_some m (a + 1) i j (omega (arith, low, ne)) (omega (arith, high)) (λ h l k. before h (omega (arith, l)) k) at
+      ]
+
+  rows_none : (m a : ℕ) → ((h : ℕ) → a ≤ h → h < a + m → in_row h ≡ None) → find q (rows a m) ≡ None
+  rows_none zero a none = refl
+  rows_none (suc m) a none =
+      first_row a m ∙ ap (λ o. option_or (option_map (λ j. (a, j)) o) (find q (rows (a + 1) m))) (none a (omega arith) (omega arith))
+      ∙ rows_none m (a + 1) (λ h l k. none h (omega (arith, l)) (omega (arith, k)))
+
+  -- a pair of places that passes
+  pub record Passes (p : ℕ × ℕ) : Type 0 where
+    pub order : p.0 < p.1
+    pub within : p.1 < n
+    pub passes : q p ≡ true
+
+  rows_found : (m a : ℕ) (p : ℕ × ℕ) → find q (rows a m) ≡ Some p → Passes p
+  rows_found zero a p h = absurd (none-some p h)
+  rows_found (suc m) a p h = by (in_row a) refl (sym (first_row a m) ∙ h) (rows_found m (a + 1) p)
+    where
+      by : (o : Option ℕ) → in_row a ≡ o → option_or (option_map (λ j. (a, j)) o) (find q (rows (a + 1) m)) ≡ Some p → (find q (rows (a + 1) m) ≡ Some p → Passes p) → Passes p
+      by None e f later = later f
+      by (Some j) e f later =
+          let r = range_found (λ j. q (a, j)) (n - suc a) (suc a) j e in
+          let same : (a, j) ≡ p = cc f in
+          record { order = omega (arith, r.low, ap (λ (x : ℕ × ℕ). x.0) same, ap (λ (x : ℕ × ℕ). x.1) same); within = omega (arith, r.high, r.low, ap (λ (x : ℕ × ℕ). x.1) same); passes = ap q (sym same) ∙ r.passes }
+
+  rows_not : (m a : ℕ) → find q (rows a m) ≡ None → (i j : ℕ) → a ≤ i → i < a + m → i < j → j < n → q (i, j) ≡ false
+  rows_not zero a h i j low high order within = absurd (omega (arith, low, high))
+  rows_not (suc m) a h i j low high order within = by (in_row a) refl (sym (first_row a m) ∙ h) (λ f l. rows_not m (a + 1) f i j l (omega (arith, high)) order within)
+    where
+      by : (o : Option ℕ) → in_row a ≡ o → option_or (option_map (λ j. (a, j)) o) (find q (rows (a + 1) m)) ≡ None → (find q (rows (a + 1) m) ≡ None → a + 1 ≤ i → q (i, j) ≡ false) → q (i, j) ≡ false
+      by (Some k) e f later = absurd (none-some (a, k) (sym f))
+      by None e f later = elim (cases_eq i a) [
+        | inl s ↦ range_not (λ k. q (i, k)) (n - suc i) (suc i) (ap in_row s ∙ e) j (omega (arith, order)) (omega (arith, order, within))
+        | inr ne ↦ later f (omega (arith, low, ne))
+      ]
+
+  pub pair_found : (p : ℕ × ℕ) → find q (pairs n) ≡ Some p → Passes p
+  pair_found p h = rows_found n 0 p h
+
+  pub no_pair : find q (pairs n) ≡ None → (i j : ℕ) → i < j → j < n → q (i, j) ≡ false
+  no_pair h i j order within = rows_not n 0 h i j (omega arith) (omega (arith, order, within)) order within
+
+  pub pair_none : ((i j : ℕ) → i < j → j < n → q (i, j) ≡ false) → find q (pairs n) ≡ None
+  pair_none none = rows_none n 0 (λ h low high. range_none (λ j. q (h, j)) (n - suc h) (suc h) (λ k l u. none h k (omega (arith, l)) (omega (arith, u, l))))
+
+  -- a search row by row: no row before the i-th has one
+  pub pair_at : (i j : ℕ) → i < n → ((h : ℕ) → h < i → in_row h ≡ None) → in_row i ≡ Some j → find q (pairs n) ≡ Some (i, j)
+  pair_at i j within before at = rows_some n 0 i j (omega arith) (omega (arith, within)) (λ h l k. before h k) at
+
+  pub pair_nowhere : ((h : ℕ) → h < n → in_row h ≡ None) → find q (pairs n) ≡ None
+  pair_nowhere none = rows_none n 0 (λ h l k. none h (omega (arith, k)))
