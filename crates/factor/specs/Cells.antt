@@ -1,0 +1,123 @@
+-- The gates of a sum, before they have names.
+use Rattle.std.specs.Prelude.{ℕ, suc, ◌+◌, ◌-◌, ◌==◌, Bool, true, not, if◌then◌else◌, List, [], ◌∷◌, ◌++◌, length, map}
+use Rattle.std.specs.List.{list_all, position_or_len}
+use Rattle.ae_base.specs.Mask.{has, empty, first, with, either, members}
+use Rattle.ae_base.specs.Cube.{Product, meet, whole}
+use Rattle.ae_net.specs.declared.net.Gate.{Gate}
+use Rattle.factor.specs.declared.cells.Cell.{Cell}
+use Rattle.factor.specs.declared.cells.Cell.TheVariants.{Zero, One, Inverter, Buffer, And, Exor, Or}
+use Rattle.factor.specs.declared.cells.Factor.{Factor}
+use Rattle.factor.specs.declared.cells.Wires.{Wires}
+use Rattle.factor.specs.Sums.{Summands, has_constant}
+use Rattle.factor.specs.Sums.Summands.{end, literals, factored}
+
+-- ---- gates by what they compute
+
+abbrev pub pins_of : Cell → List ℕ
+pins_of Zero = []
+pins_of One = []
+pins_of (Inverter a) = a ∷ []
+pins_of (Buffer a) = a ∷ []
+pins_of (And pins) = pins
+pins_of (Exor a b) = a ∷ b ∷ []
+pins_of (Or a b) = a ∷ b ∷ []
+
+-- no row; the row of no literals; `0`; `1`; only `1`; `10` and `01`; `1-` and `-1`
+abbrev pub rows_of : Cell → List Product
+rows_of Zero = []
+rows_of One = whole ∷ []
+rows_of (Inverter a) = record { pos = empty; neg = with empty 0 } ∷ []
+rows_of (Buffer a) = record { pos = with empty 0; neg = empty } ∷ []
+rows_of (And pins) = record { pos = first (length pins); neg = empty } ∷ []
+rows_of (Exor a b) = record { pos = with empty 0; neg = with empty 1 } ∷ record { pos = with empty 1; neg = with empty 0 } ∷ []
+rows_of (Or a b) = record { pos = with empty 0; neg = empty } ∷ record { pos = with empty 1; neg = empty } ∷ []
+
+-- the gate of this name
+abbrev pub gate_of : List ℕ → Cell → Gate
+gate_of out cell = record { out = out; pins = pins_of cell; rows = rows_of cell; on = true }
+
+-- ---- literals
+
+-- the signal of a literal of input j: the input where it is plain, else its inverter
+unfoldable pub literal_signal : Wires → Bool → ℕ → ℕ
+literal_signal w plain j = if plain then j else w.inputs + position_or_len (λ i. i == j) w.turned
+
+-- the signals of a product's literals, in input order
+unfoldable pub literal_signals : Wires → Product → List ℕ
+literal_signals w c = map (λ j. literal_signal w (has c.pos j) j) (members (either c.pos c.neg))
+
+-- ---- summands
+
+-- gates, and the signal that they come to
+pub record Part : Type 0 where
+  pub cells : List Cell
+  pub signal : ℕ
+
+-- the gates of summands, and for each summand its direct factors and its signal
+pub record Parts : Type 0 where
+  pub cells : List Cell
+  pub factors : List Factor
+
+-- a literal alone has no gate; other products of literals have an AND gate, whose signal is k
+abbrev pub product_of : ℕ → List ℕ → Part
+product_of k (s ∷ []) = record { cells = []; signal = s }
+product_of k signals = record { cells = And signals ∷ []; signal = k }
+
+-- the gates of an inner sum, and then an AND gate of the literals and of the inner sum
+abbrev pub product_with : ℕ → List ℕ → Part → Part
+product_with k signals inner = record { cells = inner.cells ++ And (signals ++ inner.signal ∷ []) ∷ []; signal = k + length inner.cells }
+
+-- a summand before others
+abbrev pub before : Product → Part → Parts → Parts
+before ls part rest = record { cells = part.cells ++ rest.cells; factors = record { literals = ls; signal = part.signal } ∷ rest.factors }
+
+-- ---- joining
+
+-- An OR where each earlier summand excludes this one: some input is a direct factor of the one in plain form and of the other in
+-- complemented form. Else an EXOR.
+abbrev pub join : List Factor → ℕ → Factor → Cell
+join earlier line f = if list_all (λ e. not (meet e.literals f.literals)) earlier then Or line f.signal else Exor line f.signal
+
+-- the gates, the first of them with the signal k, that join the summands to the line, which joins the earlier ones
+abbrev pub joins : ℕ → ℕ → List Factor → List Factor → List Cell
+joins k line earlier [] = []
+joins k line earlier (f ∷ fs) = join earlier line f ∷ joins (suc k) k (earlier ++ f ∷ []) fs
+
+-- the signal of the last of n gates from k on, or the line where there is none
+abbrev pub last_of : ℕ → ℕ → ℕ → ℕ
+last_of k line n = if n == 0 then line else k + n - 1
+
+-- the constant turns the line: an inverter
+abbrev pub turned_by : Bool → ℕ → Part → Part
+turned_by constant k line = if constant then record { cells = line.cells ++ Inverter line.signal ∷ []; signal = k + length line.cells } else line
+
+-- the gates of the summands and those that join them, or a constant where there is no summand
+abbrev pub whole_of : ℕ → Bool → List Cell → List Factor → Part
+whole_of k constant cells [] = record { cells = cells ++ (if constant then One else Zero) ∷ []; signal = k + length cells }
+whole_of k constant cells (f ∷ fs) =
+    turned_by constant k (record {
+      cells = cells ++ joins (k + length cells) f.signal (f ∷ []) fs;
+      signal = last_of (k + length cells) f.signal (length fs);
+    })
+
+-- the gates of the summands of a sum, the first of them with the signal k
+unfoldable pub parts : Wires → ℕ → Summands → Parts
+parts w k (end b) = record { cells = []; factors = [] }
+parts w k (literals ls rest) =
+    let part = product_of k (literal_signals w ls) in
+    before ls part (parts w (k + length part.cells) rest)
+parts w k (factored ls inner rest) =
+    let inside = parts w k inner in
+    let part = product_with k (literal_signals w ls) (whole_of k (has_constant inner) inside.cells inside.factors) in
+    before ls part (parts w (k + length part.cells) rest)
+
+-- the gates of a sum, the first of them with the signal k
+unfoldable pub sum_part : Wires → ℕ → Summands → Part
+sum_part w k s = whole_of k (has_constant s) (parts w k s).cells (parts w k s).factors
+
+-- the gates of an output's sum: where the sum is the signal of one literal alone, a buffer of it
+abbrev pub with_buffer : Part → List Cell
+with_buffer part = if length part.cells == 0 then Buffer part.signal ∷ [] else part.cells
+
+unfoldable pub output_cells : Wires → ℕ → Summands → List Cell
+output_cells w k s = with_buffer (sum_part w k s)

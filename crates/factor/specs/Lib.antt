@@ -1,0 +1,6 @@
+pub mod Cells
+pub mod Factored
+pub mod Literals
+pub mod Seen
+pub mod Shows
+pub mod Sums
