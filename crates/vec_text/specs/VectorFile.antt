@@ -1,28 +1,64 @@
 -- Vector files and their text.
-use Rattle.std.specs.Prelude.{◌≡◌, ◌≢◌, ℕ, suc, ◌<◌, ◌≤◌, true, List, [], ◌∷◌, ◌++◌, length, map, All, AllPairs, codes}
-use Rattle.ae_base.specs.declared.limits.TheConstants.{WRITTEN_LINES}
-use Rattle.ae_base.specs.Cube.{Signs, IsSigns}
+use Rattle.std.specs.Prelude.{◌≡◌, ◌≢◌, ℕ, suc, ◌+◌, ◌==◌, ◌<◌, ◌≤◌, Bool, true, false, not, ◌&&◌, nat_le, if◌then◌else◌, List, [], ◌∷◌, ◌++◌, length, map, All, AllPairs, codes}
+use Rattle.std.specs.Fmt.{decimal}
+use Rattle.ae_base.specs.declared.limits.TheConstants.{PINS, WRITTEN_LINES}
+use Rattle.ae_base.specs.Cube.{Signs, IsSigns, IsOver}
 use Rattle.ae_base.specs.Name.{is_name}
 use Rattle.ae_base.specs.Terms.{IsPoint}
-use Rattle.ae_base.specs.Text.{bits_of, text_of}
+use Rattle.ae_base.specs.Text.{bits_of, cube_text, text_of}
 use Rattle.vec_text.specs.declared.file.Form.{Form}
-use Rattle.vec_text.specs.declared.file.Form.TheVariants.{Reddy}
+use Rattle.vec_text.specs.declared.file.Form.TheVariants.{Reddy, Factored}
 use Rattle.vec_text.specs.declared.file.Vector.{Vector}
+use Rattle.vec_text.specs.declared.file.EsopLine.{EsopLine}
+use Rattle.vec_text.specs.declared.file.PlaceName.{PlaceName}
+use Rattle.vec_text.specs.declared.file.PlaceName.TheVariants.{Stem, Pin, Port}
+use Rattle.vec_text.specs.declared.file.Step.{Step}
+use Rattle.vec_text.specs.declared.file.Step.TheVariants.{S, L}
+use Rattle.vec_text.specs.declared.file.Shown.{Shown}
+use Rattle.vec_text.specs.declared.file.Shown.TheVariants.{Tree, Wide}
+use Rattle.vec_text.specs.declared.file.Idle.{Idle}
 
--- the form, the names of the network's inputs and outputs, the polarity of the source's inputs, and the vectors
+-- the form, the names of the network's inputs and outputs, the polarity of the source's inputs, the cubes of the ESOP, the vectors, and
+-- the undetectable faults
 pub record VectorFile : Type 0 where
   pub form : Form
   pub inputs : List (List ℕ)
   pub outputs : List (List ℕ)
   pub polarity : Signs
+  pub esop : List EsopLine
   pub vectors : List Vector
+  pub unchanged : List Idle
 
--- the number of a network's inputs over n inputs of a source
+-- the number of a network's inputs over n inputs of a source: in Reddy form the control is one more
 abbrev pub inputs_over : Form → ℕ → ℕ
 inputs_over Reddy n = suc n
+inputs_over Factored n = n
+
+-- ---- valid files
+
+-- a cube over n inputs, of one of m outputs
+pub record IsCubeOf (n m : ℕ) (e : EsopLine) : Type 0 where
+  pub output : e.output < m
+  pub cube : IsOver n e.cube
+
+-- names, and a pin's number from 1 to the most pins of a gate
+abbrev pub is_place : PlaceName → Bool
+is_place (Stem name) = is_name name
+is_place (Pin gate k) = is_name gate && nat_le 1 k && nat_le k PINS
+is_place (Port name) = is_name name
+
+-- a tree has a letter
+abbrev pub is_shown : Shown → Bool
+is_shown (Tree steps) = not (length steps == 0)
+is_shown Wide = true
+
+pub record IsIdle (idle : Idle) : Type 0 where
+  pub place : is_place idle.place ≡ true
+  pub shown : is_shown idle.shown ≡ true
 
 -- The rules of the vector text: one to 65 names of inputs and of outputs, all different, a polarity of the inputs of the source, of
--- which there is one or more, and vectors over the inputs with responses over the outputs.
+-- which there is one or more, vectors over the inputs with responses over the outputs, and in factored form alone cubes of the outputs
+-- and undetectable faults.
 pub record IsValidVectorFile (file : VectorFile) : Type 0 where
   pub some_input : 0 < file.polarity.n
   pub signs : IsSigns file.polarity
@@ -32,15 +68,17 @@ pub record IsValidVectorFile (file : VectorFile) : Type 0 where
   pub few_outputs : length file.outputs ≤ WRITTEN_LINES
   pub named : All (λ name. is_name name ≡ true) (file.inputs ++ file.outputs)
   pub distinct : AllPairs (λ a b. a ≢ b) (file.inputs ++ file.outputs)
+  pub esop : All (IsCubeOf (length file.inputs) (length file.outputs)) file.esop
   pub points : All (λ v. IsPoint (length file.inputs) v.point) file.vectors
   pub responses : All (λ v. IsPoint (length file.outputs) v.outs) file.vectors
+  pub unchanged : All IsIdle file.unchanged
+  pub reddy : file.form ≡ Reddy → (file.esop ≡ []) × (file.unchanged ≡ [])
+
+-- ---- the lines of a file, as words
 
 abbrev pub form_word : Form → List ℕ
 form_word Reddy = codes "reddy"
-
--- a vector over n inputs, and its response over m outputs
-abbrev pub vector_line : ℕ → ℕ → Vector → List (List ℕ)
-vector_line n m v = codes "vector" ∷ bits_of n v.point ∷ bits_of m v.outs ∷ []
+form_word Factored = codes "factored"
 
 -- the line of the form
 abbrev pub form_line : Form → List (List ℕ)
@@ -50,6 +88,34 @@ form_line form = codes "form" ∷ form_word form ∷ []
 abbrev pub polarity_line : Signs → List (List ℕ)
 polarity_line p = codes "polarity" ∷ bits_of p.n p.plain ∷ []
 
+-- a cube over n inputs, with the number of its output from 1 on
+abbrev pub esop_line : ℕ → EsopLine → List (List ℕ)
+esop_line n e = codes "esop" ∷ decimal (e.output + 1) ∷ cube_text n e.cube ∷ []
+
+-- a vector over n inputs, and its response over m outputs
+abbrev pub vector_line : ℕ → ℕ → Vector → List (List ℕ)
+vector_line n m v = codes "vector" ∷ bits_of n v.point ∷ bits_of m v.outs ∷ []
+
+abbrev pub place_words : PlaceName → List (List ℕ)
+place_words (Stem name) = codes "stem" ∷ name ∷ []
+place_words (Pin gate k) = codes "pin" ∷ gate ∷ decimal k ∷ []
+place_words (Port name) = codes "port" ∷ name ∷ []
+
+abbrev pub value_word : Bool → List ℕ
+value_word v = if v then codes "1" else codes "0"
+
+abbrev pub letter : Step → ℕ
+letter S = 83
+letter L = 76
+
+abbrev pub shown_word : Shown → List ℕ
+shown_word (Tree steps) = map letter steps
+shown_word Wide = codes "wide"
+
+-- an undetectable fault: its place, its stuck value, and its evidence tree
+abbrev pub unchanged_line : Idle → List (List ℕ)
+unchanged_line idle = codes "unchanged" ∷ place_words idle.place ++ (value_word idle.value ∷ shown_word idle.shown ∷ [])
+
 -- the head, and the line of the form
 abbrev pub title_lines : Form → List (List (List ℕ))
 title_lines form = (codes "andexor-vectors" ∷ codes "1" ∷ []) ∷ form_line form ∷ []
@@ -57,13 +123,23 @@ title_lines form = (codes "andexor-vectors" ∷ codes "1" ∷ []) ∷ form_line 
 abbrev pub list_lines : List (List ℕ) → List (List ℕ) → List (List (List ℕ))
 list_lines inputs outputs = (codes "inputs" ∷ inputs) ∷ (codes "outputs" ∷ outputs) ∷ []
 
--- the lines before the vectors
+-- the lines that each file has one of, before all others
 abbrev pub head_lines : VectorFile → List (List (List ℕ))
 head_lines file = title_lines file.form ++ (list_lines file.inputs file.outputs ++ (polarity_line file.polarity ∷ []))
+
+abbrev pub esop_lines : VectorFile → List (List (List ℕ))
+esop_lines file = map (esop_line (length file.inputs)) file.esop
 
 abbrev pub vector_lines : VectorFile → List (List (List ℕ))
 vector_lines file = map (vector_line (length file.inputs) (length file.outputs)) file.vectors
 
+abbrev pub unchanged_lines : VectorFile → List (List (List ℕ))
+unchanged_lines file = map unchanged_line file.unchanged
+
+-- the lines after those
+abbrev pub body_lines : VectorFile → List (List (List ℕ))
+body_lines file = esop_lines file ++ (vector_lines file ++ (unchanged_lines file ++ ((codes "end" ∷ []) ∷ [])))
+
 -- the text of a vector file
 unfoldable pub vector_text : VectorFile → List ℕ
-vector_text file = text_of (head_lines file ++ (vector_lines file ++ ((codes "end" ∷ []) ∷ [])))
+vector_text file = text_of (head_lines file ++ body_lines file)

@@ -1,6 +1,6 @@
 //! What a vector file holds.
 
-use ae_base::{Mask, Name, Point, Polarity, Seq};
+use ae_base::{Cube, Mask, Name, Point, Polarity, Seq};
 use std::marker::Model;
 
 /// Which construction the network and its vectors have.
@@ -8,6 +8,8 @@ use std::marker::Model;
 pub enum Form {
     /// The AND-EXOR cascade with a control input (after Reddy 1972).
     Reddy,
+    /// The network of a factored ESOP, without a control input.
+    Factored,
 }
 
 /// A vector and its expected response.
@@ -19,21 +21,71 @@ pub struct Vector {
     pub outs: Mask,
 }
 
+/// A cube of the ESOP of an output.
+#[derive(Drop, Debug)]
+pub struct EsopLine {
+    /// The output, from 0 on. Its text counts from 1.
+    pub output: u32,
+    pub cube: Cube,
+}
+
+/// A fault site by the names of its network.
+#[derive(Drop, Debug)]
+pub enum PlaceName {
+    /// The stem of the signal with this name.
+    Stem(Name),
+    /// A pin of the gate with this name, from 1 on.
+    Pin(Name, u32),
+    /// The output port with this name.
+    Port(Name),
+}
+
+/// A letter of an evidence tree.
+#[derive(Clone, Copy, Debug, PartialEq, Eq)]
+pub enum Step {
+    /// A split on the next input, before the trees for its values 0 and 1.
+    S,
+    /// A leaf.
+    L,
+}
+
+/// What a file shows of an undetectable fault.
+#[derive(Drop, Debug)]
+pub enum Shown {
+    /// Its evidence tree, of one or more letters. Whether they are a whole tree is not said.
+    Tree(Seq<Step>),
+    /// The tree is too wide to be written.
+    Wide,
+}
+
+/// A fault that no vector at all detects, by the name of its site and its stuck value.
+#[derive(Drop, Debug)]
+pub struct Idle {
+    pub place: PlaceName,
+    pub value: bool,
+    pub shown: Shown,
+}
+
 /// What the text of a vector file says: the form, the names of the network's inputs and outputs, the polarity of the source's inputs,
-/// and the vectors with their responses. The control is one of the network's inputs.
+/// the ESOP, the vectors with their responses, and the undetectable faults. In Reddy form the control is one of the network's inputs.
 ///
-/// Its invariant is the rules of the vector text, a format of this project's own: the source has an input, and the network one more;
-/// there is an output; there are at most `WRITTEN_LINES` inputs and as many outputs; their names all differ; each vector is over the
-/// inputs, and its response over the outputs.
+/// Its invariant is the rules of the vector text, a format of this project's own (`IsValidVectorFile`): the source has an input, and in
+/// Reddy form the network one more; there is an output; there are at most `WRITTEN_LINES` inputs and as many outputs; their names all
+/// differ; each cube is over the inputs and of one of the outputs; each vector is over the inputs, and its response over the outputs; a
+/// pin's number is from 1 to `PINS`, and a tree has a letter. In Reddy form there is neither a cube nor an undetectable fault.
 #[derive(Drop, Debug)]
 pub struct VecFile {
     pub form: Form,
-    /// The network's inputs, the control last.
+    /// The network's inputs, in Reddy form the control last.
     pub inputs: Seq<Name>,
     pub outputs: Seq<Name>,
     /// Which literal each input of the source has in the network.
     pub polarity: Polarity,
+    /// The cubes of the ESOP.
+    pub esop: Seq<EsopLine>,
     pub vectors: Seq<Vector>,
+    /// The undetectable faults.
+    pub unchanged: Seq<Idle>,
 }
 
 impl Model for VecFile {
@@ -41,7 +93,7 @@ impl Model for VecFile {
 
     ghost Value = { VectorFile };
 
-    ghost view = { λ f. record { form = f.form; inputs = f.inputs; outputs = f.outputs; polarity = f.polarity; vectors = f.vectors } };
+    ghost view = { λ f. record { form = f.form; inputs = f.inputs; outputs = f.outputs; polarity = f.polarity; esop = f.esop; vectors = f.vectors; unchanged = f.unchanged } };
 
-    ghost invariant = { λ f. IsValidVectorFile (record { form = f.form; inputs = f.inputs; outputs = f.outputs; polarity = f.polarity; vectors = f.vectors }) };
+    ghost invariant = { λ f. IsValidVectorFile (record { form = f.form; inputs = f.inputs; outputs = f.outputs; polarity = f.polarity; esop = f.esop; vectors = f.vectors; unchanged = f.unchanged }) };
 }

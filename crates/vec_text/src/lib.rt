@@ -5,6 +5,6 @@ mod file;
 mod laws;
 mod text;
 
-pub use file::{Form, VecFile, Vector};
+pub use file::{EsopLine, Form, Idle, PlaceName, Shown, Step, VecFile, Vector};
 pub use laws::line_law;
 pub use text::{push_form, push_polarity, vec_text};
