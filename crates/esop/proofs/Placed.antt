@@ -1,14 +1,14 @@
 -- A cube put in its place in an ordered list of cubes.
-use Rattle.std.proofs.Common.{◌≡◌, ◌<◌, ◌≤◌, ◌+◌, ◌∙◌, ℕ, suc, Bool, true, false, cond, ◌||◌, List, [], ◌∷◌, length, get_or, Less, Equal, Greater, refl, sym, ap, ap₂, arith}
+use Rattle.std.proofs.Common.{◌≡◌, ◌<◌, ◌≤◌, ◌+◌, ◌∙◌, ℕ, suc, Bool, true, false, cond, ◌||◌, List, [], ◌∷◌, length, get_or, Less, Equal, Greater, refl, sym, ap, ap₂, subst, arith}
 use Rattle.std.specs.Prelude.{AllPairs, insert, remove}
 use Rattle.std.specs.List.{list_any, AllByRecursion, prefix_len}
-use Rattle.std.specs.List.Sorted.{IsSorted}
+use Rattle.std.specs.List.Sorted.{IsPermutation, IsSorted}
 use Rattle.std.specs.Cmp.{IsStrictWeakOrder}
 use Rattle.std.specs.Ordering.{is_lt}
 use Rattle.std.proofs.lemmas.List.Elements.{All-from_recursion, recursion_from_All}
 use Rattle.std.proofs.lemmas.List.Kept.{AllPairs-cons}
 use Rattle.std.proofs.lemmas.List.Quantifiers.{all_pairs_remove}
-use Rattle.std.proofs.lemmas.List.Sorted.{ranks_by, sorted_far}
+use Rattle.std.proofs.lemmas.List.Sorted.{IsPermutation-cons, IsPermutation-insert, IsPermutation-refl, IsPermutation-trans, ranks_by, sorted_far}
 use Rattle.ae_base.specs.Cube.{Product}
 use Rattle.ae_base.specs.Text.{cmp_text}
 use Rattle.ae_base.proofs.Texts.{cmp_text_total}
@@ -95,3 +95,10 @@ sorted_removed cs i l h = from_pairs (remove cs i) (all_pairs_remove NotBefore c
 pub sorted_in_order : (cs : List Product) → IsSorted cmp_text (in_order cs)
 sorted_in_order [] = λ k d low high. absurd (omega (arith, high))
 sorted_in_order (c ∷ cs) = sorted_placed c (in_order cs) (sorted_in_order cs)
+
+pub same_cubes : (cs : List Product) → IsPermutation cs (in_order cs)
+same_cubes [] = IsPermutation-refl []
+same_cubes (c ∷ cs) =
+    let ds = in_order cs in
+    IsPermutation-trans (c ∷ cs) (c ∷ ds) (placed c ds) (IsPermutation-cons c cs ds (same_cubes cs))
+    (subst (IsPermutation (c ∷ ds)) (insert_is c ds (prefix_len (precedes c) ds) refl) (IsPermutation-insert ds (prefix_len (precedes c) ds) c))

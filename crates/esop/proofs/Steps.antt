@@ -17,7 +17,7 @@ use Rattle.esop.specs.Order.{placed}
 use Rattle.esop.specs.Rewriting.{pairs, first_at, is_near, useful_link, cancelled, merged, linked, next_list, rewrite_step}
 use Rattle.esop.specs.Settled.{cube_at, others}
 use Rattle.esop.proofs.Close.{close, close_at, not_close, close-placed}
-use Rattle.esop.proofs.Pairs.{Passes, pair_found, no_pair, pair_none}
+use Rattle.esop.proofs.Places.{Passes, pair_found, no_pair, pair_none}
 use Rattle.esop.proofs.Placed.{any-placed, length-placed, each_placed, sorted_placed, sorted_removed}
 use Rattle.esop.proofs.Thirds.{IsLink, are_links, distance_none, merged_value, merged_over}
 use Rattle.esop.proofs.Values.{length-removed, each_at, each_other, length-others, value-others, value-placed}
@@ -28,7 +28,7 @@ map_some : {A B : Type 0} (P : Type 0) (f : A → B) (o : Option A) (y : B) → 
 map_some P f None y h k = absurd (none-some y h)
 map_some P f (Some a) y h k = k a refl (cc h)
 
-map_none : {A B : Type 0} (f : A → B) (o : Option A) → option_map f o ≡ None → o ≡ None
+pub map_none : {A B : Type 0} (f : A → B) (o : Option A) → option_map f o ≡ None → o ≡ None
 map_none f None h = refl
 map_none f (Some a) h = absurd (none-some (f a) (sym h))
 
@@ -42,7 +42,7 @@ find_each q P (y ∷ ys) x (h, hs) e = by (q y) refl e (find_each q P ys x hs)
     by false p f later = later f
 
 -- the test by which pairs at a distance are found
-abbrev at_distance : ℕ → List Product → ℕ × ℕ → Bool
+abbrev pub at_distance : ℕ → List Product → ℕ × ℕ → Bool
 at_distance k cs p = eqb (distance (cube_at cs p.0) (cube_at cs p.1)) k
 
 -- a pair of places
@@ -93,7 +93,7 @@ and_then_some P f None y h k = absurd (none-some y h)
 and_then_some P f (Some a) y h k = k a refl h
 
 -- the list that a link gives
-abbrev relinked : List Product → ℕ × ℕ → Link → List Product
+abbrev pub relinked : List Product → ℕ × ℕ → Link → List Product
 relinked cs p l = placed l.first (placed l.second (others cs p.0 p.1))
 
 pub linked_is : (cs ds : List Product) → linked cs ≡ Some ds → Links cs ds
@@ -225,20 +225,20 @@ cancelled_close cs ds f = pair_close cs f.pair f.is_pair (omega (arith, f.distan
 merged_close : (cs ds : List Product) → Merges cs ds → close cs ≡ true
 merged_close cs ds f = pair_close cs f.pair f.is_pair (omega (arith, f.distance))
 
-cancelled_length : (cs ds : List Product) → Cancels cs ds → length ds + 2 ≡ length cs
+pub cancelled_length : (cs ds : List Product) → Cancels cs ds → length ds + 2 ≡ length cs
 cancelled_length cs ds f = omega (arith, ap length f.is, length-others cs f.pair.0 f.pair.1 f.is_pair.order f.is_pair.within)
 
-merged_length : (cs ds : List Product) → Merges cs ds → length ds + 1 ≡ length cs
+pub merged_length : (cs ds : List Product) → Merges cs ds → length ds + 1 ≡ length cs
 merged_length cs ds f =
     omega (arith, ap length f.is, length-placed (merge (cube_at cs f.pair.0) (cube_at cs f.pair.1)) (others cs f.pair.0 f.pair.1), length-others cs f.pair.0 f.pair.1 f.is_pair.order f.is_pair.within)
 
-linked_length : (cs ds : List Product) → Links cs ds → length ds ≡ length cs
+pub linked_length : (cs ds : List Product) → Links cs ds → length ds ≡ length cs
 linked_length cs ds f =
     let rest = others cs f.pair.0 f.pair.1 in
     omega (arith, ap length f.is, length-placed f.link.first (placed f.link.second rest), length-placed f.link.second rest, length-others cs f.pair.0 f.pair.1 f.is_pair.order f.is_pair.within)
 
 -- after a useful link two cubes are close
-linked_close : (cs ds : List Product) → Links cs ds → close ds ≡ true
+pub linked_close : (cs ds : List Product) → Links cs ds → close ds ≡ true
 linked_close cs ds f =
     let rest = others cs f.pair.0 f.pair.1 in
     let a = f.link.first in
@@ -266,7 +266,7 @@ at_least_two k h g = grind (arith, nat_tests)
 pub all_far : (cs : List Product) → cancelled cs ≡ None → merged cs ≡ None → (i j : ℕ) → i < j → j < length cs → 2 ≤ distance (cube_at cs i) (cube_at cs j)
 all_far cs h g i j order within = at_least_two _ (cancelled_none cs h i j order within) (merged_none cs g i j order within)
 
-none_close : (cs : List Product) → cancelled cs ≡ None → merged cs ≡ None → close cs ≡ false
+pub none_close : (cs : List Product) → cancelled cs ≡ None → merged cs ≡ None → close cs ≡ false
 none_close cs h g = not_close cs (λ i j order within. le-ltb _ _ (all_far cs h g i j order within))
 
 -- ---- a step lowers the measure

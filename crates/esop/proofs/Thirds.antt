@@ -1,10 +1,11 @@
 -- The third literal: two literals that differ have it as their EXOR, so two near cubes can be replaced.
 use Rattle.std.proofs.Common.{◌≡◌, ◌≢◌, ◌<◌, ◌∙◌, ℕ, Bool, true, false, not, cond, ◌&&◌, ◌||◌, List, [], ◌∷◌, refl, sym, ap, ap₂, arith, inl, inr, eqb, eqb-true, eq-eqb, ne_eqb, lt-ltb, length, slice_index, subst}
 use Rattle.std.proofs.lemmas.Bool.{cases_eq, cases_Bool, false≢true, and_from, and_parts, or_cases, or_left, or_right}
+use Rattle.std.specs.Prelude.{Some}
 use Rattle.std.specs.List.{list_any, AllByRecursion}
-use Rattle.ae_base.specs.Mask.{Set, differ, has, with, without, either, xor, first, inside, len, members}
+use Rattle.ae_base.specs.Mask.{Set, differ, has, with, without, either, xor, first, inside, least, len, members}
 use Rattle.ae_base.specs.Cube.{Product, IsProduct, IsOver, EachHolds, holds, distance}
-use Rattle.ae_base.proofs.Members.{members-has, members-increasing, len-members, len-zero}
+use Rattle.ae_base.proofs.Members.{least-first, members-has, members-increasing, len-members, len-none, len-zero}
 use Rattle.ae_base.proofs.Products.{holds-has, has-holds}
 use Rattle.ae_base.proofs.Sets.{same_set, has-with, has-without, has-either, has-xor, has-inside, inside-has, inside-below, has-first}
 use Rattle.ae_base.proofs.Truth.{same_truth, differ-flip, differ-same, and-differ, equal_values, differ_true, differ_true_else}
@@ -84,15 +85,16 @@ holds-split c j x = same_truth _ _ parts whole
     whole h =
         let both = and_parts (literal_at c j x) (holds (bare c j) x) h in
         let each : EachHolds (bare c j) x = holds-has (bare c j) x both.1 in
-        has-holds c x
-        ((λ k e. elim (cases_eq k j) [
-          | inl s ↦ ap (has x) s ∙ plain_value _ _ _ both.0 (ap (has c.pos) (sym s) ∙ e)
-          | inr ne ↦ each.0 k (without-other c.pos j k ne ∙ e)
-        ]),
-        (λ k e. elim (cases_eq k j) [
-          | inl s ↦ ap (has x) s ∙ complemented_value (has c.pos j) _ _ both.0 (ap (has c.neg) (sym s) ∙ e)
-          | inr ne ↦ each.1 k (without-other c.neg j k ne ∙ e)
-        ]))
+        has-holds c x (
+          (λ k e. elim (cases_eq k j) [
+            | inl s ↦ ap (has x) s ∙ plain_value _ _ _ both.0 (ap (has c.pos) (sym s) ∙ e)
+            | inr ne ↦ each.0 k (without-other c.pos j k ne ∙ e)
+          ]),
+          (λ k e. elim (cases_eq k j) [
+            | inl s ↦ ap (has x) s ∙ complemented_value (has c.pos j) _ _ both.0 (ap (has c.neg) (sym s) ∙ e)
+            | inr ne ↦ each.1 k (without-other c.neg j k ne ∙ e)
+          ]),
+        )
 
 -- the cubes have the same literal of input k, or both none
 pub record Agree (c d : Product) (k : ℕ) : Type 0 where
@@ -115,7 +117,7 @@ bare_same c d j same =
 has-apart : (c d : Product) (k : ℕ) → has (apart c d) k ≡ (differ (has c.pos k) (has d.pos k) || differ (has c.neg k) (has d.neg k))
 has-apart c d k = has-either (xor c.pos d.pos) (xor c.neg d.neg) k ∙ ap₂ (λ a b. a || b) (has-xor c.pos d.pos k) (has-xor c.neg d.neg k)
 
-neither : (a b : Bool) → (a || b) ≡ false → (a ≡ false) × (b ≡ false)
+pub neither : (a b : Bool) → (a || b) ≡ false → (a ≡ false) × (b ≡ false)
 neither true b h = absurd (false≢true (sym h))
 neither false b h = (refl, h)
 
@@ -153,6 +155,19 @@ third_value c d j x hc hd e =
     ap₂ (λ p n. value_at p n (has x j)) (has-third_here c.pos d.pos j) (has-third_here c.neg d.neg j)
     ∙ third_xor (has c.pos j) (has c.neg j) (has d.pos j) (has d.neg j) (has x j) (hc j) (hd j) (sym (has-apart c d j) ∙ e)
 
+pub third_product : (c d : Product) (j : ℕ) → IsProduct c → has (apart c d) j ≡ true → IsProduct (with_third c d j)
+third_product c d j hc e k m = elim (cases_eq k j) [
+  | inl s ↦ ap (has (with_third c d j).neg) s ∙ has-third_here c.neg d.neg j ∙ one_plain (has c.pos j) (has d.pos j) (has c.neg j) (has d.neg j) (sym (has-apart c d j) ∙ e) (sym (has-third_here c.pos d.pos j) ∙ ap (has (with_third c d j).pos) (sym s) ∙ m)
+  | inr ne ↦ has-third_else c.neg d.neg j k ne ∙ hc k (sym (has-third_else c.pos d.pos j k ne) ∙ m)
+]
+  where
+    one_plain : (p q m r : Bool) → (differ p q || differ m r) ≡ true → not (p || q) ≡ true → not (m || r) ≡ false
+    one_plain true q m r h k = absurd (false≢true k)
+    one_plain false true m r h k = absurd (false≢true k)
+    one_plain false false true r h k = refl
+    one_plain false false false true h k = refl
+    one_plain false false false false h k = absurd (false≢true h)
+
 -- a cube with a third literal is a product over the same inputs
 module _ (n : ℕ) (c d : Product) (j : ℕ) (hc : IsOver n c) (hd : IsOver n d) (e : has (apart c d) j ≡ true) where
   below : j < n
@@ -174,21 +189,8 @@ module _ (n : ℕ) (c d : Product) (j : ℕ) (hc : IsOver n c) (hd : IsOver n d)
         | inr ne ↦ inside-has s (first n) h k (sym (has-third_else s t j k ne) ∙ m)
       ])
 
-  third_product : IsProduct (with_third c d j)
-  third_product k m = elim (cases_eq k j) [
-    | inl s ↦ ap (has (with_third c d j).neg) s ∙ has-third_here c.neg d.neg j ∙ one_plain (has c.pos j) (has d.pos j) (has c.neg j) (has d.neg j) (sym (has-apart c d j) ∙ e) (sym (has-third_here c.pos d.pos j) ∙ ap (has (with_third c d j).pos) (sym s) ∙ m)
-    | inr ne ↦ has-third_else c.neg d.neg j k ne ∙ hc.0 k (sym (has-third_else c.pos d.pos j k ne) ∙ m)
-  ]
-    where
-      one_plain : (p q m r : Bool) → (differ p q || differ m r) ≡ true → not (p || q) ≡ true → not (m || r) ≡ false
-      one_plain true q m r h k = absurd (false≢true k)
-      one_plain false true m r h k = absurd (false≢true k)
-      one_plain false false true r h k = refl
-      one_plain false false false true h k = refl
-      one_plain false false false false h k = absurd (false≢true h)
-
   pub third_over : IsOver n (with_third c d j)
-  third_over = (third_product, part_inside c.pos d.pos hc.1, part_inside c.neg d.neg hc.2)
+  third_over = (third_product c d j hc.0 e, part_inside c.pos d.pos hc.1, part_inside c.neg d.neg hc.2)
 
 -- ---- two cubes that differ at one input
 
@@ -294,6 +296,9 @@ distance_none c d h =
     let same = λ (k : ℕ). agree_at c d k (len-zero (apart c d) (sym (distance-apart c d) ∙ h) k) in
     ap₂ (λ p n. record { pos = p; neg = n }) (same_set c.pos d.pos (λ k. (same k).pos)) (same_set c.neg d.neg (λ k. (same k).neg))
 
+pub distance_itself : (c : Product) → distance c c ≡ 0
+distance_itself c = distance-apart c c ∙ len-none (apart c c) (λ k. has-apart c c k ∙ ap₂ (λ a b. a || b) (differ-same (has c.pos k)) (differ-same (has c.neg k)))
+
 -- the inputs at which two cubes differ, by the list of these
 pub record OneApart (c d : Product) (p : ℕ) : Type 0 where
   pub there : has (apart c d) p ≡ true
@@ -335,6 +340,10 @@ one_member (m ∷ n ∷ ms) h = absurd (omega (arith, h))
 
 pub one_apart_at : (c d : Product) → distance c d ≡ 1 → OneApart c d (slice_index (members (apart c d)) 0)
 one_apart_at c d h = one_apart c d _ (one_member _ (members-distance c d 1 h))
+
+-- the first of them is the least
+pub first_apart : (s : Set) (j : ℕ) → least s ≡ Some j → slice_index (members s) 0 ≡ j
+first_apart s j h = ap (λ ms. slice_index ms 0) (least-first s j h)
 
 -- what two cubes at distance 1 become
 pub merged_value : (c d : Product) (x : Set) → IsProduct c → IsProduct d → distance c d ≡ 1 → holds (merge c d) x ≡ differ (holds c x) (holds d x)

@@ -1,10 +1,11 @@
 -- Exclusive sums of products (ESOPs) as contracts see them: lists of cubes, which mean their EXOR (Sasao, "Switching Theory for Logic
 -- Synthesis").
-use Rattle.std.specs.Prelude.{◌==◌, ◌%◌, ◌≤◌, ℕ, Bool, List, All, count_by, map}
+use Rattle.std.specs.Prelude.{◌≡◌, ◌==◌, ◌%◌, ◌≤◌, ℕ, Bool, List, All, count_by, map}
 use Rattle.std.specs.List.Sorted.{IsSorted}
 use Rattle.ae_base.specs.declared.limits.TheConstants.{NET_LINES}
 use Rattle.ae_base.specs.Cube.{Product, Signs, IsOver, holds}
 use Rattle.ae_base.specs.Mask.{Set, both, xor}
+use Rattle.ae_base.specs.Terms.{value}
 use Rattle.ae_base.specs.Text.{cmp_text}
 use Rattle.expansion.specs.Terms.{Terms}
 use Rattle.esop.specs.Order.{in_order}
@@ -24,6 +25,14 @@ pub record IsCubes (e : Cubes) : Type 0 where
 -- the value of a list of cubes at a point: 1 exactly where an odd number of them holds there
 unfoldable pub esop_value : List Product → Set → Bool
 esop_value cs x = count_by (λ c. holds c x) cs % 2 == 1
+
+-- the second list means the function of the first
+abbrev pub HasSameValue : List Product → List Product → Type 0
+HasSameValue cs ds = (x : Set) → esop_value ds x ≡ esop_value cs x
+
+-- the cubes mean what the terms mean
+abbrev pub HasValueOf : Signs → List Set → List Product → Type 0
+HasValueOf p ts cs = (x : Set) → esop_value cs x ≡ value p ts x
 
 -- the cube of a term: the literals of its inputs, each as the polarity has it
 abbrev pub cube_of : Signs → Set → Product

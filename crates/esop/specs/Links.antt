@@ -2,6 +2,7 @@
 use Rattle.std.specs.Prelude.{ℕ, ◌||◌, if◌then◌else◌, List, [], ◌∷◌, slice_index}
 use Rattle.ae_base.specs.Cube.{Product}
 use Rattle.ae_base.specs.Mask.{Set, has, with, without, either, xor, members}
+pub use Rattle.esop.specs.declared.links.Link.{Link}
 
 -- the inputs at which the literals of two cubes differ; their distance is the number of these
 abbrev pub apart : Product → Product → Set
@@ -18,11 +19,6 @@ with_third c d j = record {
 -- the EXOR of two cubes at distance 1, as one cube
 abbrev pub merge : Product → Product → Product
 merge c d = with_third c d (slice_index (members (apart c d)) 0)
-
--- two cubes whose EXOR is that of two others
-pub record Link : Type 0 where
-  pub first : Product
-  pub second : Product
 
 -- of two cubes that differ at p and q: the first one with the third literal at p, and the second one with it at q
 abbrev pub link : Product → Product → ℕ → ℕ → Link

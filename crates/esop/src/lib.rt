@@ -2,5 +2,15 @@
 #![tactic(auto)]
 
 mod esop;
+mod laws;
+mod links;
+mod near;
+mod pairs;
+mod rewriting;
+mod step;
+mod terms;
 
 pub use esop::Esop;
+pub use laws::{esop_law, rewriting_law};
+pub use rewriting::exorlink;
+pub use terms::from_expansion;

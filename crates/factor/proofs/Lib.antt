@@ -1,1 +1,15 @@
+pub mod Bounds
+pub mod Counted
+pub mod Fewer
+pub mod Found
+pub mod Joining
+pub mod Made
+pub mod Meaning
+pub mod Naming
+pub mod Once
+pub mod Sizes
 pub mod Standing
+pub mod Taken
+pub mod Unique
+pub mod Values
+pub mod Wired

@@ -1,5 +1,5 @@
 -- The gates of a sum, before they have names.
-use Rattle.std.specs.Prelude.{ℕ, suc, ◌+◌, ◌-◌, ◌==◌, Bool, true, not, if◌then◌else◌, List, [], ◌∷◌, ◌++◌, length, map}
+use Rattle.std.specs.Prelude.{ℕ, suc, ◌+◌, ◌-◌, ◌==◌, Bool, true, not, if◌then◌else◌, List, [], ◌∷◌, ◌++◌, length, map, slice_index}
 use Rattle.std.specs.List.{list_all, position_or_len}
 use Rattle.ae_base.specs.Mask.{has, empty, first, with, either, members}
 use Rattle.ae_base.specs.Cube.{Product, meet, whole}
@@ -60,8 +60,7 @@ pub record Parts : Type 0 where
 
 -- a literal alone has no gate; other products of literals have an AND gate, whose signal is k
 abbrev pub product_of : ℕ → List ℕ → Part
-product_of k (s ∷ []) = record { cells = []; signal = s }
-product_of k signals = record { cells = And signals ∷ []; signal = k }
+product_of k signals = if length signals == 1 then record { cells = []; signal = slice_index signals 0 } else record { cells = And signals ∷ []; signal = k }
 
 -- the gates of an inner sum, and then an AND gate of the literals and of the inner sum
 abbrev pub product_with : ℕ → List ℕ → Part → Part
@@ -73,10 +72,13 @@ before ls part rest = record { cells = part.cells ++ rest.cells; factors = recor
 
 -- ---- joining
 
--- An OR where each earlier summand excludes this one: some input is a direct factor of the one in plain form and of the other in
--- complemented form. Else an EXOR.
+-- each earlier summand excludes the product: some input is a direct factor of the one in plain form and of the other in complemented form
+abbrev pub are_excluded : List Factor → Product → Bool
+are_excluded earlier ls = list_all (λ e. not (meet e.literals ls)) earlier
+
+-- an OR where each earlier summand excludes this one, else an EXOR
 abbrev pub join : List Factor → ℕ → Factor → Cell
-join earlier line f = if list_all (λ e. not (meet e.literals f.literals)) earlier then Or line f.signal else Exor line f.signal
+join earlier line f = if are_excluded earlier f.literals then Or line f.signal else Exor line f.signal
 
 -- the gates, the first of them with the signal k, that join the summands to the line, which joins the earlier ones
 abbrev pub joins : ℕ → ℕ → List Factor → List Factor → List Cell
@@ -87,18 +89,25 @@ joins k line earlier (f ∷ fs) = join earlier line f ∷ joins (suc k) k (earli
 abbrev pub last_of : ℕ → ℕ → ℕ → ℕ
 last_of k line n = if n == 0 then line else k + n - 1
 
--- the constant turns the line: an inverter
-abbrev pub turned_by : Bool → ℕ → Part → Part
-turned_by constant k line = if constant then record { cells = line.cells ++ Inverter line.signal ∷ []; signal = k + length line.cells } else line
+-- the gates, the first of them with the signal k, that join the summands
+abbrev pub chain_of : ℕ → List Factor → Part
+chain_of k [] = record { cells = []; signal = k }
+chain_of k (f ∷ fs) = record { cells = joins k f.signal (f ∷ []) fs; signal = last_of k f.signal (length fs) }
 
--- the gates of the summands and those that join them, or a constant where there is no summand
-abbrev pub whole_of : ℕ → Bool → List Cell → List Factor → Part
-whole_of k constant cells [] = record { cells = cells ++ (if constant then One else Zero) ∷ []; signal = k + length cells }
-whole_of k constant cells (f ∷ fs) =
-    turned_by constant k (record {
-      cells = cells ++ joins (k + length cells) f.signal (f ∷ []) fs;
-      signal = last_of (k + length cells) f.signal (length fs);
-    })
+-- the constant turns the chain: an inverter
+abbrev pub turned_by : Bool → ℕ → Part → Part
+turned_by constant k chain = if constant then record { cells = chain.cells ++ Inverter chain.signal ∷ []; signal = k + length chain.cells } else chain
+
+-- The gates, the first of them with the signal k, that join the summands, and the inverter where the sum has the constant. Where there is
+-- no summand, a gate of the constant.
+abbrev pub closing : ℕ → Bool → List Factor → Part
+closing k constant factors = if length factors == 0 then record { cells = (if constant then One else Zero) ∷ []; signal = k } else turned_by constant k (chain_of k factors)
+
+-- the gates of a sum: those of its summands, the first of them with the signal k, and those that join them
+abbrev pub closed : ℕ → Bool → Parts → Part
+closed k constant summands =
+    let end = closing (k + length summands.cells) constant summands.factors in
+    record { cells = summands.cells ++ end.cells; signal = end.signal }
 
 -- the gates of the summands of a sum, the first of them with the signal k
 unfoldable pub parts : Wires → ℕ → Summands → Parts
@@ -107,13 +116,12 @@ parts w k (literals ls rest) =
     let part = product_of k (literal_signals w ls) in
     before ls part (parts w (k + length part.cells) rest)
 parts w k (factored ls inner rest) =
-    let inside = parts w k inner in
-    let part = product_with k (literal_signals w ls) (whole_of k (has_constant inner) inside.cells inside.factors) in
+    let part = product_with k (literal_signals w ls) (closed k (has_constant inner) (parts w k inner)) in
     before ls part (parts w (k + length part.cells) rest)
 
 -- the gates of a sum, the first of them with the signal k
 unfoldable pub sum_part : Wires → ℕ → Summands → Part
-sum_part w k s = whole_of k (has_constant s) (parts w k s).cells (parts w k s).factors
+sum_part w k s = closed k (has_constant s) (parts w k s)
 
 -- the gates of an output's sum: where the sum is the signal of one literal alone, a buffer of it
 abbrev pub with_buffer : Part → List Cell

@@ -1,5 +1,6 @@
 //! The factored network of an ESOP.
-ghost use Rattle.std.specs.Prelude.{◌≤◌, IfOk};
+ghost use Rattle.std.specs.Prelude.{◌≤◌, ◌≡◌, IfOk};
+ghost use Rattle.ae_net.specs.Implements.{port_names};
 ghost use Rattle.esop.specs.Settled.{AreSettled};
 ghost use Rattle.factor.specs.Factored.{HasFactoredForm};
 ghost use Rattle.factor.specs.Shows.{Fits, ShowsEsop, cube_count, exor_count};
@@ -20,6 +21,7 @@ pub fn factored(_alloc: Global, _names: &NetNames, _e: &Esop) -> Result<Net, Mem
     requires settled { AreSettled _e.now }
     ensures form { IfOk result (λ net. HasFactoredForm _names.now _e.now net) }
     ensures values { IfOk result (λ net. ShowsEsop net _e.now) }
+    ensures ports { IfOk result (λ net. port_names net ≡ _names.now.outputs) }
     ensures few_exors { IfOk result (λ net. exor_count net ≤ cube_count _e.now) }
 {
     Err(Memory)

@@ -3,9 +3,13 @@
 
 mod build;
 mod cells;
+mod laws;
 mod limits;
 mod literals;
+mod outputs;
+mod parts;
 mod sums;
 
 pub use build::factored;
+pub use laws::factored_law;
 pub use limits::FACTORED_CUBES;

@@ -11,7 +11,8 @@ use Rattle.synth_core.specs.declared.settings.SourceKind.{SourceKind}
 use Rattle.synth_core.specs.declared.settings.SourceKind.TheVariants.{Pla, Blif}
 use Rattle.synth_core.specs.declared.settings.Choice.TheVariants.{Positive, Search, Given}
 use Rattle.synth_core.specs.declared.settings.Settings.{Settings}
-use Rattle.vec_text.specs.declared.file.Form.TheVariants.{Reddy}
+use Rattle.vec_text.specs.declared.file.Form.{Form}
+use Rattle.vec_text.specs.declared.file.Form.TheVariants.{Reddy, Factored}
 
 pub data Asked : Type 0 where
   Refused : Asked
@@ -20,6 +21,10 @@ pub data Asked : Type 0 where
 -- the kind of a source's text that a word names
 abbrev pub kind_of : List ℕ → Option SourceKind
 kind_of word = if bytes_eq word (codes "pla") then Some Pla else if bytes_eq word (codes "blif") then Some Blif else None
+
+-- the form that a word names
+abbrev pub form_of : List ℕ → Option Form
+form_of word = if bytes_eq word (codes "reddy") then Some Reddy else if bytes_eq word (codes "factored") then Some Factored else None
 
 -- a digit 0 or 1
 abbrev pub is_bit : ℕ → Bool
@@ -43,13 +48,17 @@ option_at name says usual (option ∷ word ∷ rest) = if bytes_eq option name t
 option_at name says usual words = Some (usual, words)
 
 -- the settings, where no words are left
-abbrev pub settings_with : SourceKind → Option (Choice × List (List ℕ)) → Option Settings
-settings_with kind (Some (polarity, [])) = Some (record { kind = kind; form = Reddy; polarity = polarity })
-settings_with kind _ = None
+abbrev pub settings_with : SourceKind → Form → Option (Choice × List (List ℕ)) → Option Settings
+settings_with kind form (Some (polarity, [])) = Some (record { kind = kind; form = form; polarity = polarity })
+settings_with kind form _ = None
 
--- the settings that the words after the names ask for: `--kind` and a kind, and then `--polarity` and a polarity, each or neither
+-- with a kind, what the words after it ask for: `--form` and a form, and then `--polarity` and a polarity
+abbrev pub settings_after : SourceKind → Option (Form × List (List ℕ)) → Option Settings
+settings_after kind form = option_and_then (λ form. settings_with kind form.0 (option_at (codes "--polarity") choice_of Positive form.1)) form
+
+-- the settings that the words after the names ask for: `--kind` and a kind, and then those, each option or none
 abbrev pub settings_of : List (List ℕ) → Option Settings
-settings_of words = option_and_then (λ kind. settings_with kind.0 (option_at (codes "--polarity") choice_of Positive kind.1)) (option_at (codes "--kind") kind_of Pla words)
+settings_of words = option_and_then (λ kind. settings_after kind.0 (option_at (codes "--form") form_of Reddy kind.1)) (option_at (codes "--kind") kind_of Pla words)
 
 -- `synth` and the names of three files, which differ as texts, and then the words that say how
 abbrev pub asked_by : List (List ℕ) → Asked

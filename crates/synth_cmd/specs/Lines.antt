@@ -2,6 +2,8 @@
 use Rattle.std.specs.Prelude.{ℕ, suc, List, [], ◌∷◌, ◌++◌, codes}
 use Rattle.std.specs.Fmt.{decimal}
 use Rattle.ae_base.specs.Text.{text_of}
+use Rattle.vec_text.specs.declared.file.Form.{Form}
+use Rattle.vec_text.specs.declared.file.Form.TheVariants.{Reddy, Factored}
 use Rattle.vec_text.specs.VectorFile.{form_line, polarity_line}
 use Rattle.synth_cmd.specs.declared.TheConstants.{WORDS, READ_FAULT, REFUSED, TOO_LONG, TOO_MANY_TERMS}
 use Rattle.synth_cmd.specs.declared.tell.Refusal.{Refusal}
@@ -35,14 +37,27 @@ too_many_line output = codes "too many terms: output " ++ (decimal (suc output) 
 abbrev pub memory_line : List ℕ
 memory_line = codes "want of memory\n"
 
--- the numbers of terms, gates, stuck-at faults, vectors, and faults that no vector detects
-abbrev pub count_lines : Summary → List (List (List ℕ))
-count_lines s =
-    (codes "terms" ∷ decimal s.terms ∷ []) ∷
+-- in factored form the number of cubes
+abbrev pub cubes_lines : Form → Summary → List (List (List ℕ))
+cubes_lines Reddy s = []
+cubes_lines Factored s = (codes "cubes" ∷ decimal s.cubes ∷ []) ∷ []
+
+-- in Reddy form the number of faults that no vector detects
+abbrev pub unchanged_lines : Form → Summary → List (List (List ℕ))
+unchanged_lines Reddy s = (codes "unchanged" ∷ decimal s.unchanged ∷ []) ∷ []
+unchanged_lines Factored s = []
+
+-- the numbers of gates, stuck-at faults, vectors
+abbrev pub net_lines : Summary → List (List (List ℕ))
+net_lines s =
     (codes "gates" ∷ decimal s.gates ∷ []) ∷
     (codes "faults" ∷ decimal s.faults ∷ []) ∷
     (codes "vectors" ∷ decimal s.vectors ∷ []) ∷
-    (codes "unchanged" ∷ decimal s.unchanged ∷ []) ∷ []
+    unchanged_lines s.form s
+
+-- the number of terms, and the others
+abbrev pub count_lines : Summary → List (List (List ℕ))
+count_lines s = (codes "terms" ∷ decimal s.terms ∷ []) ∷ (cubes_lines s.form s ++ net_lines s)
 
 -- the report of a synthesis: its form, the source's inputs and outputs, a digit for each input that is 1 where its literal is plain, and
 -- the numbers

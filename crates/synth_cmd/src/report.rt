@@ -7,7 +7,7 @@ ghost use Rattle.synth_cmd.specs.Lines as spec;
 use ae_base::{Memory, push_word};
 use std::alloc::Global;
 use synth_core::Summary;
-use vec_text::{line_law, push_form, push_polarity};
+use vec_text::{Form, line_law, push_form, push_polarity};
 
 /// Writes a blank and a number.
 fn push_number(alloc: Global, out: &mut Vec<u8>, number: u64) -> Result<(), Memory>
@@ -40,17 +40,45 @@ fn push_count(alloc: Global, out: &mut Vec<u8>, word: &[u8], number: u64) -> Res
     Ok(())
 }
 
+/// Writes the line of the number of cubes, in factored form.
+fn push_cubes(alloc: Global, out: &mut Vec<u8>, summary: &Summary) -> Result<(), Memory>
+    ensures { OnOk result (out.new.items ≡ out.old.items ++ text_of (spec.cubes_lines summary.now.form summary.now)) }
+{
+    match summary.form {
+        Form::Reddy => Ok(()),
+        Form::Factored => push_count(alloc, out, b"cubes", summary.cubes),
+    }
+}
+
+/// Writes the line of the number of undetected faults, in Reddy form.
+fn push_unchanged(alloc: Global, out: &mut Vec<u8>, summary: &Summary) -> Result<(), Memory>
+    ensures { OnOk result (out.new.items ≡ out.old.items ++ text_of (spec.unchanged_lines summary.now.form summary.now)) }
+{
+    match summary.form {
+        Form::Reddy => push_count(alloc, out, b"unchanged", summary.unchanged),
+        Form::Factored => Ok(()),
+    }
+}
+
+/// Writes the lines of the numbers of a network and its vectors.
+fn push_net(alloc: Global, out: &mut Vec<u8>, summary: &Summary) -> Result<(), Memory>
+    ensures { OnOk result (out.new.items ≡ out.old.items ++ text_of (spec.net_lines summary.now)) }
+{
+    line_law();
+    push_count(alloc, out, b"gates", summary.gates)?;
+    push_count(alloc, out, b"faults", summary.faults)?;
+    push_count(alloc, out, b"vectors", summary.vectors)?;
+    push_unchanged(alloc, out, summary)
+}
+
 /// Writes the lines of the numbers.
 fn push_counts(alloc: Global, out: &mut Vec<u8>, summary: &Summary) -> Result<(), Memory>
     ensures { OnOk result (out.new.items ≡ out.old.items ++ text_of (spec.count_lines summary.now)) }
 {
     line_law();
     push_count(alloc, out, b"terms", summary.terms)?;
-    push_count(alloc, out, b"gates", summary.gates)?;
-    push_count(alloc, out, b"faults", summary.faults)?;
-    push_count(alloc, out, b"vectors", summary.vectors)?;
-    push_count(alloc, out, b"unchanged", summary.unchanged)?;
-    Ok(())
+    push_cubes(alloc, out, summary)?;
+    push_net(alloc, out, summary)
 }
 
 /// The report of a synthesis.

@@ -5,6 +5,7 @@ ghost use Rattle.ae_base.specs.Mask.{where_below};
 ghost use Rattle.ae_base.specs.declared.limits.TheConstants.{SOURCE_LINES};
 ghost use Rattle.synth_core.specs.declared.settings.Choice.TheVariants.{Positive as positive};
 ghost use Rattle.synth_core.specs.declared.settings.SourceKind.TheVariants.{Pla as pla};
+ghost use Rattle.vec_text.specs.declared.file.Form.TheVariants.{Reddy as reddy};
 ghost use Rattle.synth_cmd.specs.Asked as spec;
 ghost use Rattle.synth_cmd.specs.Asked.{asked};
 ghost use Rattle.synth_cmd.specs.Words.{command_of, AreApart};
@@ -38,6 +39,17 @@ fn kind_of(word: &str) -> Option<SourceKind>
     match word {
         "pla" => Some(SourceKind::Pla),
         "blif" => Some(SourceKind::Blif),
+        _ => None,
+    }
+}
+
+/// The form that a word names.
+fn form_of(word: &str) -> Option<Form>
+    ensures { result ≡ spec.form_of word.now }
+{
+    match word {
+        "reddy" => Some(Form::Reddy),
+        "factored" => Some(Form::Factored),
         _ => None,
     }
 }
@@ -109,6 +121,19 @@ fn kind_option(words: &[String]) -> Option<(SourceKind, &[String])>
     }
 }
 
+/// What `--form` says where the words begin with it, else the Reddy form; with the words that are left.
+fn form_option(words: &[String]) -> Option<(Form, &[String])>
+    ensures some { IfSome result (λ found. spec.option_at (codes "--form") spec.form_of reddy (map string_bytes words.now) ≡ Some (found.0, map string_bytes found.1.now)) }
+    ensures none { result ≡ None → spec.option_at (codes "--form") spec.form_of reddy (map string_bytes words.now) ≡ None }
+{
+    match words {
+        [option, value, rest @ ..] if option.as_str() == "--form" => {
+            Some((form_of(value.as_str())?, rest))
+        }
+        _ => Some((Form::Reddy, words)),
+    }
+}
+
 /// What `--polarity` says where the words begin with it, else the plain literals; with the words that are left.
 fn polarity_option(words: &[String]) -> Option<(Choice, &[String])>
     ensures some { IfSome result (λ found. spec.option_at (codes "--polarity") spec.choice_of positive (map string_bytes words.now) ≡ Some (found.0, map string_bytes found.1.now)) }
@@ -122,17 +147,30 @@ fn polarity_option(words: &[String]) -> Option<(Choice, &[String])>
     }
 }
 
-/// The settings of a kind and a polarity, where no words are left.
-fn settings_with(kind: SourceKind, polarity: Choice, rest: &[String]) -> Option<Settings>
-    ensures { result ≡ spec.settings_with kind (Some (polarity, map string_bytes rest.now)) }
+/// The settings of a kind, a form and a polarity, where no words are left.
+fn settings_with(kind: SourceKind, form: Form, polarity: Choice, rest: &[String]) -> Option<Settings>
+    ensures { result ≡ spec.settings_with kind form (Some (polarity, map string_bytes rest.now)) }
 {
     match rest {
         [] => Some(Settings {
             kind,
-            form: Form::Reddy,
+            form,
             polarity,
         }),
         _ => None,
+    }
+}
+
+/// The settings of a kind and of what the words after it ask for.
+fn settings_after(kind: SourceKind, words: &[String]) -> Option<Settings>
+    ensures { result ≡ spec.settings_after kind (spec.option_at (codes "--form") spec.form_of reddy (map string_bytes words.now)) }
+{
+    match form_option(words) {
+        Some((form, rest)) => match polarity_option(rest) {
+            Some((polarity, rest)) => settings_with(kind, form, polarity, rest),
+            None => None,
+        },
+        None => None,
     }
 }
 
@@ -141,10 +179,7 @@ fn settings_of(words: &[String]) -> Option<Settings>
     ensures { result ≡ spec.settings_of (map string_bytes words.now) }
 {
     match kind_option(words) {
-        Some((kind, rest)) => match polarity_option(rest) {
-            Some((polarity, rest)) => settings_with(kind, polarity, rest),
-            None => None,
-        },
+        Some((kind, rest)) => settings_after(kind, rest),
         None => None,
     }
 }

@@ -4,7 +4,6 @@ use Rattle.std.specs.Prelude.{Result, Ok, Err, IfOk, IsOk, IsErrOf}
 use Rattle.ae_base.specs.Mask.{Set}
 use Rattle.ae_base.specs.Cube.{Signs}
 use Rattle.ae_base.specs.Source.{Source}
-use Rattle.cascade.specs.declared.limits.TheConstants.{REDDY_TERMS}
 use Rattle.expansion.specs.Functions.{AreExpansions}
 use Rattle.expansion.specs.Terms.{Terms, cost, PassesAt}
 use Rattle.fn_store.specs.Davio.{IsExpansion}
@@ -24,16 +23,7 @@ use Rattle.synth_core.specs.declared.fault.TextFault.{TextFault}
 use Rattle.synth_core.specs.declared.fault.TextFault.TheVariants as text
 use Rattle.synth_core.specs.declared.made.Made.{Made}
 use Rattle.synth_core.specs.declared.settings.Settings.{Settings}
-use Rattle.vec_text.specs.declared.file.Form.{Form}
-use Rattle.vec_text.specs.declared.file.Form.TheVariants.{Reddy}
 use Rattle.synth_core.proofs.Limits.{one_expanded, passes_once, apart, same}
-
--- there is no other form yet
-limit_is : (form : Form) → terms_limit form ≡ REDDY_TERMS
-limit_is Reddy = refl
-
-form_is : (form : Form) → form ≡ Reddy
-form_is Reddy = refl
 
 -- the polarity that comes of the one at which terms are counted
 polarity_comes : (choice : Choice) (limit : ℕ) (s : Source) (before after : List Advised) (p : Signs)
@@ -105,40 +95,40 @@ module _ (settings : Settings) (bytes : List ℕ) (s : Source) (says : source_sa
   is_expanded : (e : Terms) → AreExpansions s p e → IsExpanded settings bytes s e
   is_expanded e are = record { says = says; expansions = are }
 
-  pub has_too_many : (output : ℕ) → TooMany s p output → HasTooMany settings bytes output
+  pub has_too_many : (output : ℕ) → TooMany settings.form s p output → HasTooMany settings bytes output
   has_too_many output many = record {
     source = s;
     expansions = many.expansions;
     expanded = is_expanded many.expansions many.are;
-    passes = subst (λ limit. PassesAt limit many.expansions.outs output) (sym (limit_is settings.form)) many.passes;
+    passes = many.passes;
   }
 
-  abbrev is_within : HasFewTerms s p → IsWithin settings bytes
+  abbrev is_within : HasFewTerms settings.form s p → IsWithin settings bytes
   is_within few = record {
     source = s;
     expansions = few.expansions;
     expanded = is_expanded few.expansions few.are;
-    within = subst (λ limit. cost few.expansions ≤ limit) (sym (limit_is settings.form)) few.within;
+    within = few.within;
   }
 
   abbrev made_of : List Advised → List Advised → Texts → Type 0
-  made_of before after texts = IsMadeOf settings.polarity s p before after texts
+  made_of before after texts = IsMadeOf settings s p before after texts
 
   is_made : (before after : List Advised) (texts : Texts) → made_of before after texts → IsMade settings bytes before after texts
   is_made before after texts is = record {
     within = is_within is.few;
     polarity = is.polarity;
-    is_polarity = subst (λ limit. IsPolarity settings.polarity limit s before after is.polarity) (sym (limit_is settings.form)) (polarity_comes settings.polarity REDDY_TERMS s before after is.polarity is.comes);
+    is_polarity = polarity_comes settings.polarity (terms_limit settings.form) s before after is.polarity is.comes;
     expansions = is.expansions;
     are_expansions = is.are;
-    is_synthesised = subst (λ form. IsSynthesised form is.polarity s is.expansions texts) (sym (form_is settings.form)) is.is_synthesised;
+    is_synthesised = is.is_synthesised;
   }
 
   pub all_made : (before after : List Advised) (r : Result Made SynthErr) → IfOk r (λ m. made_of before after (texts_of m)) → IfOk r (λ m. IsMade settings bytes before after (texts_of m))
   all_made before after (Ok m) is = is_made before after (texts_of m) is
   all_made before after (Err e) is = tt
 
-  pub advisors_stand : (before after : List Advised) (r : Parts) → IsSourced s p r → OnlySearched settings.polarity r before after → AdvisorsStand settings (λ b. b ≡ bytes) before after
+  pub advisors_stand : (before after : List Advised) (r : Parts) → IsSourced s p r → OnlySearched settings r before after → AdvisorsStand settings (λ b. b ≡ bytes) before after
   advisors_stand before after r is (inl kept) = inl kept
   advisors_stand before after r is (inr (asked, stand, few)) = inr (record { asked = asked; bytes = bytes; was = refl; within = is_within (few s p is); stand = stand })
 
@@ -151,7 +141,7 @@ module _ (settings : Settings) (bytes : List ℕ) (s : Source) (says : source_sa
         let same : x.expansions ≡ y.expansions = one_expanded one settings bytes x.source y.source x.expansions y.expansions x.expanded y.expanded in
         passes_once (terms_limit settings.form) a b y.expansions.outs (subst (λ e. PassesAt (terms_limit settings.form) e.outs a) same x.passes) y.passes
 
-    pub always_too_many : (before after : List Advised) (r : Result Made SynthErr) → IfOk r (λ m. made_of before after (texts_of m)) → ((output : ℕ) → IsErrOf r (err.TooManyTerms output) → TooMany s p output)
+    pub always_too_many : (before after : List Advised) (r : Result Made SynthErr) → IfOk r (λ m. made_of before after (texts_of m)) → ((output : ℕ) → IsErrOf r (err.TooManyTerms output) → TooMany settings.form s p output)
         → ((line : ℕ) (what : TextFault) → IsErrOf r (of_text line what) → ⊥) → ((given wanted : ℕ) → IsErrOf r (err.BitCount given wanted) → ⊥) → (output : ℕ) → HasTooMany settings bytes output → IsErrOf r (err.TooManyTerms output) ⊎ IsErrOf r err.Memory
     always_too_many before after (Ok m) made passes accepted counted output many = absurd (apart one settings bytes output (is_within made.few) many)
     always_too_many before after (Err (err.TooManyTerms o)) made passes accepted counted output many = inl (ap (λ k. Err (err.TooManyTerms k)) (same_output o output (has_too_many o (passes o refl)) many))
@@ -160,7 +150,7 @@ module _ (settings : Settings) (bytes : List ℕ) (s : Source) (says : source_sa
     always_too_many before after (Err (err.BitCount g n)) made passes accepted counted output many = absurd (counted g n refl)
     always_too_many before after (Err err.Memory) made passes accepted counted output many = inr refl
 
-    pub complete : (r : Result Made SynthErr) → ((output : ℕ) → IsErrOf r (err.TooManyTerms output) → TooMany s p output)
+    pub complete : (r : Result Made SynthErr) → ((output : ℕ) → IsErrOf r (err.TooManyTerms output) → TooMany settings.form s p output)
         → ((line : ℕ) (what : TextFault) → IsErrOf r (of_text line what) → ⊥) → ((given wanted : ℕ) → IsErrOf r (err.BitCount given wanted) → ⊥) → IsWithin settings bytes → IsOk r ⊎ IsErrOf r err.Memory
     complete (Ok m) passes accepted counted within = inl refl
     complete (Err (err.TooManyTerms o)) passes accepted counted within = absurd (apart one settings bytes o within (has_too_many o (passes o refl)))

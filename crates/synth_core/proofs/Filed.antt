@@ -1,26 +1,31 @@
 -- The vector file of the network of names and expansions keeps the rules of a vector file.
-use Rattle.std.proofs.Common.{◌≡◌, ◌≤◌, ◌+◌, ℕ, suc, Bool, true, List, [], ◌∷◌, ◌++◌, length, map, get_or, refl, sym, ap, ◌∙◌, subst, arith}
+use Rattle.std.proofs.Common.{◌≡◌, ◌≤◌, ◌+◌, ◌-◌, ℕ, suc, Bool, true, List, [], ◌∷◌, ◌++◌, length, map, get_or, refl, sym, ap, ◌∙◌, subst, arith}
 use Rattle.std.specs.Prelude.{All, None}
 use Rattle.std.proofs.lemmas.Bool.{and_parts}
 use Rattle.std.proofs.Math.Seq.{drop-append_seam}
 use Rattle.std.proofs.lemmas.List.{length-append, length-map}
-use Rattle.std.proofs.lemmas.List.Elements.{All-append, All-map, All-drop, All-weaker}
+use Rattle.std.proofs.lemmas.List.Elements.{All-append, All-map, All-drop, All-weaker, recursion_from_All}
 use Rattle.ae_base.specs.Mask.{Set, first, where_below}
-use Rattle.ae_base.specs.Cube.{Signs}
+use Rattle.ae_base.specs.Cube.{IsSigns, Signs}
 use Rattle.ae_base.specs.declared.limits.TheConstants.{SOURCE_NAME_BYTES, WRITTEN_LINES}
 use Rattle.ae_base.specs.Name.{is_name}
 use Rattle.ae_base.specs.Terms.{IsPoint}
 use Rattle.ae_base.proofs.Sets.{has-first, has-inside, has-where_below}
-use Rattle.ae_net.specs.Network.{Network}
+use Rattle.ae_net.specs.Network.{Network, gate_at}
 use Rattle.ae_net.specs.Valid.{IsValid, IsDistinct}
 use Rattle.ae_net.specs.Out.{out}
-use Rattle.ae_net.specs.Names.{Names}
+use Rattle.ae_net.specs.Names.{IsNames, Names}
+use Rattle.esop.specs.Esop.{Cubes}
+use Rattle.factor.specs.Factored.{network_of}
 use Rattle.expansion.specs.Terms.{Terms}
 use Rattle.cascade.specs.Reddy.{reddy_net}
 use Rattle.cascade.specs.Shows.{CanBuild, HasInputNames, HasPortNames}
 use Rattle.input_tests.specs.Whole.{cascade_tests}
-use Rattle.vec_text.specs.VectorFile.{VectorFile, IsValidVectorFile}
-use Rattle.synth_core.specs.Steps.{vectors_of, file_over, reddy_file, AreCascadePoints}
+use Rattle.vec_text.specs.declared.file.Form.TheVariants.{Reddy}
+use Rattle.vec_text.specs.VectorFile.{VectorFile, IsCubeOf, IsValidVectorFile}
+use Rattle.synth_core.specs.Made.{lines_from}
+use Rattle.synth_core.specs.Steps.{vectors_of, factored_file, file_over, reddy_file, AreCascadePoints, IsFactoredNet}
+use Rattle.synth_core.proofs.Lines.{are_cubes}
 use Rattle.synth_core.proofs.Shown.{listed_distinct}
 
 -- ---- points
@@ -43,8 +48,17 @@ out_point : (n : Network) (x : Set) → IsPoint (length n.outputs) (out n None x
 unfolding out
 out_point n x = where_point (length n.outputs) _
 
-pub same_file : (n m : Network) (outputs names : List (List ℕ)) (p q : Signs) (xs ys : List Set) → n ≡ m → outputs ≡ names → p ≡ q → xs ≡ ys → file_over n outputs p xs ≡ file_over m names q ys
+pub same_file : (n m : Network) (outputs names : List (List ℕ)) (p q : Signs) (xs ys : List Set) → n ≡ m → outputs ≡ names → p ≡ q → xs ≡ ys
+    → file_over Reddy n outputs p [] xs ≡ file_over Reddy m names q [] ys
 same_file n m outputs names p q xs ys a b c d = rw (a, b, c, d) refl
+
+-- ---- names
+
+outputs_are_named : (names : Names) → IsNames names → All (λ name. is_name name ≡ true) names.outputs
+outputs_are_named names named =
+    subst (All (λ name. is_name name ≡ true)) (drop-append_seam names.inputs names.outputs)
+    (All-drop (λ name. is_name name ≡ true) (length names.inputs) (names.inputs ++ names.outputs)
+    (All-weaker (λ name. (is_name name ≡ true) × (length name ≤ SOURCE_NAME_BYTES)) (λ name. is_name name ≡ true) (λ name h. h.0) (names.inputs ++ names.outputs) named.each))
 
 -- ---- the file
 
@@ -77,12 +91,6 @@ module _ (names : Names) (e : Terms) (can : CanBuild names e) where
     pub few_outputs : length net.outputs ≤ WRITTEN_LINES
     few_outputs = omega (arith, length-outputs, can.named.few_outputs)
 
-    outputs_named : All (λ name. is_name name ≡ true) names.outputs
-    outputs_named =
-        subst (All (λ name. is_name name ≡ true)) (drop-append_seam names.inputs names.outputs)
-        (All-drop (λ name. is_name name ≡ true) (length names.inputs) (names.inputs ++ names.outputs)
-        (All-weaker (λ name. (is_name name ≡ true) × (length name ≤ SOURCE_NAME_BYTES)) (λ name. is_name name ≡ true) (λ name h. h.0) (names.inputs ++ names.outputs) can.named.each))
-
     control_is : e.polarity.n + 1 ≡ length net.inputs
     control_is = omega (arith, can.fits.inputs, length-inputs)
 
@@ -94,8 +102,42 @@ module _ (names : Names) (e : Terms) (can : CanBuild names e) where
       few_inputs = few_inputs;
       some_output = can.named.some_output;
       few_outputs = omega (arith, can.named.few_outputs);
-      named = All-append (λ name. is_name name ≡ true) net.inputs names.outputs valid.inputs_named outputs_named;
+      named = All-append (λ name. is_name name ≡ true) net.inputs names.outputs valid.inputs_named (outputs_are_named names can.named);
       distinct = subst (λ names. IsDistinct (net.inputs ++ names)) ports (listed_distinct net valid);
+      esop = λ i d l. absurd (omega (arith, l));
+      unchanged = λ i d l. absurd (omega (arith, l));
+      reddy = λ is. (refl, refl);
       points = All-map (λ v. IsPoint (length net.inputs) v.point) _ points (subst (λ m. All (IsPoint m) points) control_is are_points);
       responses = All-map (λ v. IsPoint (length names.outputs) v.outs) _ points (λ i d l. subst (λ m. IsPoint m (out net None (get_or points i d))) length-outputs (out_point net (get_or points i d)));
+    }
+
+-- ---- the file of a factored network
+
+pub factored_inputs : (names : Names) (cubes : Cubes) (n : Network) → IsFactoredNet names cubes n → length n.inputs ≤ WRITTEN_LINES
+unfolding network_of
+factored_inputs names cubes n is = omega (arith, ap (λ m. length m.inputs) is.form.is, is.named.few_inputs)
+
+pub factored_outputs : (names : Names) (cubes : Cubes) (n : Network) → IsFactoredNet names cubes n → length n.outputs ≤ WRITTEN_LINES
+factored_outputs names cubes n is = omega (arith, length-map n.outputs (λ s. (gate_at n (s - length n.inputs)).out), ap length is.ports, is.named.few_outputs)
+
+pub is_valid_factored : (names : Names) (p : Signs) (cubes : Cubes) (n : Network) → IsSigns p → p.n ≡ cubes.n → IsFactoredNet names cubes n → IsValidVectorFile (factored_file names p cubes n)
+unfolding network_of
+is_valid_factored names p cubes n signs same is =
+    let inputs : n.inputs ≡ names.inputs = ap (λ m. m.inputs) is.form.is in
+    let outputs : length n.outputs ≡ length names.outputs = sym (length-map n.outputs _) ∙ ap length is.ports in
+    record {
+      some_input = omega (arith, same, is.fits.inputs, is.named.some_input);
+      signs = signs;
+      polarity = ap length inputs ∙ sym is.fits.inputs ∙ sym same;
+      few_inputs = omega (arith, ap length inputs, is.named.few_inputs);
+      some_output = is.named.some_output;
+      few_outputs = omega (arith, is.named.few_outputs);
+      named = All-append (λ name. is_name name ≡ true) n.inputs names.outputs is.valid.inputs_named (outputs_are_named names is.named);
+      distinct = subst (λ names. IsDistinct (n.inputs ++ names)) is.ports (listed_distinct n is.valid);
+      esop = subst (λ k. All (IsCubeOf k (length names.outputs)) (lines_from 0 cubes.outs)) (is.fits.inputs ∙ sym (ap length inputs))
+          (are_cubes cubes.n (length names.outputs) 0 cubes.outs (recursion_from_All _ cubes.outs is.cubes_valid.below) (omega (arith, is.fits.outputs)));
+      points = λ i d l. absurd (omega (arith, l));
+      responses = λ i d l. absurd (omega (arith, l));
+      unchanged = λ i d l. absurd (omega (arith, l));
+      reddy = λ form. absurd (cc form);
     }

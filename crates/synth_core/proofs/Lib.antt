@@ -1,6 +1,8 @@
 pub mod Exact
+pub mod Factored
 pub mod Filed
 pub mod Limits
+pub mod Lines
 pub mod Meaning
 pub mod OneAnswer
 pub mod Remade

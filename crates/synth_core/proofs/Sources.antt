@@ -27,21 +27,20 @@ use Rattle.expansion.specs.Stores.{expanded}
 use Rattle.expansion.specs.Functions.{AreExpansions, KeepsFunctions}
 use Rattle.expansion.specs.Terms.{Terms, cost, PassesAt}
 use Rattle.polarity.specs.Search.{Advised, OfEachSource}
-use Rattle.cascade.specs.declared.limits.TheConstants.{REDDY_TERMS}
 use Rattle.cascade.specs.Shows.{Fits}
-use Rattle.vec_text.specs.declared.file.Form.TheVariants.{Reddy}
 use Rattle.expansion.specs.declared.functions.ExpandErr.{ExpandErr}
 use Rattle.expansion.specs.declared.functions.ExpandErr.TheVariants as expand_err
 use Rattle.synth_core.specs.declared.error.SynthErr.TheVariants as err
 use Rattle.synth_core.specs.Errors.{of_expand}
 use Rattle.synth_core.specs.declared.error.SynthErr.{SynthErr}
 use Rattle.synth_core.specs.declared.settings.Settings.{Settings}
-use Rattle.synth_core.specs.Asked.{HasOtherCount, polarity_of}
+use Rattle.synth_core.specs.Asked.{HasOtherCount, polarity_of, terms_limit}
 use Rattle.synth_core.specs.Says.{source_says}
 use Rattle.synth_core.specs.Made.{IsSynthesised, Texts, names_of}
 use Rattle.synth_core.specs.Sourced.{Parts, IsSourced, IsWhole}
 use Rattle.synth_core.specs.Steps.{ComesOf, HasFewTerms, IsMadeOf, OnlyAsked, OnlySearched, TooMany}
 use Rattle.synth_core.specs.declared.settings.Choice.{Choice}
+use Rattle.vec_text.specs.declared.file.Form.{Form}
 use Rattle.synth_core.proofs.Shown.{listed_distinct, all_listed}
 
 -- ---- which outputs are On
@@ -82,19 +81,20 @@ module _ (s : Source) (p : Signs) (r : Parts) (is : IsSourced s p r)
       subst (λ q. AreExpansions s q (expanded r.functions r.outputs)) is.polarity
       (law s r.functions r.outputs (ap (λ q. q.n) is.polarity ∙ is.inputs) is.count is.shows.each)
 
-  pub is_too_many : (output : ℕ) → PassesAt REDDY_TERMS (expanded r.functions r.outputs).outs output → TooMany s p output
-  is_too_many output passes = record { expansions = expanded r.functions r.outputs; are = are_expansions; passes = passes }
+  pub is_too_many : (form : Form) (limit output : ℕ) → limit ≡ terms_limit form → PassesAt limit (expanded r.functions r.outputs).outs output → TooMany form s p output
+  is_too_many form limit output is passes =
+      record { expansions = expanded r.functions r.outputs; are = are_expansions; passes = subst (λ k. PassesAt k (expanded r.functions r.outputs).outs output) is passes }
 
   -- the expansions at which terms are counted
-  module _ (start : Terms) (same : start ≡ expanded r.functions r.outputs) where
+  module _ (start : Terms) (start_is : start ≡ expanded r.functions r.outputs) where
     are_start : AreExpansions s p start
-    are_start = rw same are_expansions
+    are_start = rw start_is are_expansions
 
     own_start : AreExpansions s start.polarity start
     own_start = subst (λ q. AreExpansions s q start) (sym are_start.polarity) are_start
 
-    pub few_terms : cost start ≤ REDDY_TERMS → HasFewTerms s p
-    few_terms cheap = record { expansions = start; are = are_start; within = cheap }
+    pub few_terms : (form : Form) (limit : ℕ) → limit ≡ terms_limit form → cost start ≤ limit → HasFewTerms form s p
+    few_terms form limit same cheap = record { expansions = start; are = are_start; within = subst (λ k. cost start ≤ k) same cheap }
 
     -- those at the polarity that is asked for
     module _ (e : Terms) (keeps : KeepsFunctions start e) where
@@ -103,13 +103,13 @@ module _ (s : Source) (p : Signs) (r : Parts) (is : IsSourced s p r)
           let are : AreExpansions s e.polarity e = keeps s own_start in
           record { inputs = are.inputs ∙ ap (λ names. length names.inputs) (sym is.names); outputs = are.outputs ∙ ap (λ names. length names.outputs) (sym is.names) }
 
-      pub is_made_of : (choice : Choice) (before after : List Advised) (texts : Texts) → cost start ≤ REDDY_TERMS
-          → OfEachSource start (λ s. ComesOf choice REDDY_TERMS s start.polarity before after e.polarity)
-          → ((s : Source) → r.names ≡ names_of s → AreExpansions s e.polarity e → IsSynthesised Reddy e.polarity s e texts) → IsMadeOf choice s p before after texts
-      is_made_of choice before after texts cheap comes law = record {
-        few = few_terms cheap;
+      pub is_made_of : (settings : Settings) (limit : ℕ) (before after : List Advised) (texts : Texts) → limit ≡ terms_limit settings.form → cost start ≤ limit
+          → OfEachSource start (λ s. ComesOf settings.polarity limit s start.polarity before after e.polarity)
+          → ((s : Source) → r.names ≡ names_of s → AreExpansions s e.polarity e → IsSynthesised settings.form e.polarity s e texts) → IsMadeOf settings s p before after texts
+      is_made_of settings limit before after texts same cheap comes law = record {
+        few = few_terms settings.form limit same cheap;
         polarity = e.polarity;
-        comes = subst (λ q. ComesOf choice REDDY_TERMS s q before after e.polarity) are_start.polarity (comes s own_start);
+        comes = subst (λ k. ComesOf settings.polarity k s p before after e.polarity) same (subst (λ q. ComesOf settings.polarity limit s q before after e.polarity) are_start.polarity (comes s own_start));
         expansions = e;
         are = keeps s own_start;
         is_synthesised = law s is.names (keeps s own_start);
@@ -118,9 +118,10 @@ module _ (s : Source) (p : Signs) (r : Parts) (is : IsSourced s p r)
 -- a search begins where the expansions are few enough
 pub only_searched : (r : Parts) (law : (source : Source) (s : Functions) (refs : List FnRef) → s.polarity.n ≡ length source.inputs → length refs ≡ length source.outputs
     → ((o : ℕ) (r : FnRef) → slice_get refs o ≡ Some r → Shows s r (on_set source o)) → AreExpansions source s.polarity (expanded s refs))
-    (start : Terms) → start ≡ expanded r.functions r.outputs → cost start ≤ REDDY_TERMS → (choice : Choice) (before after : List Advised) → OnlyAsked choice before after → OnlySearched choice r before after
-only_searched r law start same cheap choice before after (inl kept) = inl kept
-only_searched r law start same cheap choice before after (inr (asked, stand)) = inr (asked, stand, λ s p is. few_terms s p r is law start same cheap)
+    (start : Terms) → start ≡ expanded r.functions r.outputs → (settings : Settings) (limit : ℕ) → limit ≡ terms_limit settings.form → cost start ≤ limit → (before after : List Advised)
+    → OnlyAsked settings.polarity before after → OnlySearched settings r before after
+only_searched r law start same settings limit is cheap before after (inl kept) = inl kept
+only_searched r law start same settings limit is cheap before after (inr (asked, stand)) = inr (asked, stand, λ s p of. few_terms s p r of law start same settings.form limit is cheap)
 
 pub are_live : (functions : Functions) (refs : List FnRef) (fs : ℕ → Set → Bool) → ShowEach functions refs fs → All (IsLive functions) refs
 are_live functions refs fs shows = λ k d l. (shows.each k (get_or refs k d) (slice_get-get_or refs k d l)).live

@@ -31,8 +31,8 @@ use Rattle.vec_text.specs.declared.file.Form.TheVariants.{Reddy}
 use Rattle.vec_text.specs.VectorFile.{VectorFile, IsValidVectorFile, vector_text}
 use Rattle.synth_core.specs.declared.made.Summary.{Summary}
 use Rattle.synth_core.specs.Headline.{IsWritten, IsReddyTested}
-use Rattle.synth_core.specs.Made.{names_of, ShowsAt, IsSynthesised, Texts}
-use Rattle.synth_core.specs.Steps.{reddy_file, AreReddyNumbers}
+use Rattle.synth_core.specs.Made.{AreNumbers, names_of, ShowsAt, IsSynthesised, Texts}
+use Rattle.synth_core.specs.Steps.{reddy_file}
 use Rattle.synth_core.proofs.Filed.{points-vectors_of, length-vectors_of}
 use Rattle.synth_core.proofs.Meaning.{value-with, control_low, control_high}
 use Rattle.synth_core.proofs.Shown.{meets}
@@ -118,7 +118,7 @@ module _ (s : Source) (e : Terms) (are : AreExpansions s e.polarity e) where
           detected = detects_every net _ valid shows (subst (DetectsAll net) (sym (points-vectors_of net points)) complete);
         }
 
-        pub is_synthesised : ((names : Names) → IsLead names (lead names)) → (summary : Summary) → AreReddyNumbers s e net file summary
+        pub is_synthesised : ((names : Names) → IsLead names (lead names)) → (summary : Summary) → AreNumbers s e net file summary
             → IsSynthesised Reddy e.polarity s e (record { net_text = blif_text net; vec_text = vector_text file; summary = summary })
         unfolding reddy_net
         is_synthesised is_lead summary numbers = record {
@@ -132,10 +132,8 @@ module _ (s : Source) (e : Terms) (are : AreExpansions s e.polarity e) where
             cascade = refl;
             high = high;
             points = points-vectors_of net points;
-            no_cubes = numbers.no_cubes;
-            none_unchanged = numbers.none_unchanged;
           };
-          numbers = numbers.numbers;
+          numbers = numbers;
         }
 
 -- texts that are those of this network and this file

@@ -1,5 +1,5 @@
 -- The headline: what is promised of a source's network and of its vectors.
-use Rattle.std.specs.Prelude.{◌≡◌, ℕ, ◌≤◌, None, Ok, List, length, map, All}
+use Rattle.std.specs.Prelude.{◌≡◌, ℕ, ◌≤◌, None, Ok, List, [], length, map, All}
 use Rattle.ae_base.specs.Cube.{Signs}
 use Rattle.ae_base.specs.Mask.{Set}
 use Rattle.ae_base.specs.Source.{Source}
@@ -13,7 +13,7 @@ use Rattle.blif_read.specs.Says.{blif_says}
 use Rattle.expansion.specs.Even.{AreEven}
 use Rattle.input_tests.specs.Whole.{vector_bound}
 use Rattle.vec_text.specs.declared.file.Form.{Form}
-use Rattle.vec_text.specs.declared.file.Form.TheVariants.{Reddy}
+use Rattle.vec_text.specs.declared.file.Form.TheVariants.{Reddy, Factored}
 use Rattle.vec_text.specs.VectorFile.{VectorFile, IsValidVectorFile, vector_text}
 
 -- ---- in both forms
@@ -45,9 +45,15 @@ pub record IsReddyTested (s : Source) (net : Network) (file : VectorFile) : Type
   pub few : length file.vectors ≤ vector_bound (length s.inputs) evens
   pub detected : DetectsEveryFault net (map (λ v. v.point) file.vectors)
 
+-- In factored form the network has no control, and the file has no vectors yet.
+pub record IsFactoredTested (s : Source) (net : Network) (file : VectorFile) : Type 0 where
+  pub no_control : net.inputs ≡ s.inputs
+  pub no_vectors : file.vectors ≡ []
+
 -- what a form promises of its vectors
 abbrev pub IsTested : Form → Source → Network → VectorFile → Type 0
 IsTested Reddy s net file = IsReddyTested s net file
+IsTested Factored s net file = IsFactoredTested s net file
 
 -- ---- the headline
 

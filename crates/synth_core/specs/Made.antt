@@ -1,7 +1,8 @@
 -- What a synthesis makes of a source: the texts of a network and of its vectors, and their numbers, exactly.
-use Rattle.std.specs.Prelude.{◌≡◌, ℕ, ◌<◌, Bool, not, None, List, length, map}
+use Rattle.std.specs.Prelude.{◌≡◌, ℕ, suc, ◌<◌, ◌≤◌, Bool, not, None, List, [], ◌∷◌, ◌++◌, length, map}
+use Rattle.std.specs.List.{AllZip}
 use Rattle.ae_base.specs.Mask.{Set, has, with}
-use Rattle.ae_base.specs.Cube.{Signs}
+use Rattle.ae_base.specs.Cube.{Product, Signs}
 use Rattle.ae_base.specs.Terms.{IsPoint}
 use Rattle.ae_base.specs.Source.{Source, on_set}
 use Rattle.ae_net.specs.Blif.{blif_text}
@@ -10,8 +11,14 @@ use Rattle.ae_net.specs.Names.{Names, IsLead}
 use Rattle.ae_net.specs.Network.{Network}
 use Rattle.ae_net.specs.Run.{Shows}
 use Rattle.cascade.specs.Reddy.{reddy_over}
+use Rattle.esop.specs.Esop.{Cubes, HasValueOf, esop_of}
+use Rattle.esop.specs.Rewriting.{rewritten_lists}
+use Rattle.esop.specs.Settled.{AreSettled}
 use Rattle.expansion.specs.Functions.{AreExpansions}
 use Rattle.expansion.specs.Terms.{Terms, cost}
+use Rattle.factor.specs.Factored.{AreSums, network_of, wires}
+use Rattle.factor.specs.Shows.{exor_count}
+use Rattle.factor.specs.Sums.{Summands}
 use Rattle.input_tests.specs.Whole.{cascade_tests}
 use Rattle.polarity.specs.Search.{Advised}
 use Rattle.synth_core.specs.Asked.{IsWithin, terms_limit}
@@ -21,7 +28,8 @@ use Rattle.synth_core.specs.declared.made.Made.{Made}
 use Rattle.synth_core.specs.declared.made.Summary.{Summary}
 use Rattle.synth_core.specs.declared.settings.Settings.{Settings}
 use Rattle.vec_text.specs.declared.file.Form.{Form}
-use Rattle.vec_text.specs.declared.file.Form.TheVariants.{Reddy}
+use Rattle.vec_text.specs.declared.file.EsopLine.{EsopLine}
+use Rattle.vec_text.specs.declared.file.Form.TheVariants.{Reddy, Factored}
 use Rattle.vec_text.specs.VectorFile.{VectorFile}
 
 -- the texts of a network and of its vectors, and their numbers
@@ -44,19 +52,41 @@ ShowsAt n x m value = (ys : Set) × Shows n None x ys × ((o : ℕ) → o < m �
 
 -- In Reddy form the network is the cascade over the expansions, and its inner names begin with the least free number of underscores. With
 -- the control at 1, which is the input after those of the source, each output is 1 exactly where the source does not specify On. The
--- vectors are those of the cascade in order. There are no cubes, and no fault is left undetected.
-pub record IsReddy (s : Source) (e : Terms) (n : Network) (file : VectorFile) (summary : Summary) : Type 0 where
+-- vectors are those of the cascade in order.
+pub record IsReddy (s : Source) (e : Terms) (n : Network) (file : VectorFile) : Type 0 where
   pub underscores : ℕ
   pub is_lead : IsLead (names_of s) underscores
   pub cascade : n ≡ reddy_over underscores (names_of s) e
   pub high : (x : Set) → IsPoint (length s.inputs) x → ShowsAt n (with x (length s.inputs)) (length s.outputs) (λ o. not (on_set s o x))
   pub points : map (λ v. v.point) file.vectors ≡ cascade_tests e
-  pub no_cubes : summary.cubes ≡ 0
-  pub none_unchanged : summary.unchanged ≡ 0
+
+-- the cubes of each output in order, the first output being output o
+abbrev pub lines_from : ℕ → List (List Product) → List EsopLine
+lines_from o [] = []
+lines_from o (cs ∷ css) = map (λ c. record { output = o; cube = c }) cs ++ lines_from (suc o) css
+
+-- In factored form each output has the expansion's terms as cubes, rewritten until they are settled: no more cubes than terms, of the same
+-- value at each point. The network is the factored one of these cubes, with no more EXOR gates than cubes. No vector and no undetectable
+-- fault is listed yet.
+pub record IsFactored (s : Source) (e : Terms) (n : Network) (file : VectorFile) : Type 0 where
+  pub cubes : Cubes
+  pub rewritten : cubes ≡ rewritten_lists (esop_of e)
+  pub settled : AreSettled cubes
+  pub values : AllZip (HasValueOf e.polarity) e.outs cubes.outs
+  pub lines : file.esop ≡ lines_from 0 cubes.outs
+  pub few : length file.esop ≤ cost e
+  pub underscores : ℕ
+  pub is_lead : IsLead (names_of s) underscores
+  pub sums : List Summands
+  pub are_sums : AreSums cubes.outs sums
+  pub factored : n ≡ network_of underscores (names_of s) (wires cubes) sums
+  pub few_exors : exor_count n ≤ length file.esop
+  pub none_unchanged : file.unchanged ≡ []
 
 -- what is particular to a form
-abbrev pub IsOfForm : Form → Source → Terms → Network → VectorFile → Summary → Type 0
-IsOfForm Reddy s e n file summary = IsReddy s e n file summary
+abbrev pub IsOfForm : Form → Source → Terms → Network → VectorFile → Type 0
+IsOfForm Reddy s e n file = IsReddy s e n file
+IsOfForm Factored s e n file = IsFactored s e n file
 
 -- ---- in both forms
 
@@ -67,18 +97,20 @@ pub record AreNumbers (s : Source) (e : Terms) (n : Network) (file : VectorFile)
   pub outputs : summary.outputs ≡ length s.outputs
   pub polarity : summary.polarity ≡ file.polarity
   pub terms : summary.terms ≡ cost e
+  pub cubes : summary.cubes ≡ length file.esop
   pub gates : summary.gates ≡ length n.gates
   pub faults : summary.faults ≡ length (fault_list n)
   pub vectors : summary.vectors ≡ length file.vectors
+  pub unchanged : summary.unchanged ≡ length file.unchanged
 
 -- The texts of a source's network and of the network's vectors, of a form, over these expansions at a polarity. The network has the
--- source's model. With the control at 0 each output is 1 exactly where the source specifies On.
+-- source's model. With the control at 0, where there is one, each output is 1 exactly where the source specifies On.
 pub record IsSynthesised (form : Form) (p : Signs) (s : Source) (e : Terms) (texts : Texts) : Type 0 where
   pub headline : Headline form p s texts.net_text texts.vec_text
   pub model : headline.written.net.model ≡ s.model
   pub low : (x : Set) → IsPoint (length s.inputs) x → ShowsAt headline.written.net x (length s.outputs) (λ o. on_set s o x)
   pub net_text : texts.net_text ≡ blif_text headline.written.net
-  pub of_form : IsOfForm form s e headline.written.net headline.written.file texts.summary
+  pub of_form : IsOfForm form s e headline.written.net headline.written.file
   pub numbers : AreNumbers s e headline.written.net headline.written.file texts.summary
 
 -- These texts were made of the source that the bytes say, as it was asked for, by what the advisors were before and are after.

@@ -1,15 +1,19 @@
 //! What is made of a source's expansions.
+ghost use Rattle.std.specs.Prelude.{◌≡◌};
 ghost use Rattle.ae_base.specs.Source.{Source};
 ghost use Rattle.ae_net.specs.Blif.{blif_text};
+ghost use Rattle.ae_base.specs.Cube.{Signs, IsSigns};
 ghost use Rattle.ae_net.specs.Names.{Names};
+ghost use Rattle.ae_net.specs.Network.{Network};
 ghost use Rattle.cascade.specs.Reddy.{reddy_net};
+ghost use Rattle.esop.specs.Esop.{Cubes};
 ghost use Rattle.expansion.specs.Functions.{AreExpansions};
 ghost use Rattle.expansion.specs.Terms.{Terms};
-ghost use Rattle.vec_text.specs.declared.file.Form.TheVariants.{Reddy};
+ghost use Rattle.vec_text.specs.declared.file.Form.TheVariants.{Reddy, Factored};
 ghost use Rattle.vec_text.specs.VectorFile.{IsValidVectorFile, vector_text};
 ghost use Rattle.synth_core.specs.declared.made.Summary.{Summary};
-ghost use Rattle.synth_core.specs.Made.{IsSynthesised, names_of};
-ghost use Rattle.synth_core.specs.Steps.{AreReady, AreReddyNumbers, reddy_file};
+ghost use Rattle.synth_core.specs.Made.{AreNumbers, IsSynthesised, names_of};
+ghost use Rattle.synth_core.specs.Steps.{AreReady, AreRewritten, IsFactoredNet, factored_file, reddy_file};
 
 use ae_net::{lead_law, one_run};
 use blif_read::{said_again, said_law};
@@ -26,7 +30,7 @@ pub fn synthesis_law()
     ensures made { (s : Source) (e : Terms) (summary : Summary) → AreReady (names_of s) e → AreExpansions s e.polarity e
         → let net = reddy_net (names_of s) e in
         let file = reddy_file (names_of s) e in
-        AreReddyNumbers s e net file summary
+        AreNumbers s e net file summary
         → IsSynthesised Reddy e.polarity s e (record { net_text = blif_text net; vec_text = vector_text file; summary = summary }) }
 {
     one_run();
@@ -37,4 +41,19 @@ pub fn synthesis_law()
     even_law();
     expansion_law();
     input_law();
+}
+
+/// The same of the cubes that are rewritten from a source's expansions, and of their factored network: the file of the cubes keeps the rules
+/// of a vector file, and the texts of the network and of that file are what a synthesis makes of the source in factored form.
+pub fn factored_synthesis_law()
+    ensures valid { (names : Names) (p : Signs) (cubes : Cubes) (n : Network) → IsSigns p → p.n ≡ cubes.n → IsFactoredNet names cubes n → IsValidVectorFile (factored_file names p cubes n) }
+    ensures made { (s : Source) (e : Terms) (cubes : Cubes) (n : Network) (summary : Summary) → AreExpansions s e.polarity e → IsSigns e.polarity → AreRewritten e cubes → IsFactoredNet (names_of s) cubes n
+        → let file = factored_file (names_of s) e.polarity cubes n in
+        AreNumbers s e n file summary
+        → IsSynthesised Factored e.polarity s e (record { net_text = blif_text n; vec_text = vector_text file; summary = summary }) }
+{
+    lead_law();
+    said_law();
+    said_again();
+    expansion_law();
 }

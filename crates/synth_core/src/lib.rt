@@ -3,6 +3,7 @@
 
 mod error;
 mod fault;
+mod forms;
 mod laws;
 mod made;
 mod maker;
@@ -11,6 +12,7 @@ mod read;
 mod search;
 mod settings;
 mod synthesis;
+mod vector_files;
 
 pub use error::SynthErr;
 pub use fault::TextFault;

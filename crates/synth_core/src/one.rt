@@ -6,6 +6,7 @@ ghost use Rattle.synth_core.specs.Made.{IsMade, Texts};
 ghost use Rattle.synth_core.specs.declared.settings.Settings.{Settings};
 
 use ae_net::{lead_law, one_run};
+use factor::factored_law;
 use fn_store::expansion_law;
 use polarity::choice_law;
 
@@ -19,4 +20,5 @@ pub fn one_answer_law()
     lead_law();
     expansion_law();
     choice_law();
+    factored_law();
 }

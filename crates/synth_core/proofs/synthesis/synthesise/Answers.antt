@@ -35,7 +35,7 @@ pub returns-clause-made : goal.returns-clause-made
 returns-clause-made g c =
     let is = c.in_ok-sourced.ensures.sourced in
     all_made c.args.settings.now c.args.bytes.now is.source is.says _ _ c.synthesise_functions.result
-    (IfOk-weaker c.synthesise_functions.result _ (λ made. IsMadeOf c.args.settings.now.polarity is.source (polarity_of c.args.settings.now.polarity (length is.source.inputs)) _ _ (texts_of made)) (λ made law. law is.source (polarity_of c.args.settings.now.polarity (length is.source.inputs)) (rw c.deref.ensures.value is.is)) c.synthesise_functions.ensures.made)
+    (IfOk-weaker c.synthesise_functions.result _ (λ made. IsMadeOf c.args.settings.now is.source (polarity_of c.args.settings.now.polarity (length is.source.inputs)) _ _ (texts_of made)) (λ made law. law is.source (polarity_of c.args.settings.now.polarity (length is.source.inputs)) (rw c.deref.ensures.value is.is)) c.synthesise_functions.ensures.made)
 
 pub returns-clause-advisors : goal.returns-clause-advisors
 returns-clause-advisors g c =
@@ -51,7 +51,7 @@ pub returns-clause-always_too_many : goal.returns-clause-always_too_many
 returns-clause-always_too_many g c output many =
     let is = c.in_ok-sourced.ensures.sourced in
     always_too_many c.args.settings.now c.args.bytes.now is.source is.says c.expansion_law.ensures.one _ _ c.synthesise_functions.result
-    (IfOk-weaker c.synthesise_functions.result _ (λ made. IsMadeOf c.args.settings.now.polarity is.source (polarity_of c.args.settings.now.polarity (length is.source.inputs)) _ _ (texts_of made)) (λ made law. law is.source (polarity_of c.args.settings.now.polarity (length is.source.inputs)) (rw c.deref.ensures.value is.is)) c.synthesise_functions.ensures.made)
+    (IfOk-weaker c.synthesise_functions.result _ (λ made. IsMadeOf c.args.settings.now is.source (polarity_of c.args.settings.now.polarity (length is.source.inputs)) _ _ (texts_of made)) (λ made law. law is.source (polarity_of c.args.settings.now.polarity (length is.source.inputs)) (rw c.deref.ensures.value is.is)) c.synthesise_functions.ensures.made)
     (λ o e. c.synthesise_functions.ensures.too_many o e is.source (polarity_of c.args.settings.now.polarity (length is.source.inputs)) (rw c.deref.ensures.value is.is)) c.synthesise_functions.ensures.accepted c.synthesise_functions.ensures.counted output many
 
 pub returns-clause-complete : goal.returns-clause-complete

@@ -1,9 +1,9 @@
-use Rattle.std.proofs.Common.{Err, ap, arith, inl, inr, length, ◌≡◌, ◌∙◌}
+use Rattle.std.proofs.Common.{Err, ap, arith}
 use Rattle.ae_base.proofs.Results.{answered}
 use Rattle.synth_core.specs.declared.error.SynthErr.TheVariants as err
 use Rattle.synth_core.specs.Errors.{of_expand}
 use Rattle.synth_core.specs.Made.{texts_of}
-use Rattle.synth_core.proofs.Sources.{few_terms, fits_of, is_made_of, is_too_many, only_searched, too_many_of}
+use Rattle.synth_core.proofs.Sources.{fits_of, is_made_of, is_too_many, only_searched, too_many_of}
 use Rattle.synth_core.proofs.synthesis.synthesise_functions.Goals as goal
 
 pub expand-requires-clause-live : goal.expand-requires-clause-live
@@ -17,7 +17,8 @@ returns-in_err-start-clause-too_many g c output is s p sourced =
     let e = c.in_err-start.field-0.0 in
     let from = c.from_residual in
     let was = too_many_of e output (answered from.result of_expand e (err.TooManyTerms output) from.ensures.1 is) in
-    is_too_many s p _ sourced c.expanded_law.ensures.source output (c.in_err-start.ensures.too_many output (ap Err was))
+    is_too_many s p _ sourced c.expanded_law.ensures.source c.args.settings.now.form _ output c.limit_of-limit.ensures
+    (c.in_err-start.ensures.too_many output (ap Err was))
 
 pub expansion_of-requires-clause-inputs : goal.expansion_of-requires-clause-inputs
 expansion_of-requires-clause-inputs g c =
@@ -31,7 +32,9 @@ texts-requires-clause-fits g c =
 pub returns-clause-made : goal.returns-clause-made
 returns-clause-made g c s p sourced =
     is_made_of s p _ sourced c.expanded_law.ensures.source c.in_ok-start.start c.in_ok-start.ensures.lists c.in_ok-expansion.expansion c.in_ok-expansion.ensures.functions
-    c.args.choice _ _ (texts_of c.in_ok-texts.field-0) c.in_ok-start.ensures.within c.in_ok-expansion.ensures.comes c.in_ok-texts.ensures
+    c.args.settings.now _ _ _ (texts_of c.in_ok-texts.field-0) c.limit_of-limit.ensures c.in_ok-start.ensures.within c.in_ok-expansion.ensures.comes c.in_ok-texts.ensures
 
 pub returns-clause-advisors : goal.returns-clause-advisors
-returns-clause-advisors g c = only_searched _ c.expanded_law.ensures.source c.in_ok-start.start c.in_ok-start.ensures.lists c.in_ok-start.ensures.within c.args.choice _ _ c.expansion_of.ensures.asked
+returns-clause-advisors g c =
+    only_searched _ c.expanded_law.ensures.source c.in_ok-start.start c.in_ok-start.ensures.lists c.args.settings.now _ c.limit_of-limit.ensures
+    c.in_ok-start.ensures.within _ _ c.expansion_of.ensures.asked

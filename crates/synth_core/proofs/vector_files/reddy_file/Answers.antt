@@ -4,7 +4,7 @@ use Rattle.ae_base.specs.Terms.{IsPoint}
 use Rattle.cascade.specs.Shows.{CanBuild}
 use Rattle.input_tests.specs.Whole.{cascade_tests}
 use Rattle.synth_core.proofs.Filed.{same_file}
-use Rattle.synth_core.proofs.synthesis.file_of.Goals as goal
+use Rattle.synth_core.proofs.vector_files.reddy_file.Goals as goal
 
 pub vector_file-requires : goal.vector_file-requires
 vector_file-requires c =

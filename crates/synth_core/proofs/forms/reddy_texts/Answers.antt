@@ -6,10 +6,10 @@ use Rattle.cascade.specs.Reddy.{reddy_net}
 use Rattle.expansion.specs.Functions.{AreExpansions}
 use Rattle.vec_text.specs.declared.file.Form.TheVariants.{Reddy}
 use Rattle.vec_text.specs.VectorFile.{VectorFile, vector_text}
-use Rattle.synth_core.specs.Made.{IsSynthesised, names_of, texts_of}
-use Rattle.synth_core.specs.Steps.{AreReady, AreReddyNumbers, reddy_file}
+use Rattle.synth_core.specs.Made.{AreNumbers, IsSynthesised, names_of, texts_of}
+use Rattle.synth_core.specs.Steps.{AreReady, reddy_file}
 use Rattle.synth_core.proofs.Synthesised.{from_parts}
-use Rattle.synth_core.proofs.synthesis.texts.Goals as goal
+use Rattle.synth_core.proofs.forms.reddy_texts.Goals as goal
 
 pub returns : goal.returns
 returns c =
@@ -24,7 +24,7 @@ returns c =
     let ready : AreReady (names_of s) e = subst (λ m. AreReady m e) named c.in_ok-file.ensures.ready in
     let net_of : c.in_ok-net.net ≡ reddy_net (names_of s) e = subst (λ m. c.in_ok-net.net ≡ reddy_net m e) named net_is in
     let file_of : c.in_ok-file.file ≡ reddy_file (names_of s) e = subst (λ m. c.in_ok-file.file ≡ reddy_file m e) named file_is in
-    let numbers : AreReddyNumbers s e (reddy_net (names_of s) e) (reddy_file (names_of s) e) x =
-    subst (λ n. AreReddyNumbers s e n (reddy_file (names_of s) e) x) net_of (subst (λ (f : VectorFile). AreReddyNumbers s e c.in_ok-net.net f x) file_of (c.in_ok-summary.ensures s named)) in
+    let numbers : AreNumbers s e (reddy_net (names_of s) e) (reddy_file (names_of s) e) x =
+    subst (λ n. AreNumbers s e n (reddy_file (names_of s) e) x) net_of (subst (λ (f : VectorFile). AreNumbers s e c.in_ok-net.net f x) file_of (c.in_ok-summary.ensures s named)) in
     from_parts e.polarity s e c.in_ok-net.net (reddy_net (names_of s) e) c.in_ok-file.file (reddy_file (names_of s) e) x (texts_of made) is net_of file_of
     (c.synthesis_law.ensures.made s e x ready are numbers)) c.made_of.ensures

@@ -1,0 +1,94 @@
+//! The rewriting steps of a list of cubes.
+ghost use Rattle.std.specs.Prelude.{◌≡◌, ◌<◌, IfOk, OnOk, is_some, length, unwrap_or};
+ghost use Rattle.std.specs.List.{prefix_len};
+ghost use Rattle.std.specs.Ordering.{is_lt};
+ghost use Rattle.ae_base.specs.Text.{cmp_text};
+ghost use Rattle.esop.specs.Order.{placed};
+ghost use Rattle.esop.specs.Rewriting as rewriting;
+ghost use Rattle.esop.specs.Search.{IsTaken};
+
+use crate::links::useful_link;
+use crate::near::merge;
+use crate::pairs::{Sought, first_pair};
+use ae_base::{Cube, Memory};
+
+/// Takes the first step that applies, and says whether one did. After `Memory` the list may have lost cubes.
+pub fn take_step(cubes: &mut Vec<Cube>) -> Result<bool, Memory>
+    ensures { IfOk result (IsTaken (rewriting.next_list cubes.old.items) cubes.old.items cubes.new.items) }
+{
+    if cancel(cubes) {
+        return Ok(true);
+    }
+    if merge_first(cubes)? {
+        return Ok(true);
+    }
+    link_first(cubes)
+}
+
+/// The first pair of equal cubes goes, where there is one.
+fn cancel(cubes: &mut Vec<Cube>) -> bool
+    ensures { IsTaken (rewriting.cancelled cubes.old.items) cubes.old.items cubes.new.items result }
+{
+    match first_pair(cubes.as_slice(), Sought::Equal) {
+        None => false,
+        Some((first, second)) => {
+            cubes.remove(second);
+            cubes.remove(first);
+            true
+        }
+    }
+}
+
+/// The first pair at distance 1 becomes one cube, where there is one.
+fn merge_first(cubes: &mut Vec<Cube>) -> Result<bool, Memory>
+    ensures { IfOk result (IsTaken (rewriting.merged cubes.old.items) cubes.old.items cubes.new.items) }
+{
+    match first_pair(cubes.as_slice(), Sought::Adjacent) {
+        None => Ok(false),
+        Some((first, second)) => {
+            let merged = merge(cubes[first], cubes[second]);
+            cubes.remove(second);
+            cubes.remove(first);
+            place(cubes, merged)?;
+            Ok(true)
+        }
+    }
+}
+
+/// The first pair with a useful link becomes that link, where there is one.
+fn link_first(cubes: &mut Vec<Cube>) -> Result<bool, Memory>
+    ensures { IfOk result (IsTaken (rewriting.linked cubes.old.items) cubes.old.items cubes.new.items) }
+{
+    let Some((first, second)) = first_pair(cubes.as_slice(), Sought::Linked) else {
+        return Ok(false);
+    };
+    let Some(link) = useful_link(cubes.as_slice(), first, second) else {
+        return Ok(false);
+    };
+    cubes.remove(second);
+    cubes.remove(first);
+    place(cubes, link.second)?;
+    place(cubes, link.first)?;
+    Ok(true)
+}
+
+/// Puts a cube after those that come before it in the order of the texts.
+pub fn place(cubes: &mut Vec<Cube>, cube: Cube) -> Result<(), Memory>
+    ensures { OnOk result (cubes.new.items ≡ placed cube cubes.old.items) }
+{
+    let at = place_of(cubes.as_slice(), cube);
+    cubes.insert(at, cube)?;
+    Ok(())
+}
+
+/// How many cubes at the front come before the cube in the order of the texts.
+fn place_of(cubes: &[Cube], cube: Cube) -> usize
+    ensures { result ≡ prefix_len (λ other. is_lt (cmp_text other cube)) cubes.now }
+{
+    for (k, other) in cubes.iter().enumerate() {
+        if !other.cmp_text(cube).is_lt() {
+            return k;
+        }
+    }
+    cubes.len()
+}

@@ -1,0 +1,232 @@
+-- What the gates of a sum show in a run without a fault.
+use Rattle.std.proofs.Common.{◌≡◌, ◌≢◌, ℕ, zero, suc, ◌+◌, ◌-◌, ◌<◌, ◌≤◌, Bool, true, false, not, ◌&&◌, ◌||◌, cond, inl, inr, List, [], ◌∷◌, ◌++◌, length, map, refl, sym, ap, ap₂, ◌∙◌, subst, arith, eqb, eq-eqb, ne_eqb, append-nil, append_assoc, length-append, add-zero}
+use Rattle.std.specs.Prelude.{None, slice_index}
+use Rattle.std.specs.List.{list_any, list_all, AllByRecursion, position_or_len}
+use Rattle.std.proofs.lemmas.Bool.{cases_Bool, cases_eq, false≢true, and_parts, and_from, or_cases, or_left, or_right}
+use Rattle.std.proofs.lemmas.List.Folds.{list_all-map}
+use Rattle.ae_base.specs.Mask.{Set, differ, has, either, members}
+use Rattle.ae_base.specs.Cube.{Product, IsProduct, holds, meet}
+use Rattle.ae_base.proofs.Elements.{all_at, all_from_members}
+use Rattle.ae_base.proofs.Meets.{meets}
+use Rattle.ae_base.proofs.Members.{members-has}
+use Rattle.ae_base.proofs.Sets.{has-either}
+use Rattle.ae_base.proofs.Truth.{same_truth, differ-assoc, differ-false, not_both}
+use Rattle.ae_net.specs.Run.{value_of}
+use Rattle.factor.specs.declared.cells.Cell.{Cell}
+use Rattle.factor.specs.declared.cells.Cell.TheVariants.{Zero, One, Inverter, Buffer, And, Exor, Or}
+use Rattle.factor.specs.declared.cells.Factor.{Factor}
+use Rattle.factor.specs.declared.cells.Wires.{Wires}
+use Rattle.factor.specs.declared.literals.Literal.{Literal}
+use Rattle.factor.specs.Cells.{Part, Parts, literal_signal, literal_signals, product_of, are_excluded, join, joins, last_of, chain_of, closing, turned_by, parts, sum_part, output_cells}
+use Rattle.factor.specs.Literals.{stands}
+use Rattle.factor.specs.Seen.{EachLiteral}
+use Rattle.factor.specs.Sums.{Summands, has_constant, sum_value}
+use Rattle.factor.specs.Sums.Summands.{end, literals, factored}
+use Rattle.factor.proofs.Sizes.{literals_part, factored_part, parts-end, parts-literals, parts-factored, sum_part-is, closing_some, length-joins}
+use Rattle.factor.proofs.Standing.{lit, literal_value, literal_holds, holds_literals}
+use Rattle.factor.proofs.Wired.{EachFactor, Wired, Ready}
+
+-- ---- gates
+
+-- the value of a gate where the signals have these values
+abbrev pub cell_value : List Bool → Cell → Bool
+cell_value v Zero = false
+cell_value v One = true
+cell_value v (Inverter a) = not (value_of v a)
+cell_value v (Buffer a) = value_of v a
+cell_value v (And pins) = list_all (λ s. value_of v s) pins
+cell_value v (Exor a b) = differ (value_of v a) (value_of v b)
+cell_value v (Or a b) = value_of v a || value_of v b
+
+-- each gate of the list, the first of which has the signal s, has its value
+abbrev pub EachCell : List Bool → ℕ → List Cell → Type 0
+EachCell v s [] = Unit {0}
+EachCell v s (cell ∷ cells) = (value_of v s ≡ cell_value v cell) × EachCell v (suc s) cells
+
+pub EachCell-append : (v : List Bool) (s : ℕ) (a b : List Cell) → EachCell v s (a ++ b) → EachCell v s a × EachCell v (s + length a) b
+EachCell-append v s [] b h = (tt, let z : s + 0 ≡ s = omega arith in subst (λ k. EachCell v k b) (sym z) h)
+EachCell-append v s (c ∷ a) b (h, hs) =
+    let both = EachCell-append v (suc s) a b hs in
+    let z : s + suc (length a) ≡ suc s + length a = omega arith in
+    ((h, both.0), subst (λ k. EachCell v k b) (sym z) both.1)
+
+-- ---- literals
+
+-- each literal that has a signal shows its value at the point
+abbrev pub LiteralsShow : Wires → List Bool → Set → Type 0
+LiteralsShow w v x = (u : Literal) → Wired w u → value_of v (literal_signal w u.plain u.input) ≡ literal_value u x
+
+literal_sign : (w : Wires) (v : List Bool) (c : Product) (j : ℕ) (b : Bool) → IsProduct c → stands (lit j b) c ≡ true → value_of v (literal_signal w (has c.pos j) j) ≡ value_of v (literal_signal w b j)
+literal_sign w v c j true product m = ap (λ p. value_of v (literal_signal w p j)) m
+literal_sign w v c j false product m = ap (λ p. value_of v (literal_signal w p j)) (not_both (has c.pos j) (has c.neg j) (product j) m)
+
+pub product_shows : (w : Wires) (v : List Bool) (x : Set) (c : Product) → LiteralsShow w v x → IsProduct c → ((u : Literal) → stands u c ≡ true → Wired w u) → list_all (λ s. value_of v s) (literal_signals w c) ≡ holds c x
+unfolding literal_signals
+product_shows w v x c show product wired =
+    list_all-map (λ s. value_of v s) (λ j. literal_signal w (has c.pos j) j) (members (either c.pos c.neg))
+    ∙ same_truth _ _
+    (λ h. holds_literals c x (λ u m. sym (show u (wired u m)) ∙ sym (literal_sign w v c u.input u.plain product m) ∙ all_at (λ j. value_of v (literal_signal w (has c.pos j) j)) u.input (members (either c.pos c.neg)) (members-has (either c.pos c.neg) u.input ∙ is_member u m) h))
+    (λ h. all_from_members (λ j. value_of v (literal_signal w (has c.pos j) j)) (members (either c.pos c.neg)) (λ j m. by j (sym (has-either c.pos c.neg j) ∙ sym (members-has (either c.pos c.neg) j) ∙ m) h))
+  where
+    is_member : (u : Literal) → stands u c ≡ true → has (either c.pos c.neg) u.input ≡ true
+    is_member u m = has-either c.pos c.neg u.input ∙ by_sign u.plain m
+      where
+        by_sign : (b : Bool) → cond b (has c.pos u.input) (has c.neg u.input) ≡ true → (has c.pos u.input || has c.neg u.input) ≡ true
+        by_sign true k = or_left _ _ k
+        by_sign false k = or_right _ _ k
+
+    at : (j : ℕ) (b : Bool) → stands (lit j b) c ≡ true → holds c x ≡ true → value_of v (literal_signal w (has c.pos j) j) ≡ true
+    at j b m h = literal_sign w v c j b product m ∙ show (lit j b) (wired (lit j b) m) ∙ literal_holds c x (lit j b) h m
+
+    by : (j : ℕ) → (has c.pos j || has c.neg j) ≡ true → holds c x ≡ true → value_of v (literal_signal w (has c.pos j) j) ≡ true
+    by j e h = elim (or_cases (has c.pos j) (has c.neg j) e) [ inl m ↦ at j true m h | inr m ↦ at j false m h ]
+
+-- ---- joining
+
+-- the EXOR of the summands' signals
+abbrev pub factors_value : List Bool → List Factor → Bool
+factors_value v [] = false
+factors_value v (f ∷ fs) = differ (value_of v f.signal) (factors_value v fs)
+
+-- a summand is 1 only where its direct factors are
+abbrev pub Sound : List Bool → Set → List Factor → Type 0
+Sound v x fs = AllByRecursion (λ f. value_of v f.signal ≡ true → holds f.literals x ≡ true) fs
+
+factors_push : (v : List Bool) (fs : List Factor) (f : Factor) → factors_value v (fs ++ f ∷ []) ≡ differ (factors_value v fs) (value_of v f.signal)
+factors_push v [] f = differ-false (value_of v f.signal)
+factors_push v (e ∷ fs) f = ap (differ (value_of v e.signal)) (factors_push v fs f) ∙ sym (differ-assoc (value_of v e.signal) (factors_value v fs) (value_of v f.signal))
+
+Sound-push : (v : List Bool) (x : Set) (fs : List Factor) (f : Factor) → Sound v x fs → (value_of v f.signal ≡ true → holds f.literals x ≡ true) → Sound v x (fs ++ f ∷ [])
+Sound-push v x [] f h k = (k, tt)
+Sound-push v x (e ∷ fs) f (h, hs) k = (h, Sound-push v x fs f hs k)
+
+-- where a summand is 1 that all earlier ones exclude, these are 0
+excluded_none : (v : List Bool) (x : Set) (earlier : List Factor) (f : Factor) → Sound v x earlier → are_excluded earlier f.literals ≡ true → holds f.literals x ≡ true → factors_value v earlier ≡ false
+excluded_none v x [] f sound apart one = refl
+excluded_none v x (e ∷ es) f (h, hs) apart one =
+    let parts = and_parts _ _ apart in
+    ap₂ differ (low (value_of v e.signal) refl parts.0) (excluded_none v x es f hs parts.1 one)
+  where
+    low : (b : Bool) → value_of v e.signal ≡ b → not (meet e.literals f.literals) ≡ true → b ≡ false
+    low true k other = absurd (false≢true (sym (ap not (meets e.literals f.literals x (h k) one)) ∙ other))
+    low false k other = refl
+
+or_exor : (a b : Bool) → (b ≡ true → a ≡ false) → (a || b) ≡ differ a b
+or_exor true true h = absurd (false≢true (sym (h refl)))
+or_exor true false h = refl
+or_exor false b h = refl
+
+join_value : (v : List Bool) (x : Set) (earlier : List Factor) (line : ℕ) (f : Factor) → Sound v x earlier → (value_of v f.signal ≡ true → holds f.literals x ≡ true) → value_of v line ≡ factors_value v earlier
+    → cell_value v (join earlier line f) ≡ factors_value v (earlier ++ f ∷ [])
+join_value v x earlier line f sound own e = elim (cases_Bool (are_excluded earlier f.literals)) [
+  | inl k ↦ rw k (or_exor (value_of v line) (value_of v f.signal) (λ one. e ∙ excluded_none v x earlier f sound k (own one)) ∙ joined)
+  | inr k ↦ rw k joined
+]
+  where
+    joined : differ (value_of v line) (value_of v f.signal) ≡ factors_value v (earlier ++ f ∷ [])
+    joined = ap (λ a. differ a (value_of v f.signal)) e ∙ sym (factors_push v earlier f)
+
+last_next : (k n : ℕ) (line : ℕ) → last_of (suc k) k n ≡ last_of k line (suc n)
+last_next k n line = elim (cases_eq n 0) [
+  | inl e ↦ rw (eq-eqb n 0 e, ne_eqb (suc n) 0 (λ z. absurd (omega (arith, z)))) (omega (arith, e))
+  | inr some ↦ rw (ne_eqb n 0 some, ne_eqb (suc n) 0 (λ z. absurd (omega (arith, z)))) (omega (arith, some))
+]
+
+joins_value : (v : List Bool) (x : Set) (k line : ℕ) (earlier fs : List Factor) → EachCell v k (joins k line earlier fs) → Sound v x earlier → Sound v x fs → value_of v line ≡ factors_value v earlier
+    → value_of v (last_of k line (length fs)) ≡ factors_value v (earlier ++ fs)
+joins_value v x k line earlier [] cells sound all e = e ∙ ap (factors_value v) (sym (append-nil earlier))
+joins_value v x k line earlier (f ∷ fs) (cell, cells) sound (own, all) e =
+    ap (value_of v) (sym (last_next k (length fs) line))
+    ∙ joins_value v x (suc k) k (earlier ++ f ∷ []) fs cells (Sound-push v x earlier f sound own) all (cell ∙ join_value v x earlier line f sound own e)
+    ∙ ap (factors_value v) (append_assoc earlier (f ∷ []) fs)
+
+closing_value : (v : List Bool) (x : Set) (k : ℕ) (constant : Bool) (fs : List Factor) → EachCell v k (closing k constant fs).cells → Sound v x fs → value_of v (closing k constant fs).signal ≡ differ (factors_value v fs) constant
+closing_value v x k true [] (cell, none) sound = cell
+closing_value v x k false [] (cell, none) sound = cell
+closing_value v x k constant (f ∷ fs) cells sound =
+    rw (closing_some k constant (f ∷ fs) (omega arith)) (by constant (rw (closing_some k constant (f ∷ fs) (omega arith)) at cells))
+  where
+    chain : List Cell → Type 0
+    chain cs = EachCell v k cs → value_of v (last_of k f.signal (length fs)) ≡ factors_value v (f ∷ fs)
+
+    joined : chain (joins k f.signal (f ∷ []) fs)
+    joined cs = joins_value v x k f.signal (f ∷ []) fs cs (sound.0, tt) sound.1 (sym (differ-false (value_of v f.signal)))
+
+    by : (b : Bool) → EachCell v k (turned_by b k (chain_of k (f ∷ fs))).cells → value_of v (turned_by b k (chain_of k (f ∷ fs))).signal ≡ differ (factors_value v (f ∷ fs)) b
+    by true cs =
+        let both = EachCell-append v k (joins k f.signal (f ∷ []) fs) (Inverter (last_of k f.signal (length fs)) ∷ []) cs in
+        both.1.0 ∙ ap not (joined both.0) ∙ differ_true_right (factors_value v (f ∷ fs))
+      where
+        differ_true_right : (a : Bool) → not a ≡ differ a true
+        differ_true_right true = refl
+        differ_true_right false = refl
+    by false cs = joined cs ∙ sym (differ-false (factors_value v (f ∷ fs)))
+
+-- ---- sums
+
+-- the gates of the summands show what the summands are
+pub record Shown (v : List Bool) (x : Set) (p : Parts) (s : Summands) : Type 0 where
+  pub sound : Sound v x p.factors
+  pub value : differ (factors_value v p.factors) (has_constant s) ≡ sum_value s x
+
+pub sum_shows : (w : Wires) (v : List Bool) (x : Set) (k : ℕ) (s : Summands) → Shown v x (parts w k s) s → EachCell v (k + length (parts w k s).cells) (closing (k + length (parts w k s).cells) (has_constant s) (parts w k s).factors).cells
+    → value_of v (sum_part w k s).signal ≡ sum_value s x
+sum_shows w v x k s shown cells = ap (λ (p : Part). value_of v p.signal) (sum_part-is w k s) ∙ closing_value v x (k + length (parts w k s).cells) (has_constant s) (parts w k s).factors cells shown.sound ∙ shown.value
+
+all_one : (v : List Bool) (signals : List ℕ) → eqb (length signals) 1 ≡ true → value_of v (slice_index signals 0) ≡ list_all (λ s. value_of v s) signals
+all_one v [] h = absurd (false≢true h)
+all_one v (s ∷ []) h = sym (and_true (value_of v s))
+  where
+    and_true : (a : Bool) → (a && true) ≡ a
+    and_true true = refl
+    and_true false = refl
+all_one v (s ∷ r ∷ ss) h = absurd (false≢true (sym (ne_eqb (suc (suc (length ss))) 1 (λ e. absurd (omega (arith, e)))) ∙ h))
+
+product_value : (v : List Bool) (k : ℕ) (signals : List ℕ) → EachCell v k (product_of k signals).cells → value_of v (product_of k signals).signal ≡ list_all (λ s. value_of v s) signals
+product_value v k signals = elim (cases_Bool (eqb (length signals) 1)) [ inl e ↦ rw e (λ cells. all_one v signals e) | inr e ↦ rw e (λ cells. cells.0) ]
+
+all_append : (v : List Bool) (a : List ℕ) (s : ℕ) → list_all (λ t. value_of v t) (a ++ s ∷ []) ≡ (list_all (λ t. value_of v t) a && value_of v s)
+all_append v [] s = and_true (value_of v s)
+  where
+    and_true : (a : Bool) → (a && true) ≡ a
+    and_true true = refl
+    and_true false = refl
+all_append v (t ∷ a) s = ap (λ b. value_of v t && b) (all_append v a s) ∙ assoc (value_of v t) (list_all (λ r. value_of v r) a) (value_of v s)
+  where
+    assoc : (a b c : Bool) → (a && (b && c)) ≡ ((a && b) && c)
+    assoc true b c = refl
+    assoc false b c = refl
+
+pub parts_show : (w : Wires) (v : List Bool) (x : Set) (k : ℕ) (s : Summands) → LiteralsShow w v x → EachFactor IsProduct s → EachLiteral (Wired w) s → EachCell v k (parts w k s).cells → Shown v x (parts w k s) s
+parts_show w v x k (end b) show product wired cells = rw (parts-end w k b) (record { sound = tt; value = refl })
+parts_show w v x k (literals ls rest) show product wired cells =
+    let part = literals_part w k ls in
+    let next = k + length part.cells in
+    let both = EachCell-append v k part.cells (parts w next rest).cells (rw (parts-literals w k ls rest) at cells) in
+    let later = parts_show w v x next rest show product.1 wired.1 both.1 in
+    let own : value_of v part.signal ≡ holds ls x = product_value v k (literal_signals w ls) both.0 ∙ product_shows w v x ls show product.0 wired.0 in
+    rw (parts-literals w k ls rest) (record {
+      sound = ((λ one. sym own ∙ one), later.sound);
+      value = differ-assoc (value_of v part.signal) (factors_value v (parts w next rest).factors) (has_constant rest) ∙ ap₂ differ own later.value;
+    })
+parts_show w v x k (factored ls inner rest) show product wired cells =
+    let part = factored_part w k ls inner in
+    let next = k + length part.cells in
+    let both = EachCell-append v k part.cells (parts w next rest).cells (rw (parts-factored w k ls inner rest) at cells) in
+    let own = EachCell-append v k (sum_part w k inner).cells (And (literal_signals w ls ++ (sum_part w k inner).signal ∷ []) ∷ []) both.0 in
+    let deeper = EachCell-append v k (parts w k inner).cells _ (rw (sum_part-is w k inner) at own.0) in
+    let shown = parts_show w v x k inner show product.1 wired.1 deeper.0 in
+    let line : value_of v (sum_part w k inner).signal ≡ sum_value inner x = sum_shows w v x k inner shown deeper.1 in
+    let later = parts_show w v x next rest show product.2 wired.2 both.1 in
+    let value : value_of v part.signal ≡ (holds ls x && sum_value inner x) =
+    own.1.0 ∙ all_append v (literal_signals w ls) (sum_part w k inner).signal ∙ ap₂ (λ a b. a && b) (product_shows w v x ls show product.0 wired.0) line in
+    rw (parts-factored w k ls inner rest) (record {
+      sound = ((λ one. (and_parts _ _ (sym value ∙ one)).0), later.sound);
+      value = differ-assoc (value_of v part.signal) (factors_value v (parts w next rest).factors) (has_constant rest) ∙ ap₂ differ value later.value;
+    })
+
+-- so the gates of a sum show its value
+pub part_shows : (w : Wires) (v : List Bool) (x : Set) (k : ℕ) (s : Summands) → LiteralsShow w v x → Ready w s → EachCell v k (sum_part w k s).cells → value_of v (sum_part w k s).signal ≡ sum_value s x
+part_shows w v x k s show ready cells =
+    let both = EachCell-append v k (parts w k s).cells _ (rw (sum_part-is w k s) at cells) in
+    sum_shows w v x k s (parts_show w v x k s show ready.products ready.wired both.0) both.1

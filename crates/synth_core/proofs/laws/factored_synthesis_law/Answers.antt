@@ -1,0 +1,16 @@
+use Rattle.std.proofs.Common.{◌≤◌, length, ap, sym, ◌∙◌, arith}
+use Rattle.std.proofs.lemmas.List.{length-map}
+use Rattle.factor.specs.Factored.{network_of}
+use Rattle.synth_core.specs.Made.{names_of}
+use Rattle.synth_core.proofs.Filed.{is_valid_factored, factored_inputs, factored_outputs}
+use Rattle.synth_core.proofs.Factored.{is_factored}
+use Rattle.synth_core.proofs.laws.factored_synthesis_law.Goals as goal
+
+pub returns-clause-valid : goal.returns-clause-valid
+returns-clause-valid c names p cubes n signs same is = is_valid_factored names p cubes n signs same is
+
+pub returns-clause-made : goal.returns-clause-made
+returns-clause-made c s e cubes n summary are signs rewritten net numbers =
+    let keeps = c.said_law.ensures.written n net.valid (factored_inputs (names_of s) cubes n net) (factored_outputs (names_of s) cubes n net) in
+    is_factored s e are cubes n rewritten net c.expansion_law.ensures.meaning
+    (is_valid_factored (names_of s) e.polarity cubes n signs (sym rewritten.inputs) net) (c.said_again.ensures n net.valid keeps) c.lead_law.ensures.least summary numbers

@@ -1,0 +1,133 @@
+//! The vector files of networks.
+ghost use Rattle.std.specs.Prelude.{◌≡◌, ◌≤◌, ◌++◌, [], IfOk, OnOk, length, map};
+ghost use Rattle.ae_base.specs.declared.limits.TheConstants.{SOURCE_LINES};
+ghost use Rattle.cascade.specs.declared.limits.TheConstants.{REDDY_TERMS};
+ghost use Rattle.cascade.specs.Reddy.{reddy_net};
+ghost use Rattle.cascade.specs.Shows.{Fits};
+ghost use Rattle.expansion.specs.Terms.{cost};
+ghost use Rattle.synth_core.specs.Made.{lines_from};
+ghost use Rattle.synth_core.specs.Steps as spec;
+ghost use Rattle.synth_core.specs.Steps.{AreReady, file_over, vectors_of};
+ghost use Rattle.vec_text.specs.declared.file.Form.TheVariants.{Reddy};
+ghost use Rattle.vec_text.specs.VectorFile.{IsValidVectorFile};
+
+use crate::laws::synthesis_law;
+use ae_base::{Cube, Memory, Name, Point, Polarity, Seq, copies};
+use ae_net::{Net, NetNames, answer, scratch_for};
+use esop::Esop;
+use expansion::Expansion;
+use input_tests::cascade_vectors;
+use std::alloc::Global;
+use vec_text::{EsopLine, Form, VecFile, Vector};
+
+/// Each point with the network's fault-free outputs there.
+fn responses(alloc: Global, net: &Net, points: &[Point]) -> Result<Seq<Vector>, Memory>
+    ensures { IfOk result (λ vectors. vectors ≡ vectors_of net.now points.now) }
+{
+    let mut scratch = scratch_for(alloc, net)?;
+    let mut vectors = Seq::new(alloc);
+    for point in points {
+        let outs = answer(net, None, *point, &mut scratch);
+        vectors.push(Vector {
+            point: *point,
+            outs,
+        })?;
+    }
+    Ok(vectors)
+}
+
+/// The vector file of a network in Reddy form over these points.
+fn vector_file(
+    alloc: Global,
+    net: &Net,
+    outputs: &[Name],
+    polarity: Polarity,
+    points: &[Point],
+) -> Result<VecFile, Memory>
+    requires { IsValidVectorFile (file_over Reddy net.now outputs.now polarity [] points.now) }
+    ensures { IfOk result (λ file. file ≡ file_over Reddy net.now outputs.now polarity [] points.now) }
+{
+    let inputs = copies(alloc, net.inputs())?;
+    let outputs = copies(alloc, outputs)?;
+    let vectors = responses(alloc, net, points)?;
+    Ok(VecFile {
+        form: Form::Reddy,
+        inputs,
+        outputs,
+        polarity,
+        esop: Seq::new(alloc),
+        vectors,
+        unchanged: Seq::new(alloc),
+    })
+}
+
+/// The vector file of the Reddy network of expansions over the vectors of the cascade.
+pub fn reddy_file(
+    alloc: Global,
+    names: &NetNames,
+    e: &Expansion,
+    net: &Net,
+) -> Result<VecFile, Memory>
+    requires net { net.now ≡ reddy_net names.now e.now }
+    requires fits { Fits names.now e.now }
+    requires cheap { cost e.now ≤ REDDY_TERMS }
+    ensures file { IfOk result (λ file. file ≡ spec.reddy_file names.now e.now) }
+    ensures ready { IfOk result (λ _. AreReady names.now e.now) }
+{
+    let points = cascade_vectors(alloc, e)?;
+    synthesis_law();
+    vector_file(alloc, net, names.outputs(), e.polarity(), &points)
+}
+
+/// Appends the cubes of an output.
+fn push_cubes(lines: &mut Seq<EsopLine>, output: u32, cubes: &[Cube]) -> Result<(), Memory>
+    ensures { OnOk result (lines.new ≡ lines.old ++ map (λ c. record { output = output; cube = c }) cubes.now) }
+{
+    for cube in cubes {
+        lines.push(EsopLine {
+            output,
+            cube: *cube,
+        })?;
+    }
+    Ok(())
+}
+
+/// The cubes of each output in order.
+fn esop_lines(alloc: Global, esop: &Esop) -> Result<Seq<EsopLine>, Memory>
+    requires { length esop.now.outs ≤ SOURCE_LINES }
+    ensures { IfOk result (λ lines. lines ≡ lines_from 0 esop.now.outs) }
+{
+    let mut lines = Seq::new(alloc);
+    let mut output = 0;
+    for cubes in esop.lists() {
+        push_cubes(&mut lines, output, cubes.as_slice())?;
+        output += 1;
+    }
+    Ok(lines)
+}
+
+/// The vector file of a factored network of cubes. It has no vectors yet.
+pub fn factored_file(
+    alloc: Global,
+    names: &NetNames,
+    polarity: Polarity,
+    esop: &Esop,
+    net: &Net,
+) -> Result<VecFile, Memory>
+    requires valid { IsValidVectorFile (spec.factored_file names.now polarity esop.now net.now) }
+    requires few { length esop.now.outs ≤ SOURCE_LINES }
+    ensures { IfOk result (λ file. file ≡ spec.factored_file names.now polarity esop.now net.now) }
+{
+    let inputs = copies(alloc, net.inputs())?;
+    let outputs = copies(alloc, names.outputs())?;
+    let esop = esop_lines(alloc, esop)?;
+    Ok(VecFile {
+        form: Form::Factored,
+        inputs,
+        outputs,
+        polarity,
+        esop,
+        vectors: Seq::new(alloc),
+        unchanged: Seq::new(alloc),
+    })
+}
