@@ -68,7 +68,8 @@ fn push_net(alloc: Global, out: &mut Vec<u8>, summary: &Summary) -> Result<(), M
     push_count(alloc, out, b"gates", summary.gates)?;
     push_count(alloc, out, b"faults", summary.faults)?;
     push_count(alloc, out, b"vectors", summary.vectors)?;
-    push_unchanged(alloc, out, summary)
+    push_unchanged(alloc, out, summary)?;
+    Ok(())
 }
 
 /// Writes the lines of the numbers.
@@ -78,7 +79,8 @@ fn push_counts(alloc: Global, out: &mut Vec<u8>, summary: &Summary) -> Result<()
     line_law();
     push_count(alloc, out, b"terms", summary.terms)?;
     push_cubes(alloc, out, summary)?;
-    push_net(alloc, out, summary)
+    push_net(alloc, out, summary)?;
+    Ok(())
 }
 
 /// The report of a synthesis.

@@ -148,7 +148,12 @@ fn polarity_option(words: &[String]) -> Option<(Choice, &[String])>
 }
 
 /// The settings of a kind, a form and a polarity, where no words are left.
-fn settings_with(kind: SourceKind, form: Form, polarity: Choice, rest: &[String]) -> Option<Settings>
+fn settings_with(
+    kind: SourceKind,
+    form: Form,
+    polarity: Choice,
+    rest: &[String],
+) -> Option<Settings>
     ensures { result ≡ spec.settings_with kind form (Some (polarity, map string_bytes rest.now)) }
 {
     match rest {

@@ -5,4 +5,13 @@ use Rattle.synth_cmd.specs.Lines.{unchanged_lines}
 use Rattle.synth_cmd.proofs.report.push_net.Goals as goal
 
 pub returns : goal.returns
-returns c = ?
+returns c =
+    let s = c.args.summary.now in
+    let gates = (codes "gates" ∷ decimal s.gates ∷ []) ∷ [] in
+    let faults = (codes "faults" ∷ decimal s.faults ∷ []) ∷ [] in
+    let vectors = (codes "vectors" ∷ decimal s.vectors ∷ []) ∷ [] in
+    c.line_law.ensures.more c.args.out.now.items c.push_count.new.out.items c.push_unchanged.new.out.items gates ((codes "faults" ∷ decimal s.faults ∷ []) ∷ (codes "vectors" ∷ decimal s.vectors ∷ []) ∷ unchanged_lines s.form s)
+    c.in_ok-push_count.ensures
+    (c.line_law.ensures.more c.push_count.new.out.items c.push_count-2.new.out.items c.push_unchanged.new.out.items faults ((codes "vectors" ∷ decimal s.vectors ∷ []) ∷ unchanged_lines s.form s)
+    c.in_ok-push_count-2.ensures
+    (c.line_law.ensures.more c.push_count-2.new.out.items c.push_count-3.new.out.items c.push_unchanged.new.out.items vectors (unchanged_lines s.form s) c.in_ok-push_count-3.ensures c.in_ok-push_unchanged.ensures))
