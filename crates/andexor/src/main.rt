@@ -7,6 +7,7 @@ ghost use Rattle.std.specs.Prelude.{◌≡◌};
 mod tests;
 
 use ae_outside::{HostFiles, HostSink, put_all};
+use polarity::{Advisor, Negative, Walker};
 use std::alloc::{AllocError, Global};
 use std::process::ExitCode;
 use std::{env, io};
@@ -31,7 +32,18 @@ fn tell_memory(rt: HostRuntime) -> u8
     MEMORY
 }
 
-/// Does what the words ask for, over the host's files and its standard output.
+/// The seed of the walk through polarities, and how many it proposes.
+const WALK: (u32, u32) = (1, 16);
+
+/// The advisors of a search: the polarity of all complements, and a walk.
+fn own_advisors(alloc: Global) -> Result<Vec<Box<dyn Advisor>>, AllocError> {
+    let mut advisors: Vec<Box<dyn Advisor>> = Vec::new(alloc);
+    advisors.push(Box::new(alloc, Negative::new(alloc))?)?;
+    advisors.push(Box::new(alloc, Walker::new(alloc, WALK.0, WALK.1))?)?;
+    Ok(advisors)
+}
+
+/// Does what the words ask for, over the host's files and its standard output, with the program's own advisors.
 fn run_words(rt: HostRuntime, words: &[String]) -> u8 {
     let alloc = rt.alloc();
     let Ok(mut files) = HostFiles::new(alloc, rt) else {
@@ -40,7 +52,10 @@ fn run_words(rt: HostRuntime, words: &[String]) -> u8 {
     let Ok(mut report) = HostSink::new(alloc, rt) else {
         return tell_memory(rt);
     };
-    run(alloc, words, &mut files, &mut report)
+    let Ok(mut advisors) = own_advisors(alloc) else {
+        return tell_memory(rt);
+    };
+    run(alloc, words, &mut files, &mut report, &mut advisors)
 }
 
 /// What stands for words that cannot be had: want of memory, or, where a word is no text, no words, which ask for no command.

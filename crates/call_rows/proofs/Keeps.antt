@@ -1,5 +1,5 @@
 -- What the covers and the vector files of tests keep to.
-use Rattle.std.proofs.Common.{◌≡◌, true, ◌&&◌, List, ◌++◌, length, arith}
+use Rattle.std.proofs.Common.{◌≡◌, true, List, ◌++◌, length, arith}
 use Rattle.std.specs.Prelude.{All}
 use Rattle.std.proofs.lemmas.Bool.{and_parts}
 use Rattle.std.proofs.lemmas.List.Elements.{All-weaker}

@@ -1,8 +1,9 @@
 //! Expansions, and their cost.
-ghost use Rattle.std.specs.Prelude.{◌≡◌};
+ghost use Rattle.std.specs.Prelude.{◌≡◌, IfOk};
 ghost use Rattle.expansion.specs.Terms.{cost};
 
-use ae_base::{Polarity, Seq, Term};
+use ae_base::{Memory, Polarity, Seq, Term};
+use std::alloc::Global;
 use std::marker::Model;
 
 /// For each output in order the terms whose products have the output as their EXOR, at one polarity. What is asked of it is its
@@ -49,6 +50,20 @@ impl Expansion {
         ensures valid { IsTerms self.now }
     {
         self.polarity.n
+    }
+
+    /// The same lists at the same polarity once more. Where memory runs out, `Memory`.
+    pub fn copy(&self, alloc: Global) -> Result<Expansion, Memory>
+        ensures { IfOk result (λ e. e ≡ self.now) }
+    {
+        let mut outs = Seq::new(alloc);
+        for terms in self.lists() {
+            outs.push(Seq::from_vec(Vec::from_slice(alloc, terms.as_slice())?))?;
+        }
+        Ok(Expansion {
+            polarity: self.polarity,
+            outs,
+        })
     }
 }
 

@@ -1,6 +1,5 @@
 -- Products whose literals are cut to the first n inputs, the plain ones before the complemented.
-use Rattle.std.proofs.Common.{◌≡◌, ℕ, Bool, true, false, ◌&&◌, List, ◌∷◌, [], ◌++◌, refl, sym, ap, ◌∙◌}
-use Rattle.std.specs.Prelude.{All}
+use Rattle.std.proofs.Common.{◌≡◌, ℕ, Bool, true, false, ◌&&◌, refl, sym, ap, ◌∙◌}
 use Rattle.std.proofs.lemmas.Bool.{and_parts}
 use Rattle.ae_base.specs.Mask.{Set, differ, has, both, xor, first}
 use Rattle.ae_base.specs.Cube.{IsOver}

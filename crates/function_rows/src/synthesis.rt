@@ -23,7 +23,7 @@ fn positive(alloc: Global, kind: SourceKind, bytes: &[u8]) -> Result<Made, Synth
         form: Form::Reddy,
         polarity: Choice::Positive,
     };
-    synthesise(alloc, bytes, &settings)
+    synthesise(alloc, bytes, &settings, &mut Vec::new(alloc))
 }
 
 fn has_its_numbers(summary: Summary) -> bool {

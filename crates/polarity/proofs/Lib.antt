@@ -1,4 +1,5 @@
 pub mod Asked
 pub mod Costs
+pub mod OneChoice
 pub mod Rounds
 pub mod Seams

@@ -16,7 +16,7 @@ mod walker;
 pub use advisor::Advisor;
 pub use asking::choose;
 pub use entry::{Entry, Told};
-pub use laws::cost_law;
+pub use laws::{choice_law, cost_law};
 pub use listed::Listed;
 pub use maker::Maker;
 pub use negative::Negative;

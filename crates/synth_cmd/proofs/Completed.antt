@@ -97,10 +97,10 @@ module _ (apart : (settings : Settings) (bytes : List ℕ) (output : ℕ) → Is
         not_long told.0 told.1 (source_long told.0 name told.1 named long) bytes was.was
 
     -- what was made of a text was made of this one
-    made_within : (texts : Texts) → IsMadeOf settings Was texts → IsWithin settings bytes
+    made_within : (texts : Texts) → IsMadeOf settings Was old.advisors new.advisors texts → IsWithin settings bytes
     made_within texts of = subst (λ b. IsWithin settings b) (was.only of.bytes of.was) of.is_made.within
 
-    made_no_fault : (texts : Texts) (line : ℕ) (what : TextFault) → source_says settings.kind bytes ≡ Err (line, what) → IsMadeOf settings Was texts → ⊥
+    made_no_fault : (texts : Texts) (line : ℕ) (what : TextFault) → source_says settings.kind bytes ≡ Err (line, what) → IsMadeOf settings Was old.advisors new.advisors texts → ⊥
     made_no_fault texts line what says of = let both = sym says ∙ (made_within texts of).expanded.says in cc both
 
     -- ---- the source has a fault

@@ -9,7 +9,7 @@ use Rattle.ae_base.specs.declared.limits.TheConstants.{SOURCE_LINES}
 use Rattle.synth_core.specs.declared.settings.Choice.{Choice}
 use Rattle.synth_core.specs.declared.settings.SourceKind.{SourceKind}
 use Rattle.synth_core.specs.declared.settings.SourceKind.TheVariants.{Pla, Blif}
-use Rattle.synth_core.specs.declared.settings.Choice.TheVariants.{Positive, Given}
+use Rattle.synth_core.specs.declared.settings.Choice.TheVariants.{Positive, Search, Given}
 use Rattle.synth_core.specs.declared.settings.Settings.{Settings}
 use Rattle.vec_text.specs.declared.file.Form.TheVariants.{Reddy}
 
@@ -34,7 +34,8 @@ bits_of word =
 
 -- the choice of a polarity that a word names
 abbrev pub choice_of : List ℕ → Option Choice
-choice_of word = if bytes_eq word (codes "positive") then Some Positive else option_map (λ p. Given p) (bits_of word)
+choice_of word =
+    if bytes_eq word (codes "positive") then Some Positive else if bytes_eq word (codes "search") then Some Search else option_map (λ p. Given p) (bits_of word)
 
 -- What an option's word says where the words begin with it, else what is usual; with the words that are left.
 abbrev pub option_at : {X : Type 0} → List ℕ → (List ℕ → Option X) → X → List (List ℕ) → Option (X × List (List ℕ))

@@ -4,9 +4,11 @@ use Rattle.std.specs.List.{zip}
 use Rattle.ae_base.specs.declared.limits.TheConstants.{TEXT_BYTES}
 use Rattle.ae_outside.specs.Counts.{Tally, Rose, RoseAt}
 use Rattle.ae_outside.specs.Files.{Shelf, bytes_of, written, added, IsWrittenInPart, TookFront}
+use Rattle.polarity.specs.Search.{Advised}
 use Rattle.synth_core.specs.Asked.{HasOtherCount, HasTooMany}
 use Rattle.synth_core.specs.Made.{IsMade, Texts}
 use Rattle.synth_core.specs.Says.{source_says}
+use Rattle.synth_core.specs.Searched.{AdvisorsStand}
 use Rattle.synth_core.specs.declared.settings.Settings.{Settings}
 use Rattle.synth_cmd.specs.Asked.{Asked}
 use Rattle.synth_cmd.specs.Asked.Asked.{Refused, Synth}
@@ -60,11 +62,11 @@ pub record StopsAt (name : List ℕ) (files : List (List ℕ × List ℕ)) (old 
 
 -- ---- how far a synthesis comes
 
--- The texts were made of the bytes that the source was.
-pub record IsMadeOf (settings : Settings) (Was : List ℕ → Type 0) (texts : Texts) : Type 0 where
+-- The texts were made of the bytes that the source was, by what the advisors were before and are after.
+pub record IsMadeOf (settings : Settings) (Was : List ℕ → Type 0) (before after : List Advised) (texts : Texts) : Type 0 where
   pub bytes : List ℕ
   pub was : Was bytes
-  pub is_made : IsMade settings bytes texts
+  pub is_made : IsMade settings bytes before after texts
 
 -- the texts with the names that they are written to, in order
 abbrev pub files_of : List (List ℕ) → Texts → List (List ℕ × List ℕ)
@@ -88,8 +90,8 @@ Cause settings Was held before now name (TooManyTerms output) = (bytes : List �
 abbrev pub Stands : Settings → (List ℕ → Type 0) → (reads writes : List (List ℕ)) → (old new : Outside) → Stage → Type 0
 Stands settings Was reads writes old new (Refuses name refusal) = Contains reads name × Cause settings Was old.held old.reads new.reads name refusal × (new.held ≡ old.held)
 Stands settings Was reads writes old new (Fails name texts) =
-    Contains writes name × RoseAt name old.writes new.writes × IsMadeOf settings Was texts × StopsAt name (files_of writes texts) old.held new.held
-Stands settings Was reads writes old new (Writes texts) = IsMadeOf settings Was texts × (new.held ≡ all_written old.held (files_of writes texts))
+    Contains writes name × RoseAt name old.writes new.writes × IsMadeOf settings Was old.advisors new.advisors texts × StopsAt name (files_of writes texts) old.held new.held
+Stands settings Was reads writes old new (Writes texts) = IsMadeOf settings Was old.advisors new.advisors texts × (new.held ≡ all_written old.held (files_of writes texts))
 
 -- what is told at a stage
 abbrev pub text_at : Stage → List ℕ
@@ -111,17 +113,19 @@ Answers (Writes texts) old new status =
 pub data Ending (settings : Settings) (Was : List ℕ → Type 0) (reads writes : List (List ℕ)) (old new : Outside) (status : ℕ) : Type 0 where
   at_stage : (stage : Stage) → Stands settings Was reads writes old new stage → Answers stage old new status → Ending settings Was reads writes old new status
   untouched : status ≡ MEMORY → new.held ≡ old.held → TookFront memory_line old.taken new.taken → Ending settings Was reads writes old new status
-  in_part : (name : List ℕ) (texts : Texts) → status ≡ MEMORY → IsMadeOf settings Was texts → StopsAt name (files_of writes texts) old.held new.held
+  in_part : (name : List ℕ) (texts : Texts) → status ≡ MEMORY → IsMadeOf settings Was old.advisors new.advisors texts → StopsAt name (files_of writes texts) old.held new.held
       → TookFront memory_line old.taken new.taken → Ending settings Was reads writes old new status
   half_told : (stage : Stage) → status ≡ MEMORY → Stands settings Was reads writes old new stage → MemoryFrom (text_at stage) old new → Ending settings Was reads writes old new status
 
--- how a synthesis ends: each status by its stage, and each cause with its status; no count rises but those of its names and of the report
+-- how a synthesis ends: each status by its stage, and each cause with its status; no count rises but those of its names and of the report,
+-- and no advisor is asked but for a search
 pub record SynthEnds (settings : Settings) (Was : List ℕ → Type 0) (reads writes : List (List ℕ)) (old new : Outside) (status : ℕ) : Type 0 where
   pub ending : Ending settings Was reads writes old new status
   pub complete : IsComplete settings Was reads writes old new status
   pub reads_counted : CountsAmong reads old.reads new.reads
   pub writes_counted : CountsAmong writes old.writes new.writes
   pub faults : old.faults ≤ new.faults
+  pub advisors : AdvisorsStand settings Was old.advisors new.advisors
 
 -- how words end that ask for nothing
 pub record WordsEnd (old new : Outside) (status : ℕ) : Type 0 where
@@ -130,6 +134,7 @@ pub record WordsEnd (old new : Outside) (status : ℕ) : Type 0 where
   pub reads : new.reads ≡ old.reads
   pub writes : new.writes ≡ old.writes
   pub faults : old.faults ≤ new.faults
+  pub advisors : new.advisors ≡ old.advisors
 
 -- how each command ends
 abbrev pub Ends : Asked → (old new : Outside) → (status : ℕ) → Type 0

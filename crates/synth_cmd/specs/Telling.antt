@@ -2,6 +2,7 @@
 use Rattle.std.specs.Prelude.{◌≡◌, ◌⊎◌, ℕ, List, Option}
 use Rattle.ae_outside.specs.Counts.{Rose}
 use Rattle.ae_outside.specs.Files.{Shelf, added, TookFront}
+use Rattle.polarity.specs.Search.{Advised}
 use Rattle.synth_core.specs.Made.{Texts}
 use Rattle.synth_core.specs.declared.settings.Settings.{Settings}
 use Rattle.synth_cmd.specs.Outcome.{Told, TellsMemory, IsMadeOf, StopsAt, all_written, files_of}
@@ -18,12 +19,12 @@ Reports lines old new before now answer =
     ⊎ (((answer ≡ WRITE_FAULT) × Rose before now × TookFront lines old new) ⊎ ((answer ≡ MEMORY) × TellsMemory lines old new))
 
 -- Texts were made, and their writing stopped at a name.
-pub record StopsMade (settings : Settings) (Was : List ℕ → Type 0) (names : List (List ℕ)) (name : List ℕ) (old new : Option Shelf) : Type 0 where
+pub record StopsMade (settings : Settings) (Was : List ℕ → Type 0) (before after : List Advised) (names : List (List ℕ)) (name : List ℕ) (old new : Option Shelf) : Type 0 where
   pub texts : Texts
-  pub is_made : IsMadeOf settings Was texts
+  pub is_made : IsMadeOf settings Was before after texts
   pub stops : StopsAt name (files_of names texts) old new
 
 -- All texts were made and written.
-pub record WritesMade (settings : Settings) (Was : List ℕ → Type 0) (names : List (List ℕ)) (texts : Texts) (old new : Option Shelf) : Type 0 where
-  pub is_made : IsMadeOf settings Was texts
+pub record WritesMade (settings : Settings) (Was : List ℕ → Type 0) (before after : List Advised) (names : List (List ℕ)) (texts : Texts) (old new : Option Shelf) : Type 0 where
+  pub is_made : IsMadeOf settings Was before after texts
   pub whole : new ≡ all_written old (files_of names texts)

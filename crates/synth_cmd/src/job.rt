@@ -1,8 +1,10 @@
 //! The files of a synthesis: the source is read, and the network and its vectors are written.
-ghost use Rattle.std.specs.Prelude.{◌≡◌, ◌⊎◌, ℕ, List, [], ◌∷◌, IfOk, OnOk, IsErrOf};
+ghost use Rattle.std.specs.Prelude.{◌≡◌, ◌⊎◌, ℕ, List, [], ◌∷◌, IfOk, OnOk, IsErrOf, map};
 ghost use Rattle.ae_outside.specs.Counts.{CountsAt, RoseAt};
 ghost use Rattle.ae_outside.specs.Files.{written, IsWrittenInPart};
+ghost use Rattle.polarity.specs.Search.{advised};
 ghost use Rattle.synth_core.specs.Made.{texts_of};
+ghost use Rattle.synth_core.specs.Searched.{AdvisorsStand};
 ghost use Rattle.synth_cmd.specs.declared.stop.SourceErr.TheVariants as source_err;
 ghost use Rattle.synth_cmd.specs.declared.stop.Stop.TheVariants as stop;
 ghost use Rattle.synth_cmd.specs.Outcome.{Cause, HoldsText, IsMadeOf};
@@ -11,8 +13,10 @@ ghost use Rattle.synth_cmd.specs.Telling.{StopsMade, WritesMade};
 
 use crate::stop::{SourceErr, Stop, TextsErr};
 use crate::tell::Refusal;
+use crate::words::FileNames;
 use ae_base::TEXT_BYTES;
 use ae_outside::{Files, WriteErr, read_whole, write_whole};
+use polarity::Advisor;
 use std::alloc::Global;
 use synth_core::{Made, Settings, synthesise};
 
@@ -33,8 +37,10 @@ fn make<F: Files>(
     files: &mut F,
     settings: &Settings,
     source: &str,
+    advisors: &mut Vec<Box<dyn Advisor>>,
 ) -> Result<Made, SourceErr>
-    ensures made { IfOk result (λ made. IsMadeOf settings.now (HoldsText (F.held files.old) source.now) (texts_of made)) }
+    ensures made { IfOk result (λ made. IsMadeOf settings.now (HoldsText (F.held files.old) source.now) (map (λ b. advised (left b) (log b)) advisors.old.items) (map (λ b. advised (left b) (log b)) advisors.new.items) (texts_of made)) }
+    ensures advisors { AdvisorsStand settings.now (HoldsText (F.held files.old) source.now) (map (λ b. advised (left b) (log b)) advisors.old.items) (map (λ b. advised (left b) (log b)) advisors.new.items) }
     ensures refused { (r : Refusal) → IsErrOf result (source_err.Refused r)
         → Cause settings.now (HoldsText (F.held files.old) source.now) (F.held files.old) (F.read_faults files.old) (F.read_faults files.new) source.now r }
     ensures stays { F.held files.new ≡ F.held files.old }
@@ -42,7 +48,7 @@ fn make<F: Files>(
     ensures writes { F.write_faults files.new ≡ F.write_faults files.old }
 {
     let bytes = read_source(alloc, files, source)?;
-    Ok(synthesise(alloc, &bytes, settings)?)
+    Ok(synthesise(alloc, &bytes, settings, advisors)?)
 }
 
 /// Writes the network's text, and then that of the vectors.
@@ -81,25 +87,29 @@ pub fn synthesise_files<F: Files>(
     alloc: Global,
     files: &mut F,
     settings: &Settings,
-    source: &str,
-    net: &str,
-    vectors: &str,
+    names: &FileNames<'_>,
+    advisors: &mut Vec<Box<dyn Advisor>>,
 ) -> Result<Made, Stop>
-    ensures done { IfOk result (λ made. WritesMade settings.now (HoldsText (F.held files.old) source.now) (net.now ∷ vectors.now ∷ []) (texts_of made) (F.held files.old) (F.held files.new)) }
+    ensures done { IfOk result (λ made. WritesMade settings.now (HoldsText (F.held files.old) names.now.source.now) (map (λ b. advised (left b) (log b)) advisors.old.items) (map (λ b. advised (left b) (log b)) advisors.new.items)
+        (names.now.net.now ∷ names.now.vectors.now ∷ []) (texts_of made) (F.held files.old) (F.held files.new)) }
     ensures refused { (r : Refusal) → IsErrOf result (stop.Refused r)
-        → Cause settings.now (HoldsText (F.held files.old) source.now) (F.held files.old) (F.read_faults files.old) (F.read_faults files.new) source.now r }
+        → Cause settings.now (HoldsText (F.held files.old) names.now.source.now) (F.held files.old) (F.read_faults files.old) (F.read_faults files.new) names.now.source.now r }
     ensures refused_stays { (r : Refusal) → IsErrOf result (stop.Refused r) → F.held files.new ≡ F.held files.old }
-    ensures net_fault { IsErrOf result stop.NetFault → RoseAt net.now (F.write_faults files.old) (F.write_faults files.new) }
-    ensures net_stops { IsErrOf result stop.NetFault → StopsMade settings.now (HoldsText (F.held files.old) source.now) (net.now ∷ vectors.now ∷ []) net.now (F.held files.old) (F.held files.new) }
-    ensures vectors_fault { IsErrOf result stop.VectorsFault → RoseAt vectors.now (F.write_faults files.old) (F.write_faults files.new) }
-    ensures vectors_stop { IsErrOf result stop.VectorsFault → StopsMade settings.now (HoldsText (F.held files.old) source.now) (net.now ∷ vectors.now ∷ []) vectors.now (F.held files.old) (F.held files.new) }
+    ensures net_fault { IsErrOf result stop.NetFault → RoseAt names.now.net.now (F.write_faults files.old) (F.write_faults files.new) }
+    ensures net_stops { IsErrOf result stop.NetFault → StopsMade settings.now (HoldsText (F.held files.old) names.now.source.now) (map (λ b. advised (left b) (log b)) advisors.old.items) (map (λ b. advised (left b) (log b)) advisors.new.items)
+        (names.now.net.now ∷ names.now.vectors.now ∷ []) names.now.net.now (F.held files.old) (F.held files.new) }
+    ensures vectors_fault { IsErrOf result stop.VectorsFault → RoseAt names.now.vectors.now (F.write_faults files.old) (F.write_faults files.new) }
+    ensures vectors_stop { IsErrOf result stop.VectorsFault → StopsMade settings.now (HoldsText (F.held files.old) names.now.source.now) (map (λ b. advised (left b) (log b)) advisors.old.items) (map (λ b. advised (left b) (log b)) advisors.new.items)
+        (names.now.net.now ∷ names.now.vectors.now ∷ []) names.now.vectors.now (F.held files.old) (F.held files.new) }
     ensures memory { IsErrOf result stop.Memory → (F.held files.new ≡ F.held files.old)
-        ⊎ ((name : List ℕ) × StopsMade settings.now (HoldsText (F.held files.old) source.now) (net.now ∷ vectors.now ∷ []) name (F.held files.old) (F.held files.new)) }
+        ⊎ ((name : List ℕ) × StopsMade settings.now (HoldsText (F.held files.old) names.now.source.now) (map (λ b. advised (left b) (log b)) advisors.old.items) (map (λ b. advised (left b) (log b)) advisors.new.items)
+        (names.now.net.now ∷ names.now.vectors.now ∷ []) name (F.held files.old) (F.held files.new)) }
 
-    ensures reads { CountsAt source.now (F.read_faults files.old) (F.read_faults files.new) }
-    ensures writes { CountsAmong (net.now ∷ vectors.now ∷ []) (F.write_faults files.old) (F.write_faults files.new) }
+    ensures reads { CountsAt names.now.source.now (F.read_faults files.old) (F.read_faults files.new) }
+    ensures writes { CountsAmong (names.now.net.now ∷ names.now.vectors.now ∷ []) (F.write_faults files.old) (F.write_faults files.new) }
+    ensures advisors { AdvisorsStand settings.now (HoldsText (F.held files.old) names.now.source.now) (map (λ b. advised (left b) (log b)) advisors.old.items) (map (λ b. advised (left b) (log b)) advisors.new.items) }
 {
-    let made = make(alloc, files, settings, source)?;
-    write_texts(files, net, vectors, &made)?;
+    let made = make(alloc, files, settings, names.source, advisors)?;
+    write_texts(files, names.net, names.vectors, &made)?;
     Ok(made)
 }

@@ -1,5 +1,7 @@
 //! The top call, and a function for each command.
-ghost use Rattle.std.specs.Prelude.{◌≡◌, ◌≢◌, ◌≤◌, [], ◌∷◌};
+ghost use Rattle.std.specs.Prelude.{◌≡◌, ◌≢◌, ◌≤◌, [], ◌∷◌, map};
+ghost use Rattle.polarity.specs.Search.{advised};
+ghost use Rattle.synth_core.specs.Searched.{AdvisorsStand};
 ghost use Rattle.synth_cmd.specs.Asked.{asked};
 ghost use Rattle.synth_cmd.specs.Headline.{HasHeadline, Holds, Tested};
 ghost use Rattle.synth_cmd.specs.Outcome.{Ending, Ends, HoldsText, SynthEnds, WordsEnd};
@@ -11,6 +13,7 @@ use crate::tell::{finish, refuse, tell, tell_write_fault, want_memory};
 use crate::words::{Command, FileNames, read_command};
 use crate::{DONE, WORDS};
 use ae_outside::{Files, Sink, file_laws};
+use polarity::Advisor;
 use std::alloc::Global;
 use synth_core::{Settings, one_answer_law};
 
@@ -21,28 +24,28 @@ fn synth_work<F: Files, K: Sink>(
     report: &mut K,
     settings: &Settings,
     names: &FileNames<'_>,
+    advisors: &mut Vec<Box<dyn Advisor>>,
 ) -> u8
     requires { names.now.net.now ≢ names.now.vectors.now }
     ensures ending { Ending settings.now (HoldsText (F.held files.old) names.now.source.now) (names.now.source.now ∷ []) (names.now.net.now ∷ names.now.vectors.now ∷ [])
-        (outside F.held F.read_faults F.write_faults K.taken K.faults files.old report.old)
-        (outside F.held F.read_faults F.write_faults K.taken K.faults files.new report.new)
+        (outside F.held F.read_faults F.write_faults K.taken K.faults files.old report.old
+        (map (λ b. advised (left b) (log b)) advisors.old.items))
+        (outside F.held F.read_faults F.write_faults K.taken K.faults files.new report.new
+        (map (λ b. advised (left b) (log b)) advisors.new.items))
         result }
-    ensures headline { result ≡ DONE → Tested settings.now (Holds (F.held files.old) names.now.source.now) names.now.net.now names.now.vectors.now (F.held files.new) }
+    ensures headline { result ≡ DONE → Tested settings.now (Holds (F.held files.old) names.now.source.now) names.now.net.now names.now.vectors.now (F.held files.new)
+        (map (λ b. advised (left b) (log b)) advisors.old.items) (map (λ b. advised (left b) (log b)) advisors.new.items) }
     ensures reads { CountsAmong (names.now.source.now ∷ []) (F.read_faults files.old) (F.read_faults files.new) }
     ensures writes { CountsAmong (names.now.net.now ∷ names.now.vectors.now ∷ []) (F.write_faults files.old) (F.write_faults files.new) }
     ensures faults { K.faults report.old ≤ K.faults report.new }
+    ensures advisors { AdvisorsStand settings.now (HoldsText (F.held files.old) names.now.source.now) (map (λ b. advised (left b) (log b)) advisors.old.items) (map (λ b. advised (left b) (log b)) advisors.new.items) }
 {
     file_laws();
-    let FileNames {
-        source,
-        net,
-        vectors,
-    } = *names;
-    match synthesise_files(alloc, files, settings, source, net, vectors) {
+    match synthesise_files(alloc, files, settings, names, advisors) {
         Ok(made) => finish(alloc, report, made.summary),
-        Err(Stop::Refused(refusal)) => refuse(alloc, report, refusal, source),
-        Err(Stop::NetFault) => tell_write_fault(alloc, report, net),
-        Err(Stop::VectorsFault) => tell_write_fault(alloc, report, vectors),
+        Err(Stop::Refused(refusal)) => refuse(alloc, report, refusal, names.source),
+        Err(Stop::NetFault) => tell_write_fault(alloc, report, names.net),
+        Err(Stop::VectorsFault) => tell_write_fault(alloc, report, names.vectors),
         Err(Stop::Memory) => want_memory(report),
     }
 }
@@ -54,23 +57,31 @@ fn synth_command<F: Files, K: Sink>(
     report: &mut K,
     settings: &Settings,
     names: &FileNames<'_>,
+    advisors: &mut Vec<Box<dyn Advisor>>,
 ) -> u8
     requires { names.now.net.now ≢ names.now.vectors.now }
     ensures ends { SynthEnds settings.now (HoldsText (F.held files.old) names.now.source.now) (names.now.source.now ∷ []) (names.now.net.now ∷ names.now.vectors.now ∷ [])
-        (outside F.held F.read_faults F.write_faults K.taken K.faults files.old report.old)
-        (outside F.held F.read_faults F.write_faults K.taken K.faults files.new report.new)
+        (outside F.held F.read_faults F.write_faults K.taken K.faults files.old report.old
+        (map (λ b. advised (left b) (log b)) advisors.old.items))
+        (outside F.held F.read_faults F.write_faults K.taken K.faults files.new report.new
+        (map (λ b. advised (left b) (log b)) advisors.new.items))
         result }
-    ensures headline { result ≡ DONE → Tested settings.now (Holds (F.held files.old) names.now.source.now) names.now.net.now names.now.vectors.now (F.held files.new) }
+    ensures headline { result ≡ DONE → Tested settings.now (Holds (F.held files.old) names.now.source.now) names.now.net.now names.now.vectors.now (F.held files.new)
+        (map (λ b. advised (left b) (log b)) advisors.old.items) (map (λ b. advised (left b) (log b)) advisors.new.items) }
 {
     one_answer_law();
-    synth_work(alloc, files, report, settings, names)
+    synth_work(alloc, files, report, settings, names, advisors)
 }
 
 /// Words that ask for nothing.
-fn refuse_words<F: Files, K: Sink>(_files: &F, report: &mut K) -> u8
+fn refuse_words<F: Files, K: Sink>(
+    _files: &F,
+    report: &mut K,
+    _advisors: &Vec<Box<dyn Advisor>>,
+) -> u8
     ensures { WordsEnd
-        (outside F.held F.read_faults F.write_faults K.taken K.faults _files.now report.old)
-        (outside F.held F.read_faults F.write_faults K.taken K.faults _files.now report.new)
+        (outside F.held F.read_faults F.write_faults K.taken K.faults _files.now report.old (map (λ b. advised (left b) (log b)) _advisors.now.items))
+        (outside F.held F.read_faults F.write_faults K.taken K.faults _files.now report.new (map (λ b. advised (left b) (log b)) _advisors.now.items))
         result }
 {
     tell(
@@ -82,20 +93,33 @@ fn refuse_words<F: Files, K: Sink>(_files: &F, report: &mut K) -> u8
 
 /// Does what the words ask for, the program's own name left out, and answers the status.
 ///
-/// `synth IN NET VEC` reads the file IN, and writes the network that implements it to NET and its vectors with their responses to VEC.
-pub fn run<F: Files, K: Sink>(alloc: Global, words: &[String], files: &mut F, report: &mut K) -> u8
+/// `synth IN NET VEC` reads the file IN, and writes the network that implements it to NET and its vectors with their responses to VEC. The
+/// advisors are asked for `--polarity search` alone, and stay in the list.
+pub fn run<F: Files, K: Sink>(
+    alloc: Global,
+    words: &[String],
+    files: &mut F,
+    report: &mut K,
+    advisors: &mut Vec<Box<dyn Advisor>>,
+) -> u8
     // The written network, its vectors, and what they detect.
-    ensures headline { result ≡ DONE → HasHeadline (asked words.now) (F.held files.old) (F.held files.new) }
+    ensures headline { result ≡ DONE → HasHeadline (asked words.now)
+        (outside F.held F.read_faults F.write_faults K.taken K.faults files.old report.old
+        (map (λ b. advised (left b) (log b)) advisors.old.items))
+        (outside F.held F.read_faults F.write_faults K.taken K.faults files.new report.new
+        (map (λ b. advised (left b) (log b)) advisors.new.items)) }
     // What stands after each status, and when it comes.
     ensures ends { Ends (asked words.now)
-        (outside F.held F.read_faults F.write_faults K.taken K.faults files.old report.old)
-        (outside F.held F.read_faults F.write_faults K.taken K.faults files.new report.new)
+        (outside F.held F.read_faults F.write_faults K.taken K.faults files.old report.old
+        (map (λ b. advised (left b) (log b)) advisors.old.items))
+        (outside F.held F.read_faults F.write_faults K.taken K.faults files.new report.new
+        (map (λ b. advised (left b) (log b)) advisors.new.items))
         result }
 {
     match read_command(words) {
-        Command::Refused => refuse_words(files, report),
+        Command::Refused => refuse_words(files, report, advisors),
         Command::Synth { settings, names } => {
-            synth_command(alloc, files, report, &settings, &names)
+            synth_command(alloc, files, report, &settings, &names, advisors)
         }
     }
 }

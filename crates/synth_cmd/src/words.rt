@@ -89,10 +89,10 @@ fn bits_of(word: &[u8]) -> Option<Polarity>
 fn choice_of(word: &str) -> Option<Choice>
     ensures { result ≡ spec.choice_of word.now }
 {
-    if word == "positive" {
-        Some(Choice::Positive)
-    } else {
-        bits_of(word.as_bytes()).map(Choice::Given)
+    match word {
+        "positive" => Some(Choice::Positive),
+        "search" => Some(Choice::Search),
+        _ => bits_of(word.as_bytes()).map(Choice::Given),
     }
 }
 

@@ -8,11 +8,16 @@ use Rattle.cascade.specs.declared.limits.TheConstants.{REDDY_TERMS}
 use Rattle.expansion.specs.Functions.{AreExpansions}
 use Rattle.expansion.specs.Terms.{Terms, cost, PassesAt}
 use Rattle.fn_store.specs.Davio.{IsExpansion}
+use Rattle.polarity.specs.Search.{Advised}
 use Rattle.synth_core.specs.Asked.{IsExpanded, IsWithin, HasOtherCount, HasTooMany, polarity_of, terms_limit}
 use Rattle.synth_core.specs.Errors.{of_text}
 use Rattle.synth_core.specs.Made.{IsMade, IsSynthesised, Texts, texts_of}
 use Rattle.synth_core.specs.Says.{source_says}
-use Rattle.synth_core.specs.Steps.{IsMadeOf, TooMany}
+use Rattle.synth_core.specs.Searched.{AdvisorsStand, IsPolarity}
+use Rattle.synth_core.specs.Sourced.{IsSourced, Parts}
+use Rattle.synth_core.specs.Steps.{ComesOf, HasFewTerms, IsMadeOf, OnlySearched, TooMany}
+use Rattle.synth_core.specs.declared.settings.Choice.{Choice}
+use Rattle.synth_core.specs.declared.settings.Choice.TheVariants.{Positive, Search, Given}
 use Rattle.synth_core.specs.declared.error.SynthErr.{SynthErr}
 use Rattle.synth_core.specs.declared.error.SynthErr.TheVariants as err
 use Rattle.synth_core.specs.declared.fault.TextFault.{TextFault}
@@ -29,6 +34,13 @@ limit_is Reddy = refl
 
 form_is : (form : Form) → form ≡ Reddy
 form_is Reddy = refl
+
+-- the polarity that comes of the one at which terms are counted
+polarity_comes : (choice : Choice) (limit : ℕ) (s : Source) (before after : List Advised) (p : Signs)
+    → ComesOf choice limit s (polarity_of choice (length s.inputs)) before after p → IsPolarity choice limit s before after p
+polarity_comes Positive limit s before after p comes = comes
+polarity_comes Search limit s before after p comes = comes
+polarity_comes (Given q) limit s before after p comes = comes
 
 -- ---- an error of reading
 
@@ -101,23 +113,34 @@ module _ (settings : Settings) (bytes : List ℕ) (s : Source) (says : source_sa
     passes = subst (λ limit. PassesAt limit many.expansions.outs output) (sym (limit_is settings.form)) many.passes;
   }
 
-  abbrev is_within : (texts : Texts) → IsMadeOf s p texts → IsWithin settings bytes
-  is_within texts is = record {
+  abbrev is_within : HasFewTerms s p → IsWithin settings bytes
+  is_within few = record {
     source = s;
+    expansions = few.expansions;
+    expanded = is_expanded few.expansions few.are;
+    within = subst (λ limit. cost few.expansions ≤ limit) (sym (limit_is settings.form)) few.within;
+  }
+
+  abbrev made_of : List Advised → List Advised → Texts → Type 0
+  made_of before after texts = IsMadeOf settings.polarity s p before after texts
+
+  is_made : (before after : List Advised) (texts : Texts) → made_of before after texts → IsMade settings bytes before after texts
+  is_made before after texts is = record {
+    within = is_within is.few;
+    polarity = is.polarity;
+    is_polarity = subst (λ limit. IsPolarity settings.polarity limit s before after is.polarity) (sym (limit_is settings.form)) (polarity_comes settings.polarity REDDY_TERMS s before after is.polarity is.comes);
     expansions = is.expansions;
-    expanded = is_expanded is.expansions is.are;
-    within = subst (λ limit. cost is.expansions ≤ limit) (sym (limit_is settings.form)) is.within;
+    are_expansions = is.are;
+    is_synthesised = subst (λ form. IsSynthesised form is.polarity s is.expansions texts) (sym (form_is settings.form)) is.is_synthesised;
   }
 
-  is_made : (texts : Texts) → IsMadeOf s p texts → IsMade settings bytes texts
-  is_made texts is = record {
-    within = is_within texts is;
-    is_synthesised = subst (λ form. IsSynthesised form p s is.expansions texts) (sym (form_is settings.form)) is.is_synthesised;
-  }
+  pub all_made : (before after : List Advised) (r : Result Made SynthErr) → IfOk r (λ m. made_of before after (texts_of m)) → IfOk r (λ m. IsMade settings bytes before after (texts_of m))
+  all_made before after (Ok m) is = is_made before after (texts_of m) is
+  all_made before after (Err e) is = tt
 
-  pub all_made : (r : Result Made SynthErr) → IfOk r (λ m. IsMadeOf s p (texts_of m)) → IfOk r (λ m. IsMade settings bytes (texts_of m))
-  all_made (Ok m) is = is_made (texts_of m) is
-  all_made (Err e) is = tt
+  pub advisors_stand : (before after : List Advised) (r : Parts) → IsSourced s p r → OnlySearched settings.polarity r before after → AdvisorsStand settings (λ b. b ≡ bytes) before after
+  advisors_stand before after r is (inl kept) = inl kept
+  advisors_stand before after r is (inr (asked, stand, few)) = inr (record { asked = asked; bytes = bytes; was = refl; within = is_within (few s p is); stand = stand })
 
   pub no_fault : (line : ℕ) (what : TextFault) → source_says settings.kind bytes ≡ Err (line, what) → ⊥
   no_fault line what fault = let both = sym says ∙ fault in cc both
@@ -128,14 +151,14 @@ module _ (settings : Settings) (bytes : List ℕ) (s : Source) (says : source_sa
         let same : x.expansions ≡ y.expansions = one_expanded one settings bytes x.source y.source x.expansions y.expansions x.expanded y.expanded in
         passes_once (terms_limit settings.form) a b y.expansions.outs (subst (λ e. PassesAt (terms_limit settings.form) e.outs a) same x.passes) y.passes
 
-    pub always_too_many : (r : Result Made SynthErr) → IfOk r (λ m. IsMadeOf s p (texts_of m)) → ((output : ℕ) → IsErrOf r (err.TooManyTerms output) → TooMany s p output)
+    pub always_too_many : (before after : List Advised) (r : Result Made SynthErr) → IfOk r (λ m. made_of before after (texts_of m)) → ((output : ℕ) → IsErrOf r (err.TooManyTerms output) → TooMany s p output)
         → ((line : ℕ) (what : TextFault) → IsErrOf r (of_text line what) → ⊥) → ((given wanted : ℕ) → IsErrOf r (err.BitCount given wanted) → ⊥) → (output : ℕ) → HasTooMany settings bytes output → IsErrOf r (err.TooManyTerms output) ⊎ IsErrOf r err.Memory
-    always_too_many (Ok m) made passes accepted counted output many = absurd (apart one settings bytes output (is_within (texts_of m) made) many)
-    always_too_many (Err (err.TooManyTerms o)) made passes accepted counted output many = inl (ap (λ k. Err (err.TooManyTerms k)) (same_output o output (has_too_many o (passes o refl)) many))
-    always_too_many (Err (err.Pla l w)) made passes accepted counted output many = absurd (accepted l (text.Pla w) refl)
-    always_too_many (Err (err.Blif l w)) made passes accepted counted output many = absurd (accepted l (text.Blif w) refl)
-    always_too_many (Err (err.BitCount g n)) made passes accepted counted output many = absurd (counted g n refl)
-    always_too_many (Err err.Memory) made passes accepted counted output many = inr refl
+    always_too_many before after (Ok m) made passes accepted counted output many = absurd (apart one settings bytes output (is_within made.few) many)
+    always_too_many before after (Err (err.TooManyTerms o)) made passes accepted counted output many = inl (ap (λ k. Err (err.TooManyTerms k)) (same_output o output (has_too_many o (passes o refl)) many))
+    always_too_many before after (Err (err.Pla l w)) made passes accepted counted output many = absurd (accepted l (text.Pla w) refl)
+    always_too_many before after (Err (err.Blif l w)) made passes accepted counted output many = absurd (accepted l (text.Blif w) refl)
+    always_too_many before after (Err (err.BitCount g n)) made passes accepted counted output many = absurd (counted g n refl)
+    always_too_many before after (Err err.Memory) made passes accepted counted output many = inr refl
 
     pub complete : (r : Result Made SynthErr) → ((output : ℕ) → IsErrOf r (err.TooManyTerms output) → TooMany s p output)
         → ((line : ℕ) (what : TextFault) → IsErrOf r (of_text line what) → ⊥) → ((given wanted : ℕ) → IsErrOf r (err.BitCount given wanted) → ⊥) → IsWithin settings bytes → IsOk r ⊎ IsErrOf r err.Memory

@@ -19,11 +19,16 @@ use Rattle.ae_net.specs.Valid.{IsValid}
 use Rattle.cascade.specs.Reddy.{reddy_over}
 use Rattle.fn_store.specs.Davio.{IsExpansion}
 use Rattle.expansion.specs.Terms.{Terms}
-use Rattle.synth_core.specs.Asked.{polarity_of}
+use Rattle.expansion.specs.Functions.{AreExpansions}
+use Rattle.polarity.specs.Search.{Advised, IsChosen}
+use Rattle.synth_core.specs.Asked.{terms_limit}
+use Rattle.synth_core.specs.Searched.{IsPolarity}
 use Rattle.synth_core.specs.Made.{IsMade, IsReddy, IsOfForm, IsSynthesised, Texts, names_of}
 use Rattle.synth_core.specs.declared.made.Summary.{Summary}
+use Rattle.synth_core.specs.declared.settings.Choice.{Choice}
+use Rattle.synth_core.specs.declared.settings.Choice.TheVariants.{Positive, Search, Given}
 use Rattle.synth_core.specs.declared.settings.Settings.{Settings}
-use Rattle.synth_core.proofs.Limits.{one_source, one_expanded, same}
+use Rattle.synth_core.proofs.Limits.{one_source, one_terms, same}
 use Rattle.vec_text.specs.declared.file.Form.{Form}
 use Rattle.vec_text.specs.declared.file.Form.TheVariants.{Reddy}
 use Rattle.vec_text.specs.declared.file.Vector.{Vector}
@@ -109,14 +114,22 @@ module _ (only : (n : Network) (fault : Option Fault) (x ys : Set) → IsValid n
     one_texts = same_texts ta.net_text tb.net_text ta.vec_text tb.vec_text ta.summary tb.summary one_net one_vec one_summary
 
   -- so what is made of bytes is one
-  pub one_made : ((p : Signs) (f : Set → Bool) (ts us : List Set) → IsExpansion p f ts → IsExpansion p f us → ts ≡ us)
-      → (settings : Settings) (bytes : List ℕ) (ta tb : Texts) → IsMade settings bytes ta → IsMade settings bytes tb → ta ≡ tb
-  one_made one settings bytes ta tb a b =
-      let u = a.within in
-      let v = b.within in
-      let sources : u.source ≡ v.source = one_source one settings bytes u.source v.source u.expansions v.expansions u.expanded v.expanded in
-      let terms : u.expansions ≡ v.expansions = one_expanded one settings bytes u.source v.source u.expansions v.expansions u.expanded v.expanded in
-      let first : IsSynthesised settings.form (polarity_of settings.polarity (length v.source.inputs)) v.source u.expansions ta =
-      subst (λ s. IsSynthesised settings.form (polarity_of settings.polarity (length s.inputs)) s u.expansions ta) sources a.is_synthesised in
-      one_texts settings.form v.source (polarity_of settings.polarity (length v.source.inputs)) v.expansions ta tb
-      (subst (λ e. IsSynthesised settings.form (polarity_of settings.polarity (length v.source.inputs)) v.source e ta) terms first) b.is_synthesised
+  module _ (one : (p : Signs) (f : Set → Bool) (ts us : List Set) → IsExpansion p f ts → IsExpansion p f us → ts ≡ us)
+      (chosen : (s : Source) (start p q : Signs) (before after : List Advised) → IsChosen s start before after p → IsChosen s start before after q → p ≡ q) where
+    one_polarity : (choice : Choice) (limit : ℕ) (s : Source) (before after : List Advised) (p q : Signs)
+        → IsPolarity choice limit s before after p → IsPolarity choice limit s before after q → p ≡ q
+    one_polarity Positive limit s before after p q a b = a ∙ sym b
+    one_polarity Search limit s before after p q a b = chosen s _ p q before after a.chosen b.chosen
+    one_polarity (Given r) limit s before after p q a b = a ∙ sym b
+
+    pub one_made : (settings : Settings) (bytes : List ℕ) (before after : List Advised) (ta tb : Texts) → IsMade settings bytes before after ta → IsMade settings bytes before after tb → ta ≡ tb
+    one_made settings bytes before after ta tb a b =
+        let s : Source = b.within.source in
+        let sources : a.within.source ≡ s = one_source one settings bytes a.within.source s a.within.expansions b.within.expansions a.within.expanded b.within.expanded in
+        let limit : ℕ = terms_limit settings.form in
+        let polarities : a.polarity ≡ b.polarity = one_polarity settings.polarity limit s before after a.polarity b.polarity (subst (λ r. IsPolarity settings.polarity limit r before after a.polarity) sources a.is_polarity) b.is_polarity in
+        let are : AreExpansions s b.polarity a.expansions = subst (λ p. AreExpansions s p a.expansions) polarities (subst (λ r. AreExpansions r a.polarity a.expansions) sources a.are_expansions) in
+        let terms : a.expansions ≡ b.expansions = one_terms one s b.polarity a.expansions b.expansions are b.are_expansions in
+        let of_source : IsSynthesised settings.form a.polarity s a.expansions ta = subst (λ r. IsSynthesised settings.form a.polarity r a.expansions ta) sources a.is_synthesised in
+        let at_polarity : IsSynthesised settings.form b.polarity s a.expansions ta = subst (λ p. IsSynthesised settings.form p s a.expansions ta) polarities of_source in
+        one_texts settings.form s b.polarity b.expansions ta tb (subst (λ e. IsSynthesised settings.form b.polarity s e ta) terms at_polarity) b.is_synthesised

@@ -1,5 +1,5 @@
 -- What is read of a cover and of a network is what the source says.
-use Rattle.std.proofs.Common.{◌≡◌, ◌≢◌, ◌≤◌, ◌-◌, ℕ, Bool, true, List, length, get_or, refl, sym, ap, ◌∙◌, subst, arith}
+use Rattle.std.proofs.Common.{◌≡◌, ◌≢◌, ◌≤◌, ◌-◌, ℕ, Bool, true, List, length, get_or, refl, sym, ap, ◌∙◌, subst, arith, inl, inr}
 use Rattle.std.specs.Prelude.{All, Some, None, Result, Ok, Err, IsErrAnd, slice_get}
 use Rattle.ae_base.proofs.Results.{passed_on}
 use Rattle.std.proofs.lemmas.Bool.{and_parts, leb-true}
@@ -24,8 +24,9 @@ use Rattle.fn_store.specs.Functions.{Functions, IsLive, Shows, AgreeAt}
 use Rattle.net_fn.specs.Refs.{ShowEach}
 use Rattle.fn_store.specs.declared.store.FnRef.{FnRef}
 use Rattle.expansion.specs.Stores.{expanded}
-use Rattle.expansion.specs.Functions.{AreExpansions}
+use Rattle.expansion.specs.Functions.{AreExpansions, KeepsFunctions}
 use Rattle.expansion.specs.Terms.{Terms, cost, PassesAt}
+use Rattle.polarity.specs.Search.{Advised, OfEachSource}
 use Rattle.cascade.specs.declared.limits.TheConstants.{REDDY_TERMS}
 use Rattle.cascade.specs.Shows.{Fits}
 use Rattle.vec_text.specs.declared.file.Form.TheVariants.{Reddy}
@@ -39,7 +40,8 @@ use Rattle.synth_core.specs.Asked.{HasOtherCount, polarity_of}
 use Rattle.synth_core.specs.Says.{source_says}
 use Rattle.synth_core.specs.Made.{IsSynthesised, Texts, names_of}
 use Rattle.synth_core.specs.Sourced.{Parts, IsSourced, IsWhole}
-use Rattle.synth_core.specs.Steps.{IsMadeOf, TooMany}
+use Rattle.synth_core.specs.Steps.{ComesOf, HasFewTerms, IsMadeOf, OnlyAsked, OnlySearched, TooMany}
+use Rattle.synth_core.specs.declared.settings.Choice.{Choice}
 use Rattle.synth_core.proofs.Shown.{listed_distinct, all_listed}
 
 -- ---- which outputs are On
@@ -83,20 +85,42 @@ module _ (s : Source) (p : Signs) (r : Parts) (is : IsSourced s p r)
   pub is_too_many : (output : ℕ) → PassesAt REDDY_TERMS (expanded r.functions r.outputs).outs output → TooMany s p output
   is_too_many output passes = record { expansions = expanded r.functions r.outputs; are = are_expansions; passes = passes }
 
-  pub is_made_of : (e : Terms) (texts : Texts) → e ≡ expanded r.functions r.outputs → cost e ≤ REDDY_TERMS
-      → ((s : Source) → r.names ≡ names_of s → AreExpansions s e.polarity e → IsSynthesised Reddy e.polarity s e texts) → IsMadeOf s p texts
-  is_made_of e texts same cheap law =
-      let are : AreExpansions s p e = rw same are_expansions in
-      let polarity : e.polarity ≡ p = are.polarity in
-      record {
+  -- the expansions at which terms are counted
+  module _ (start : Terms) (same : start ≡ expanded r.functions r.outputs) where
+    are_start : AreExpansions s p start
+    are_start = rw same are_expansions
+
+    own_start : AreExpansions s start.polarity start
+    own_start = subst (λ q. AreExpansions s q start) (sym are_start.polarity) are_start
+
+    pub few_terms : cost start ≤ REDDY_TERMS → HasFewTerms s p
+    few_terms cheap = record { expansions = start; are = are_start; within = cheap }
+
+    -- those at the polarity that is asked for
+    module _ (e : Terms) (keeps : KeepsFunctions start e) where
+      pub fits_of : Fits r.names e
+      fits_of =
+          let are : AreExpansions s e.polarity e = keeps s own_start in
+          record { inputs = are.inputs ∙ ap (λ names. length names.inputs) (sym is.names); outputs = are.outputs ∙ ap (λ names. length names.outputs) (sym is.names) }
+
+      pub is_made_of : (choice : Choice) (before after : List Advised) (texts : Texts) → cost start ≤ REDDY_TERMS
+          → OfEachSource start (λ s. ComesOf choice REDDY_TERMS s start.polarity before after e.polarity)
+          → ((s : Source) → r.names ≡ names_of s → AreExpansions s e.polarity e → IsSynthesised Reddy e.polarity s e texts) → IsMadeOf choice s p before after texts
+      is_made_of choice before after texts cheap comes law = record {
+        few = few_terms cheap;
+        polarity = e.polarity;
+        comes = subst (λ q. ComesOf choice REDDY_TERMS s q before after e.polarity) are_start.polarity (comes s own_start);
         expansions = e;
-        are = are;
-        within = cheap;
-        is_synthesised = subst (λ q. IsSynthesised Reddy q s e texts) polarity (law s is.names (subst (λ q. AreExpansions s q e) (sym polarity) are));
+        are = keeps s own_start;
+        is_synthesised = law s is.names (keeps s own_start);
       }
 
-pub fits_of : (r : Parts) (e : Terms) → IsWhole r → e ≡ expanded r.functions r.outputs → Fits r.names e
-fits_of r e whole same = rw same (record { inputs = whole.inputs; outputs = length-map r.outputs _ ∙ whole.count })
+-- a search begins where the expansions are few enough
+pub only_searched : (r : Parts) (law : (source : Source) (s : Functions) (refs : List FnRef) → s.polarity.n ≡ length source.inputs → length refs ≡ length source.outputs
+    → ((o : ℕ) (r : FnRef) → slice_get refs o ≡ Some r → Shows s r (on_set source o)) → AreExpansions source s.polarity (expanded s refs))
+    (start : Terms) → start ≡ expanded r.functions r.outputs → cost start ≤ REDDY_TERMS → (choice : Choice) (before after : List Advised) → OnlyAsked choice before after → OnlySearched choice r before after
+only_searched r law start same cheap choice before after (inl kept) = inl kept
+only_searched r law start same cheap choice before after (inr (asked, stand)) = inr (asked, stand, λ s p is. few_terms s p r is law start same cheap)
 
 pub are_live : (functions : Functions) (refs : List FnRef) (fs : ℕ → Set → Bool) → ShowEach functions refs fs → All (IsLive functions) refs
 are_live functions refs fs shows = λ k d l. (shows.each k (get_or refs k d) (slice_get-get_or refs k d l)).live

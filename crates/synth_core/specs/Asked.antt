@@ -8,7 +8,7 @@ use Rattle.expansion.specs.Functions.{AreExpansions}
 use Rattle.expansion.specs.Terms.{Terms, cost, PassesAt}
 use Rattle.synth_core.specs.Says.{source_says}
 use Rattle.synth_core.specs.declared.settings.Choice.{Choice}
-use Rattle.synth_core.specs.declared.settings.Choice.TheVariants.{Positive, Given}
+use Rattle.synth_core.specs.declared.settings.Choice.TheVariants.{Positive, Search, Given}
 use Rattle.synth_core.specs.declared.settings.Settings.{Settings}
 use Rattle.vec_text.specs.declared.file.Form.{Form}
 use Rattle.vec_text.specs.declared.file.Form.TheVariants.{Reddy}
@@ -17,16 +17,17 @@ use Rattle.vec_text.specs.declared.file.Form.TheVariants.{Reddy}
 abbrev pub all_plain : ℕ → Signs
 all_plain n = record { n = n; plain = first n }
 
--- the polarity of n inputs
+-- the polarity of n inputs at which terms are counted: the one that is handed, else that of all plain literals, where a search starts
 abbrev pub polarity_of : Choice → ℕ → Signs
 polarity_of Positive n = all_plain n
+polarity_of Search n = all_plain n
 polarity_of (Given p) n = p
 
 -- the greatest number of terms of all outputs
 abbrev pub terms_limit : Form → ℕ
 terms_limit Reddy = REDDY_TERMS
 
--- The bytes say this source, and these are the expansions of its outputs at the polarity that is asked for.
+-- The bytes say this source, and these are the expansions of its outputs at the polarity at which terms are counted.
 pub record IsExpanded (settings : Settings) (bytes : List ℕ) (s : Source) (e : Terms) : Type 0 where
   pub says : source_says settings.kind bytes ≡ Ok s
   pub expansions : AreExpansions s (polarity_of settings.polarity (length s.inputs)) e

@@ -10,10 +10,13 @@ use Rattle.ae_net.specs.Names.{Names, IsLead}
 use Rattle.ae_net.specs.Network.{Network}
 use Rattle.ae_net.specs.Run.{Shows}
 use Rattle.cascade.specs.Reddy.{reddy_over}
+use Rattle.expansion.specs.Functions.{AreExpansions}
 use Rattle.expansion.specs.Terms.{Terms, cost}
 use Rattle.input_tests.specs.Whole.{cascade_tests}
-use Rattle.synth_core.specs.Asked.{IsWithin, polarity_of}
+use Rattle.polarity.specs.Search.{Advised}
+use Rattle.synth_core.specs.Asked.{IsWithin, terms_limit}
 use Rattle.synth_core.specs.Headline.{Headline}
+use Rattle.synth_core.specs.Searched.{IsPolarity}
 use Rattle.synth_core.specs.declared.made.Made.{Made}
 use Rattle.synth_core.specs.declared.made.Summary.{Summary}
 use Rattle.synth_core.specs.declared.settings.Settings.{Settings}
@@ -78,7 +81,11 @@ pub record IsSynthesised (form : Form) (p : Signs) (s : Source) (e : Terms) (tex
   pub of_form : IsOfForm form s e headline.written.net headline.written.file texts.summary
   pub numbers : AreNumbers s e headline.written.net headline.written.file texts.summary
 
--- These texts were made of the source that the bytes say, as it was asked for.
-pub record IsMade (settings : Settings) (bytes : List ℕ) (texts : Texts) : Type 0 where
+-- These texts were made of the source that the bytes say, as it was asked for, by what the advisors were before and are after.
+pub record IsMade (settings : Settings) (bytes : List ℕ) (before after : List Advised) (texts : Texts) : Type 0 where
   pub within : IsWithin settings bytes
-  pub is_synthesised : IsSynthesised settings.form (polarity_of settings.polarity (length within.source.inputs)) within.source within.expansions texts
+  pub polarity : Signs
+  pub is_polarity : IsPolarity settings.polarity (terms_limit settings.form) within.source before after polarity
+  pub expansions : Terms
+  pub are_expansions : AreExpansions within.source polarity expansions
+  pub is_synthesised : IsSynthesised settings.form polarity within.source expansions texts

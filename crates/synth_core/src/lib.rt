@@ -8,6 +8,7 @@ mod made;
 mod maker;
 mod one;
 mod read;
+mod search;
 mod settings;
 mod synthesis;
 

@@ -20,6 +20,8 @@ pub enum SourceKind {
 pub enum Choice {
     /// Each input has its plain literal.
     Positive,
+    /// One of few terms, which a search finds, from the plain literals and from what advisors propose.
+    Search,
     /// This one. Its number of inputs is that of the source, or the source is refused.
     Given(Polarity),
 }
@@ -32,13 +34,13 @@ pub struct Settings {
     pub polarity: Choice,
 }
 
-/// The polarity that is asked for, of `n` inputs.
+/// The polarity of `n` inputs at which terms are counted: the one that is handed, else that of all plain literals.
 pub fn polarity_of(choice: Choice, n: u32) -> Polarity
     requires { n ≤ NET_LINES }
     ensures { result ≡ spec.polarity_of choice n }
 {
     match choice {
-        Choice::Positive => Polarity::all_plain(n),
+        Choice::Positive | Choice::Search => Polarity::all_plain(n),
         Choice::Given(polarity) => polarity,
     }
 }

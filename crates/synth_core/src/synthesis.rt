@@ -1,5 +1,5 @@
 //! The network of a source and the network's vectors.
-ghost use Rattle.std.specs.Prelude.{◌≡◌, ◌≤◌, ◌⊎◌, ℕ, IfOk, IsOk, IsErrOf, Err, length};
+ghost use Rattle.std.specs.Prelude.{◌≡◌, ◌≤◌, ◌⊎◌, ℕ, IfOk, IsOk, IsErrOf, Err, length, map};
 ghost use Rattle.ae_base.specs.declared.limits.TheConstants.{TEXT_BYTES};
 ghost use Rattle.ae_base.specs.Cube.{Signs};
 ghost use Rattle.ae_base.specs.Source.{Source};
@@ -9,14 +9,16 @@ ghost use Rattle.cascade.specs.Reddy.{reddy_net};
 ghost use Rattle.cascade.specs.Shows.{Fits};
 ghost use Rattle.expansion.specs.Functions.{AreExpansions};
 ghost use Rattle.expansion.specs.Terms.{cost};
+ghost use Rattle.polarity.specs.Search.{advised};
 ghost use Rattle.synth_core.specs.declared.error.SynthErr.TheVariants as synth_err;
 ghost use Rattle.synth_core.specs.declared.fault.TextFault.{TextFault};
 ghost use Rattle.synth_core.specs.Asked.{HasOtherCount, HasTooMany, IsWithin};
 ghost use Rattle.synth_core.specs.Errors.{of_text};
 ghost use Rattle.synth_core.specs.Made.{IsMade, IsSynthesised, names_of, texts_of};
 ghost use Rattle.synth_core.specs.Says.{source_says};
+ghost use Rattle.synth_core.specs.Searched.{AdvisorsStand};
 ghost use Rattle.synth_core.specs.Sourced.{IsSourced, IsWhole, parts};
-ghost use Rattle.synth_core.specs.Steps.{AreReady, AreReddyNumbers, IsMadeOf, TooMany, file_over, reddy_file, vectors_of};
+ghost use Rattle.synth_core.specs.Steps.{AreReady, AreReddyNumbers, IsMadeOf, OnlySearched, TooMany, file_over, reddy_file, vectors_of};
 ghost use Rattle.vec_text.specs.declared.file.Form.TheVariants.{Reddy};
 ghost use Rattle.vec_text.specs.VectorFile.{IsValidVectorFile, vector_text};
 
@@ -24,7 +26,8 @@ use crate::error::SynthErr;
 use crate::laws::synthesis_law;
 use crate::made::{Made, Summary};
 use crate::read::read_source;
-use crate::settings::Settings;
+use crate::search::expansion_of;
+use crate::settings::{Choice, Settings};
 use ae_base::{Memory, Name, Point, Polarity, Seq, copies};
 use ae_net::{Net, NetNames, answer, fault_count, scratch_for};
 use blif_write::blif_text;
@@ -32,6 +35,7 @@ use cascade::{REDDY_TERMS, reddy};
 use expansion::{Expansion, expand, expanded_law, pairs};
 use fn_store::{FnRef, FnStore, expansion_law};
 use input_tests::cascade_vectors;
+use polarity::Advisor;
 use std::alloc::Global;
 use vec_text::{Form, VecFile, Vector, vec_text};
 
@@ -147,26 +151,42 @@ fn synthesise_functions<S: FnStore>(
     names: &NetNames,
     store: &S,
     outputs: &[FnRef],
+    choice: Choice,
+    advisors: &mut Vec<Box<dyn Advisor>>,
 ) -> Result<Made, SynthErr>
-    requires { IsWhole (parts names.now (S.functions store.now) outputs.now) }
-    ensures made { IfOk result (λ made. (s : Source) (p : Signs) → IsSourced s p (parts names.now (S.functions store.now) outputs.now) → IsMadeOf s p (texts_of made)) }
+    requires whole { IsWhole (parts names.now (S.functions store.now) outputs.now) }
+    requires sourced { (s : Source) × (p : Signs) × IsSourced s p (parts names.now (S.functions store.now) outputs.now) }
+    ensures made { IfOk result (λ made. (s : Source) (p : Signs) → IsSourced s p (parts names.now (S.functions store.now) outputs.now)
+        → IsMadeOf choice s p (map (λ b. advised (left b) (log b)) advisors.old.items) (map (λ b. advised (left b) (log b)) advisors.new.items) (texts_of made)) }
+    ensures advisors { OnlySearched choice (parts names.now (S.functions store.now) outputs.now) (map (λ b. advised (left b) (log b)) advisors.old.items) (map (λ b. advised (left b) (log b)) advisors.new.items) }
     ensures too_many { (output : ℕ) → IsErrOf result (synth_err.TooManyTerms output) → (s : Source) (p : Signs) → IsSourced s p (parts names.now (S.functions store.now) outputs.now) → TooMany s p output }
     ensures accepted { (line : ℕ) (what : TextFault) → ¬ (IsErrOf result (of_text line what)) }
     ensures counted { (given wanted : ℕ) → ¬ (IsErrOf result (synth_err.BitCount given wanted)) }
 {
     expanded_law();
-    let expansion = expand(alloc, store, outputs, REDDY_TERMS)?;
+    let _ = names.inputs(); // opened here, since their number is the store's
+    let start = expand(alloc, store, outputs, REDDY_TERMS)?;
+    let expansion = expansion_of(alloc, choice, REDDY_TERMS, start, advisors)?;
     Ok(texts(alloc, names, &expansion)?)
 }
 
 /// Reads a source of the kind that is asked for, and gives the texts of its network in the form that is asked for and of the network's
 /// vectors, with their numbers. `Pla` and `Blif` come exactly where the text is asked for as of that kind and has a fault, with the first
 /// one and its line; `BitCount` exactly where it has none and the polarity that is handed has another number of inputs than the text;
-/// `TooManyTerms` exactly where neither holds and the running sum of the expansions' terms passes the limit of the form,
-/// with the first output at which it does; `Memory` for want of memory alone.
-pub fn synthesise(alloc: Global, bytes: &[u8], settings: &Settings) -> Result<Made, SynthErr>
+/// `TooManyTerms` exactly where neither holds and the running sum of the expansions' terms passes the limit of the form, at the polarity
+/// that is handed, else at that of all plain literals, with the first output at which it does; `Memory` for want of memory alone.
+///
+/// The advisors are as before unless a search is asked for and the source has few enough terms to start from. Then each was asked until
+/// nothing is left, unless memory is wanting.
+pub fn synthesise(
+    alloc: Global,
+    bytes: &[u8],
+    settings: &Settings,
+    advisors: &mut Vec<Box<dyn Advisor>>,
+) -> Result<Made, SynthErr>
     requires { length bytes.now ≤ TEXT_BYTES }
-    ensures made { IfOk result (λ made. IsMade settings.now bytes.now (texts_of made)) }
+    ensures made { IfOk result (λ made. IsMade settings.now bytes.now (map (λ b. advised (left b) (log b)) advisors.old.items) (map (λ b. advised (left b) (log b)) advisors.new.items) (texts_of made)) }
+    ensures advisors { AdvisorsStand settings.now (λ b. b ≡ bytes.now) (map (λ b. advised (left b) (log b)) advisors.old.items) (map (λ b. advised (left b) (log b)) advisors.new.items) }
     ensures refused { (line : ℕ) (what : TextFault) → IsErrOf result (of_text line what) → source_says settings.now.kind bytes.now ≡ Err (line, what) }
     ensures bit_count { (given wanted : ℕ) → IsErrOf result (synth_err.BitCount given wanted) → HasOtherCount settings.now bytes.now given wanted }
     ensures too_many { (output : ℕ) → IsErrOf result (synth_err.TooManyTerms output) → HasTooMany settings.now bytes.now output }
@@ -178,5 +198,12 @@ pub fn synthesise(alloc: Global, bytes: &[u8], settings: &Settings) -> Result<Ma
 {
     expansion_law();
     let sourced = read_source(alloc, bytes, settings)?;
-    synthesise_functions(alloc, &sourced.names, &sourced.functions, &sourced.outputs)
+    synthesise_functions(
+        alloc,
+        &sourced.names,
+        &sourced.functions,
+        &sourced.outputs,
+        settings.polarity,
+        advisors,
+    )
 }

@@ -13,6 +13,7 @@ pub enum Differs {
     Net,
     Vectors,
     Source,
+    Advisors,
 }
 
 impl Differs {

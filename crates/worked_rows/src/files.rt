@@ -3,6 +3,7 @@
 use crate::differs::Differs;
 use ae_base::Memory;
 use ae_outside::{MemFiles, MemSink};
+use polarity::Advisor;
 use std::alloc::Global;
 use synth_cmd::run;
 
@@ -45,15 +46,27 @@ pub fn words(alloc: Global, text: &str) -> Result<Vec<String>, Memory> {
     Ok(words)
 }
 
-/// Runs the words over these files, and answers the status.
+/// Runs the words over these files with these advisors, and answers the status.
+pub fn run_advised(
+    alloc: Global,
+    text: &str,
+    files: &mut MemFiles,
+    report: &mut MemSink,
+    advisors: &mut Vec<Box<dyn Advisor>>,
+) -> Result<u8, Memory> {
+    let words = words(alloc, text)?;
+    Ok(run(alloc, &words, files, report, advisors))
+}
+
+/// Runs the words over these files with no advisors, and answers the status.
 pub fn run_words(
     alloc: Global,
     text: &str,
     files: &mut MemFiles,
     report: &mut MemSink,
 ) -> Result<u8, Memory> {
-    let words = words(alloc, text)?;
-    Ok(run(alloc, &words, files, report))
+    let mut advisors = Vec::new(alloc);
+    run_advised(alloc, text, files, report, &mut advisors)
 }
 
 /// Files of which one holds the source.

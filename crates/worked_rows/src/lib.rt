@@ -24,6 +24,8 @@ mod row_faults;
 #[cfg(test)]
 mod rows;
 #[cfg(test)]
+mod searched;
+#[cfg(test)]
 mod sizes;
 #[cfg(test)]
 mod statuses;

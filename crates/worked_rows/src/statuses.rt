@@ -85,11 +85,11 @@ fn options_that_are_none(rt: HostRuntime) -> Result<(), Fail> {
     assert_all(&rt, first_taken(rt.alloc(), &OTHER_OPTIONS))
 }
 
-/// A search is no choice that is there. The longest of these words has 65 digits.
+/// The longest of these words has 65 digits.
 static OTHER_POLARITIES: [&str; 19] = [
     "synth in.pla n.blif v.vec --polarity",
     "synth in.pla n.blif v.vec --polarity ",
-    "synth in.pla n.blif v.vec --polarity search",
+    "synth in.pla n.blif v.vec --polarity Search",
     "synth in.pla n.blif v.vec --polarity Positive",
     "synth in.pla n.blif v.vec --polarity 12",
     "synth in.pla n.blif v.vec --polarity 1x",

@@ -3,6 +3,7 @@ use Rattle.ae_base.proofs.Results.{answered}
 use Rattle.synth_cmd.specs.Outcome.{HoldsText}
 use Rattle.synth_cmd.specs.Stops.{of_synth}
 use Rattle.synth_cmd.specs.declared.stop.SourceErr.TheVariants as source_err
+use Rattle.synth_cmd.proofs.Jobs.{advisors_of}
 use Rattle.synth_cmd.proofs.Stopped.{synth_cause}
 use Rattle.synth_cmd.proofs.job.make.Goals as goal
 
@@ -15,3 +16,13 @@ returns-in_err-synthesise-clause-refused g c r is =
     (λ given wanted e. c.in_err-synthesise.ensures.bit_count given wanted (ap Err e))
     (λ output e. c.in_err-synthesise.ensures.too_many output (ap Err e))
     (answered from.result of_synth _ (source_err.Refused r) from.ensures.1 is)
+
+pub returns-in_err-synthesise-clause-advisors : goal.returns-in_err-synthesise-clause-advisors
+returns-in_err-synthesise-clause-advisors g c =
+    let was = subst (HoldsText (g.F.Files.held c.args.files.now) c.args.source.now) (sym c.deref.ensures.value) c.in_ok-bytes.ensures.held in
+    advisors_of c.args.settings.now _ _ _ _ was c.synthesise.ensures.advisors
+
+pub returns-clause-advisors : goal.returns-clause-advisors
+returns-clause-advisors g c =
+    let was = subst (HoldsText (g.F.Files.held c.args.files.now) c.args.source.now) (sym c.deref.ensures.value) c.in_ok-bytes.ensures.held in
+    advisors_of c.args.settings.now _ _ _ _ was c.synthesise.ensures.advisors

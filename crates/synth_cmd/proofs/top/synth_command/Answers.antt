@@ -10,4 +10,5 @@ returns-clause-ends g c =
       reads_counted = e.reads;
       writes_counted = e.writes;
       faults = e.faults;
+      advisors = e.advisors;
     }

@@ -35,7 +35,7 @@ returns-in-Err-Memory-clause-ending g c =
     ends_memory _ _ _ _ _ _ _ c.want_memory.ensures.status (e.memory is) c.want_memory.ensures.told
 
 pub returns-in-Ok-clause-headline : goal.returns-in-Ok-clause-headline
-returns-in-Ok-clause-headline g c _ = tested c.file_laws.ensures.holds c.file_laws.ensures.others _ _ _ _ (texts_of c.in-Ok.made) _ _ c.requires c.in-Ok.ensures.done
+returns-in-Ok-clause-headline g c _ = tested c.file_laws.ensures.holds c.file_laws.ensures.others _ _ _ _ (texts_of c.in-Ok.made) _ _ _ _ c.requires c.in-Ok.ensures.done
 
 pub returns-in-Err-NetFault-clause-reads : goal.returns-in-Err-NetFault-clause-reads
 returns-in-Err-NetFault-clause-reads g c = among_one _ _ _ c.in-Err-NetFault.ensures.reads
