@@ -79,7 +79,7 @@ def main():
         for name in sorted(os.listdir(SOURCES)):
             kind = name.rsplit(".", 1)[1]
             good &= compare(folder, name, os.path.join(SOURCES, name), kind, seconds)
-        for literals, rows in ((8, 200), (10, 110), (12, 50)):
+        for literals, rows in ((8, 110), (10, 140), (12, 75)):
             name = f"{rows} rows of {literals}"
             path = os.path.join(folder, "rows.pla")
             with open(path, "w", encoding="ascii") as file:

@@ -32,18 +32,27 @@ fn tell_memory(rt: HostRuntime) -> u8
     MEMORY
 }
 
-/// The seed of the walk through polarities, and how many it proposes.
-const WALK: (u32, u32) = (1, 16);
+/// The seed of the walk through polarities.
+const SEED: u32 = 1;
 
-/// The advisors of a search: the polarity of all complements, and a walk.
-fn own_advisors(alloc: Global) -> Result<Vec<Box<dyn Advisor>>, AllocError> {
+/// How many polarities the walk proposes.
+const PROPOSALS: u32 = 16;
+
+/// Does what the words ask for, over the host's files and its standard output, with the program's own advisors: all literals complemented,
+/// and a walk.
+fn run_advised(
+    alloc: Global,
+    words: &[String],
+    files: &mut HostFiles<HostRuntime>,
+    report: &mut HostSink<HostRuntime>,
+) -> Result<u8, AllocError> {
     let mut advisors: Vec<Box<dyn Advisor>> = Vec::new(alloc);
     advisors.push(Box::new(alloc, Negative::new(alloc))?)?;
-    advisors.push(Box::new(alloc, Walker::new(alloc, WALK.0, WALK.1))?)?;
-    Ok(advisors)
+    advisors.push(Box::new(alloc, Walker::new(alloc, SEED, PROPOSALS))?)?;
+    Ok(run(alloc, words, files, report, &mut advisors))
 }
 
-/// Does what the words ask for, over the host's files and its standard output, with the program's own advisors.
+/// Does what the words ask for. Where memory is wanting before, that is told.
 fn run_words(rt: HostRuntime, words: &[String]) -> u8 {
     let alloc = rt.alloc();
     let Ok(mut files) = HostFiles::new(alloc, rt) else {
@@ -52,10 +61,10 @@ fn run_words(rt: HostRuntime, words: &[String]) -> u8 {
     let Ok(mut report) = HostSink::new(alloc, rt) else {
         return tell_memory(rt);
     };
-    let Ok(mut advisors) = own_advisors(alloc) else {
-        return tell_memory(rt);
-    };
-    run(alloc, words, &mut files, &mut report, &mut advisors)
+    match run_advised(alloc, words, &mut files, &mut report) {
+        Ok(status) => status,
+        Err(_) => tell_memory(rt),
+    }
 }
 
 /// What stands for words that cannot be had: want of memory, or, where a word is no text, no words, which ask for no command.

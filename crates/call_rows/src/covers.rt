@@ -1,7 +1,7 @@
 //! The calls of `ae_cover`: the parts of a cover, and its first clash.
 
-use crate::given::{are_names, cover_of};
 use ae_cover::{Clash, Cover, Kind, Mark};
+use given::{are_names, cover_of};
 use pla_read::PlaErr;
 use std::alloc::Global;
 use std::test::Fail;

@@ -58,16 +58,15 @@ fn a_file_is_written_and_read_whole(rt: HostRuntime) -> Result<(), Fail> {
 }
 
 /// The second call of each kind is to fail.
-fn with_faults(alloc: Global) -> Result<MemFiles, Memory> {
-    let mut files = in_pieces(alloc)?;
+fn fail_second_calls(files: &mut MemFiles) -> Result<(), Memory> {
     files.fail_append(2)?;
     files.fail_create(2)?;
-    files.fail_read(2)?;
-    Ok(files)
+    files.fail_read(2)
 }
 
 fn stop_at_faults(alloc: Global) -> Result<bool, Memory> {
-    let mut files = with_faults(alloc)?;
+    let mut files = in_pieces(alloc)?;
+    fail_second_calls(&mut files)?;
     let wrote = write_whole(&mut files, "name", b"hello");
     let has_front = holds(&files, "name", b"he");
     let made = write_whole(&mut files, "name", b"new");
@@ -87,8 +86,7 @@ fn calls_that_are_listed_fail(rt: HostRuntime) -> Result<(), Fail> {
 }
 
 /// Whether one call each of the three takes and gives what there is.
-fn take_and_give(alloc: Global) -> Result<bool, FilesErr> {
-    let mut files = MemFiles::new(alloc);
+fn take_and_give(files: &mut MemFiles) -> Result<bool, FilesErr> {
     files.create("name")?;
     let took = files.append("name", b"abc")?;
     let mut buffer = [0; 4];
@@ -97,10 +95,9 @@ fn take_and_give(alloc: Global) -> Result<bool, FilesErr> {
 }
 
 #[test]
-fn single_calls(rt: HostRuntime) -> Result<(), Fail> {
-    let same = take_and_give(rt.alloc()).unwrap_or(false);
-    assert!(rt; same);
-    Ok(())
+fn single_calls(rt: HostRuntime) {
+    let mut files = MemFiles::new(rt.alloc());
+    assert!(rt; take_and_give(&mut files).unwrap_or(false));
 }
 
 /// A sink of pieces of two bytes whose third write is to fail.

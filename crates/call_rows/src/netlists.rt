@@ -1,14 +1,10 @@
 //! The call of `blif_read`: the half adder, a text for each fault, and the limits of both kinds of text.
 
-use crate::given::{Table, are_gates, are_names, net_of};
 use ae_base::{Memory, TEXT_BYTES};
 use blif_read::{BlifErr, BlifFault, NetLimits, read_blif};
+use given::{HALF_ADDER, Table, are_gates, are_names, net_of};
 use std::alloc::{AllocError, Global};
 use std::test::Fail;
-
-/// The OR `n1` and the NAND `n2` of two inputs, the AND `s` of both, and the complement `c` of the NAND.
-pub static HALF_ADDER: &[u8] =
-    b".model adder   # half adder\n.inputs a \\\nb\n.outputs s c\n.names n1 n2 s\n11 1\n.names a b n1\n00 0\n.names a b n2\n11 0\n.names n2 c\n0 1\n";
 
 static HALF_ADDER_GATES: [Table; 4] = [
     Table {

@@ -1,13 +1,13 @@
 //! The calls of `ae_net`: gates, names, places, faults and answers.
 ghost use Rattle.std.specs.Prelude.{◌≡◌, ◌∷◌, [], length, IfOk, OnOk};
 
-use crate::given::{Table, are_gates, are_names, cover_of, names_of, net_of, set};
 use ae_base::{Memory, Name, Seq};
 use ae_net::{
     Fault, Net, NetBuilder, Pins, Place, answer, fault_count, faults, is_place, lead, letter_name,
     numbered_name, scratch_for,
 };
 use blif_read::BlifErr;
+use given::{Table, are_gates, are_names, cover_of, names_of, net_of, set};
 use pla_read::PlaErr;
 use std::alloc::Global;
 use std::test::Fail;
@@ -109,25 +109,36 @@ static NO_PLACES: [Place; 5] = [
     Place::Port(1),
 ];
 
-fn tells_places(net: &Net) -> bool {
-    for fault in &FAULTS {
+/// Whether each fault is at a place of the network.
+fn are_at_places(net: &Net, faults: &[Fault]) -> bool {
+    for fault in faults {
         if !is_place(net, fault.place) {
-            return false;
-        }
-    }
-    for place in &NO_PLACES {
-        if is_place(net, *place) {
             return false;
         }
     }
     true
 }
 
+/// Whether one of these is a place of the network.
+fn has_place(net: &Net, places: &[Place]) -> bool {
+    for place in places {
+        if is_place(net, *place) {
+            return true;
+        }
+    }
+    false
+}
+
 fn lists_faults(alloc: Global) -> Result<bool, BlifErr> {
     let net = net_of(alloc, CASCADE)?;
     let found = faults(alloc, &net)?;
     let count = fault_count(alloc, &net)?;
-    Ok(found.as_slice() == FAULTS.as_slice() && count == 20 && tells_places(&net))
+    Ok(
+        found.as_slice() == FAULTS.as_slice()
+            && count == 20
+            && are_at_places(&net, &found)
+            && !has_place(&net, &NO_PLACES),
+    )
 }
 
 #[test]

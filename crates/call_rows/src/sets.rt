@@ -1,10 +1,10 @@
 //! The calls of `ae_base`: names, sets, cubes, lists and pieces of text.
 
-use crate::given::set;
 use ae_base::{
     Cube, Mask, Memory, Name, Polarity, Seq, WIDTH, copies, is_name, is_source_name, push_bits,
     push_names, push_new, push_word,
 };
+use given::set;
 use std::alloc::Global;
 use std::cmp::Ordering;
 use std::test::Fail;

@@ -1,7 +1,7 @@
 //! The call of `pla_read`: a text that says a cover, two that are refused, and the name of a fault.
 
-use crate::given::{are_names, cover_of, set};
 use ae_cover::{Kind, Mark, Row};
+use given::{are_names, cover_of, set};
 use pla_read::{PlaErr, PlaFault};
 use std::alloc::Global;
 use std::test::Fail;

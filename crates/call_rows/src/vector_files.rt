@@ -2,9 +2,9 @@
 ghost use Rattle.std.specs.Prelude.{IfOk, All};
 ghost use Rattle.ae_base.specs.Terms.{IsPoint};
 
-use crate::given::{cover_of, polarity, set};
 use ae_base::{Mask, Memory, Seq};
 use ae_cover::Cover;
+use given::{AND_VECTORS, cover_of, polarity, set};
 use pla_read::PlaErr;
 use std::alloc::Global;
 use std::test::Fail;
@@ -44,7 +44,7 @@ static SHOWN: [Shown; 6] = [
 ];
 
 /// A vector of three inputs and one output.
-#[tactic(auto, using(crate::proofs::Keeps::point))]
+#[tactic(auto, using(given::proofs::Below::point))]
 fn vector(shown: &Shown) -> Vector
     ensures point { IsPoint 3 result.point }
     ensures outs { IsPoint 1 result.outs }
@@ -55,7 +55,6 @@ fn vector(shown: &Shown) -> Vector
     }
 }
 
-#[tactic(auto, using(crate::proofs::Keeps::one_more))]
 fn vectors(alloc: Global) -> Result<Seq<Vector>, Memory>
     ensures points { IfOk result (λ vectors. All (λ v. IsPoint 3 v.point) vectors) }
     ensures outs { IfOk result (λ vectors. All (λ v. IsPoint 1 v.outs) vectors) }
@@ -83,13 +82,10 @@ fn file_over(alloc: Global, cover: Cover) -> Result<Option<VecFile>, Memory> {
     }))
 }
 
-static TEXT: &[u8] =
-    b"andexor-vectors 1\nform reddy\ninputs x1 x2 _c\noutputs f1\npolarity 11\nvector 000 0\nvector 110 1\nvector 001 1\nvector 111 0\nvector 010 0\nvector 100 0\nend\n";
-
 fn is_written(alloc: Global) -> Result<bool, PlaErr> {
     let cover = cover_of(alloc, b".i 3\n.o 1\n.ilb x1 x2 _c\n")?;
     match file_over(alloc, cover)? {
-        Some(file) => Ok(vec_text(alloc, &file)?.as_slice() == TEXT),
+        Some(file) => Ok(vec_text(alloc, &file)?.as_slice() == AND_VECTORS),
         None => Ok(false),
     }
 }

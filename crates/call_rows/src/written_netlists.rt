@@ -1,8 +1,8 @@
 //! The call of `blif_write`: the text of a network.
 
-use crate::given::net_of;
 use blif_read::BlifErr;
 use blif_write::blif_text;
+use given::{AND_NET, net_of};
 use std::alloc::Global;
 use std::test::Fail;
 
@@ -10,13 +10,10 @@ use std::test::Fail;
 static READ: &[u8] =
     b"# AND\n.model andexor\n.inputs x1 x2 \\\n_c\n.outputs f1\n.names _c _t1 f1\n10 1\n01 1\n\n.names x1 x2 _t1\n1 1 1\n";
 
-static WRITTEN: &[u8] =
-    b".model andexor\n.inputs x1 x2 _c\n.outputs f1\n.names x1 x2 _t1\n11 1\n.names _c _t1 f1\n10 1\n01 1\n.end\n";
-
 fn is_written(alloc: Global) -> Result<bool, BlifErr> {
     let net = net_of(alloc, READ)?;
     let text = blif_text(alloc, &net)?;
-    Ok(text.as_slice() == WRITTEN)
+    Ok(text.as_slice() == AND_NET)
 }
 
 #[test]

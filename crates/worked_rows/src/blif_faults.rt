@@ -1,5 +1,6 @@
 //! Faults of a BLIF text: the first faulty line and its fault, or the fault of the whole text.
 
+use crate::differs::assert_all;
 use crate::files::{BLIF, PLA};
 use crate::refused::{Refusal, first_wrong};
 use std::test::Fail;
@@ -29,9 +30,7 @@ static MODELS: [Refusal; 5] = [
 
 #[test]
 fn a_second_model(rt: HostRuntime) -> Result<(), Fail> {
-    let wrong = first_wrong(rt.alloc(), BLIF, &MODELS)?;
-    assert_eq!(rt; wrong, None);
-    Ok(())
+    assert_all(&rt, first_wrong(rt.alloc(), BLIF, &MODELS))
 }
 
 static AFTER_END: [Refusal; 4] = [
@@ -55,9 +54,7 @@ static AFTER_END: [Refusal; 4] = [
 
 #[test]
 fn a_line_after_the_end(rt: HostRuntime) -> Result<(), Fail> {
-    let wrong = first_wrong(rt.alloc(), BLIF, &AFTER_END)?;
-    assert_eq!(rt; wrong, None);
-    Ok(())
+    assert_all(&rt, first_wrong(rt.alloc(), BLIF, &AFTER_END))
 }
 
 static UNSUPPORTED: [Refusal; 19] = [
@@ -141,9 +138,7 @@ static UNSUPPORTED: [Refusal; 19] = [
 
 #[test]
 fn statements_that_are_not_supported(rt: HostRuntime) -> Result<(), Fail> {
-    let wrong = first_wrong(rt.alloc(), BLIF, &UNSUPPORTED)?;
-    assert_eq!(rt; wrong, None);
-    Ok(())
+    assert_all(&rt, first_wrong(rt.alloc(), BLIF, &UNSUPPORTED))
 }
 
 static UNKNOWN: [Refusal; 5] = [
@@ -171,9 +166,7 @@ static UNKNOWN: [Refusal; 5] = [
 
 #[test]
 fn statements_that_no_one_knows(rt: HostRuntime) -> Result<(), Fail> {
-    let wrong = first_wrong(rt.alloc(), BLIF, &UNKNOWN)?;
-    assert_eq!(rt; wrong, None);
-    Ok(())
+    assert_all(&rt, first_wrong(rt.alloc(), BLIF, &UNKNOWN))
 }
 
 static NAMES: [Refusal; 7] = [
@@ -209,9 +202,7 @@ static NAMES: [Refusal; 7] = [
 
 #[test]
 fn words_that_are_no_names(rt: HostRuntime) -> Result<(), Fail> {
-    let wrong = first_wrong(rt.alloc(), BLIF, &NAMES)?;
-    assert_eq!(rt; wrong, None);
-    Ok(())
+    assert_all(&rt, first_wrong(rt.alloc(), BLIF, &NAMES))
 }
 
 static DECLARED: [Refusal; 6] = [
@@ -243,9 +234,7 @@ static DECLARED: [Refusal; 6] = [
 
 #[test]
 fn a_name_that_is_declared_twice(rt: HostRuntime) -> Result<(), Fail> {
-    let wrong = first_wrong(rt.alloc(), BLIF, &DECLARED)?;
-    assert_eq!(rt; wrong, None);
-    Ok(())
+    assert_all(&rt, first_wrong(rt.alloc(), BLIF, &DECLARED))
 }
 
 static DRIVEN: [Refusal; 4] = [
@@ -269,9 +258,7 @@ static DRIVEN: [Refusal; 4] = [
 
 #[test]
 fn a_name_that_is_driven_twice(rt: HostRuntime) -> Result<(), Fail> {
-    let wrong = first_wrong(rt.alloc(), BLIF, &DRIVEN)?;
-    assert_eq!(rt; wrong, None);
-    Ok(())
+    assert_all(&rt, first_wrong(rt.alloc(), BLIF, &DRIVEN))
 }
 
 static TOO_MANY: [Refusal; 7] = [
@@ -307,9 +294,7 @@ static TOO_MANY: [Refusal; 7] = [
 
 #[test]
 fn more_inputs_outputs_or_pins_than_there_may_be(rt: HostRuntime) -> Result<(), Fail> {
-    let wrong = first_wrong(rt.alloc(), BLIF, &TOO_MANY)?;
-    assert_eq!(rt; wrong, None);
-    Ok(())
+    assert_all(&rt, first_wrong(rt.alloc(), BLIF, &TOO_MANY))
 }
 
 static ROWS: [Refusal; 9] = [
@@ -353,9 +338,7 @@ static ROWS: [Refusal; 9] = [
 
 #[test]
 fn rows_that_do_not_fit(rt: HostRuntime) -> Result<(), Fail> {
-    let wrong = first_wrong(rt.alloc(), BLIF, &ROWS)?;
-    assert_eq!(rt; wrong, None);
-    Ok(())
+    assert_all(&rt, first_wrong(rt.alloc(), BLIF, &ROWS))
 }
 
 static STRAY: [Refusal; 3] = [
@@ -375,9 +358,7 @@ static STRAY: [Refusal; 3] = [
 
 #[test]
 fn rows_of_no_gate(rt: HostRuntime) -> Result<(), Fail> {
-    let wrong = first_wrong(rt.alloc(), BLIF, &STRAY)?;
-    assert_eq!(rt; wrong, None);
-    Ok(())
+    assert_all(&rt, first_wrong(rt.alloc(), BLIF, &STRAY))
 }
 
 static FIRST: [Refusal; 4] = [
@@ -401,9 +382,7 @@ static FIRST: [Refusal; 4] = [
 
 #[test]
 fn the_first_of_several_faults(rt: HostRuntime) -> Result<(), Fail> {
-    let wrong = first_wrong(rt.alloc(), BLIF, &FIRST)?;
-    assert_eq!(rt; wrong, None);
-    Ok(())
+    assert_all(&rt, first_wrong(rt.alloc(), BLIF, &FIRST))
 }
 
 static WHOLE: [Refusal; 6] = [
@@ -435,9 +414,7 @@ static WHOLE: [Refusal; 6] = [
 
 #[test]
 fn faults_of_a_whole_text(rt: HostRuntime) -> Result<(), Fail> {
-    let wrong = first_wrong(rt.alloc(), BLIF, &WHOLE)?;
-    assert_eq!(rt; wrong, None);
-    Ok(())
+    assert_all(&rt, first_wrong(rt.alloc(), BLIF, &WHOLE))
 }
 
 static UNDEFINED: [Refusal; 5] = [
@@ -465,9 +442,7 @@ static UNDEFINED: [Refusal; 5] = [
 
 #[test]
 fn a_signal_that_nothing_drives(rt: HostRuntime) -> Result<(), Fail> {
-    let wrong = first_wrong(rt.alloc(), BLIF, &UNDEFINED)?;
-    assert_eq!(rt; wrong, None);
-    Ok(())
+    assert_all(&rt, first_wrong(rt.alloc(), BLIF, &UNDEFINED))
 }
 
 static CYCLES: [Refusal; 4] = [
@@ -491,9 +466,7 @@ static CYCLES: [Refusal; 4] = [
 
 #[test]
 fn a_cycle(rt: HostRuntime) -> Result<(), Fail> {
-    let wrong = first_wrong(rt.alloc(), BLIF, &CYCLES)?;
-    assert_eq!(rt; wrong, None);
-    Ok(())
+    assert_all(&rt, first_wrong(rt.alloc(), BLIF, &CYCLES))
 }
 
 static OTHER_KIND: [Refusal; 1] = [Refusal {
@@ -503,7 +476,5 @@ static OTHER_KIND: [Refusal; 1] = [Refusal {
 
 #[test]
 fn a_netlist_that_is_read_as_a_pla(rt: HostRuntime) -> Result<(), Fail> {
-    let wrong = first_wrong(rt.alloc(), PLA, &OTHER_KIND)?;
-    assert_eq!(rt; wrong, None);
-    Ok(())
+    assert_all(&rt, first_wrong(rt.alloc(), PLA, &OTHER_KIND))
 }

@@ -1,9 +1,11 @@
 //! What is written for BLIF texts: the tables of gates, their order, the model's name, and the many ways to write one text.
 
-use crate::files::{BLIF, Differs, Given};
+use crate::differs::{Differs, Other, assert_all, assert_same};
+use crate::files::{BLIF, Given};
 use crate::rows::{CONSTANT_0, CONSTANT_1, HALF_ADDER};
 use crate::written::{AND, Counts, ONE_INPUT, Row, first_other, gives, gives_for};
-use std::alloc::{AllocError, Global};
+use ae_base::Memory;
+use std::alloc::Global;
 use std::test::Fail;
 
 /// A half adder, and the name of its model.
@@ -29,15 +31,16 @@ static NAMED: [Named; 3] = [
     },
 ];
 
-/// The place of the first text for which something else is written, where there is one.
-fn first_other_model(alloc: Global) -> Result<Option<usize>, AllocError> {
-    for (i, row) in NAMED.iter().enumerate() {
-        let named = Given {
-            model: row.model,
+/// The first text for which something else is written, where there is one.
+fn first_other_model(alloc: Global) -> Result<Option<Other>, Memory> {
+    for (row, named) in NAMED.iter().enumerate() {
+        let given = Given {
+            model: named.model,
             ..BLIF
         };
-        if gives_for(alloc, named, row.text, &HALF_ADDER)? != Differs::Nothing {
-            return Ok(Some(i));
+        let differs = gives_for(alloc, given, named.text, &HALF_ADDER)?;
+        if differs != Differs::Nothing {
+            return Ok(Some(Other { row, differs }));
         }
     }
     Ok(None)
@@ -45,9 +48,7 @@ fn first_other_model(alloc: Global) -> Result<Option<usize>, AllocError> {
 
 #[test]
 fn the_network_has_the_name_of_the_model(rt: HostRuntime) -> Result<(), Fail> {
-    let other = first_other_model(rt.alloc())?;
-    assert_eq!(rt; other, None);
-    Ok(())
+    assert_all(&rt, first_other_model(rt.alloc()))
 }
 
 static NO_NAME: [&[u8]; 2] = [
@@ -61,9 +62,7 @@ fn a_model_without_a_name_is_unnamed(rt: HostRuntime) -> Result<(), Fail> {
         model: "unnamed",
         ..BLIF
     };
-    let other = first_other(rt.alloc(), unnamed, &NO_NAME, &AND)?;
-    assert_eq!(rt; other, None);
-    Ok(())
+    assert_all(&rt, first_other(rt.alloc(), unnamed, &NO_NAME, &AND))
 }
 
 /// The complement of one input.
@@ -84,9 +83,7 @@ static INVERTER: Row = Row {
 
 #[test]
 fn an_inverter(rt: HostRuntime) -> Result<(), Fail> {
-    let given = gives(rt.alloc(), &INVERTER)?;
-    assert_eq!(rt; given, Differs::Nothing);
-    Ok(())
+    assert_same(&rt, gives(rt.alloc(), &INVERTER))
 }
 
 static INVERTERS: [&[u8]; 3] = [
@@ -97,9 +94,7 @@ static INVERTERS: [&[u8]; 3] = [
 
 #[test]
 fn inverters(rt: HostRuntime) -> Result<(), Fail> {
-    let other = first_other(rt.alloc(), BLIF, &INVERTERS, &INVERTER)?;
-    assert_eq!(rt; other, None);
-    Ok(())
+    assert_all(&rt, first_other(rt.alloc(), BLIF, &INVERTERS, &INVERTER))
 }
 
 /// In the last, one gate reads the input as often as a gate may have pins.
@@ -113,9 +108,7 @@ static BUFFERS: [&[u8]; 5] = [
 
 #[test]
 fn buffers(rt: HostRuntime) -> Result<(), Fail> {
-    let other = first_other(rt.alloc(), BLIF, &BUFFERS, &ONE_INPUT)?;
-    assert_eq!(rt; other, None);
-    Ok(())
+    assert_all(&rt, first_other(rt.alloc(), BLIF, &BUFFERS, &ONE_INPUT))
 }
 
 static ZEROS: [&[u8]; 6] = [
@@ -129,9 +122,7 @@ static ZEROS: [&[u8]; 6] = [
 
 #[test]
 fn gates_that_are_0(rt: HostRuntime) -> Result<(), Fail> {
-    let other = first_other(rt.alloc(), BLIF, &ZEROS, &CONSTANT_0)?;
-    assert_eq!(rt; other, None);
-    Ok(())
+    assert_all(&rt, first_other(rt.alloc(), BLIF, &ZEROS, &CONSTANT_0))
 }
 
 static ONES: [&[u8]; 5] = [
@@ -144,9 +135,7 @@ static ONES: [&[u8]; 5] = [
 
 #[test]
 fn gates_that_are_1(rt: HostRuntime) -> Result<(), Fail> {
-    let other = first_other(rt.alloc(), BLIF, &ONES, &CONSTANT_1)?;
-    assert_eq!(rt; other, None);
-    Ok(())
+    assert_all(&rt, first_other(rt.alloc(), BLIF, &ONES, &CONSTANT_1))
 }
 
 static COVERS: [&[u8]; 5] = [
@@ -159,9 +148,7 @@ static COVERS: [&[u8]; 5] = [
 
 #[test]
 fn covers_of_an_and(rt: HostRuntime) -> Result<(), Fail> {
-    let other = first_other(rt.alloc(), BLIF, &COVERS, &AND)?;
-    assert_eq!(rt; other, None);
-    Ok(())
+    assert_all(&rt, first_other(rt.alloc(), BLIF, &COVERS, &AND))
 }
 
 /// In the last, an inner gate has a name that the network gives to another signal.
@@ -174,9 +161,7 @@ static GATES: [&[u8]; 4] = [
 
 #[test]
 fn gates_in_any_order(rt: HostRuntime) -> Result<(), Fail> {
-    let other = first_other(rt.alloc(), BLIF, &GATES, &AND)?;
-    assert_eq!(rt; other, None);
-    Ok(())
+    assert_all(&rt, first_other(rt.alloc(), BLIF, &GATES, &AND))
 }
 
 static STATEMENTS: [&[u8]; 4] = [
@@ -188,9 +173,7 @@ static STATEMENTS: [&[u8]; 4] = [
 
 #[test]
 fn statements_in_any_order(rt: HostRuntime) -> Result<(), Fail> {
-    let other = first_other(rt.alloc(), BLIF, &STATEMENTS, &AND)?;
-    assert_eq!(rt; other, None);
-    Ok(())
+    assert_all(&rt, first_other(rt.alloc(), BLIF, &STATEMENTS, &AND))
 }
 
 static LINES: [&[u8]; 7] = [
@@ -205,7 +188,5 @@ static LINES: [&[u8]; 7] = [
 
 #[test]
 fn joined_lines_blanks_comments_and_ends(rt: HostRuntime) -> Result<(), Fail> {
-    let other = first_other(rt.alloc(), BLIF, &LINES, &AND)?;
-    assert_eq!(rt; other, None);
-    Ok(())
+    assert_all(&rt, first_other(rt.alloc(), BLIF, &LINES, &AND))
 }

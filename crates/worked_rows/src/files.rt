@@ -1,31 +1,11 @@
 //! A run over files in memory, set up, run and compared by functions of their own.
 
+use crate::differs::Differs;
+use ae_base::Memory;
 use ae_outside::{MemFiles, MemSink};
 use polarity::Advisor;
-use std::alloc::{AllocError, Global};
+use std::alloc::Global;
 use synth_cmd::run;
-
-/// What is the first to be otherwise than a row says.
-#[derive(Debug, PartialEq, Clone, Copy)]
-pub enum Differs {
-    Nothing,
-    Status,
-    Report,
-    Net,
-    Vectors,
-    Source,
-    Advisors,
-}
-
-impl Differs {
-    /// This, or where it is nothing the other.
-    pub fn or(self, other: Differs) -> Differs {
-        match self {
-            Differs::Nothing => other,
-            found => found,
-        }
-    }
-}
 
 /// How a source is given: the name of its file, the words of its synthesis, and the model of the network that is written for it.
 #[derive(Clone, Copy)]
@@ -58,7 +38,7 @@ pub struct Held<'a> {
 }
 
 /// The words of a text, by blanks.
-pub fn words(alloc: Global, text: &str) -> Result<Vec<String>, AllocError> {
+pub fn words(alloc: Global, text: &str) -> Result<Vec<String>, Memory> {
     let mut words = Vec::new(alloc);
     for word in text.split(' ') {
         words.push(String::from_str(alloc, word)?)?;
@@ -73,7 +53,7 @@ pub fn run_advised(
     files: &mut MemFiles,
     report: &mut MemSink,
     advisors: &mut Vec<Box<dyn Advisor>>,
-) -> Result<u8, AllocError> {
+) -> Result<u8, Memory> {
     let words = words(alloc, text)?;
     Ok(run(alloc, &words, files, report, advisors))
 }
@@ -84,15 +64,15 @@ pub fn run_words(
     text: &str,
     files: &mut MemFiles,
     report: &mut MemSink,
-) -> Result<u8, AllocError> {
+) -> Result<u8, Memory> {
     let mut advisors = Vec::new(alloc);
     run_advised(alloc, text, files, report, &mut advisors)
 }
 
 /// Files of which one holds the source.
-pub fn with_source(alloc: Global, given: Given, source: &[u8]) -> Result<MemFiles, AllocError> {
+pub fn with_source(alloc: Global, given: Given, source: &[u8]) -> Result<MemFiles, Memory> {
     let mut files = MemFiles::new(alloc);
-    files.put(given.file, source).map_err(|_| AllocError)?;
+    files.put(given.file, source)?;
     Ok(files)
 }
 
@@ -114,7 +94,7 @@ pub fn tells_for(
     files: &mut MemFiles,
     wanted: u8,
     line: &[u8],
-) -> Result<Differs, AllocError> {
+) -> Result<Differs, Memory> {
     let mut report = MemSink::new(alloc);
     let status = run_words(alloc, text, files, &mut report)?;
     Ok(compare_report(status, &report, wanted, line))
@@ -127,7 +107,7 @@ pub fn tells(
     files: &mut MemFiles,
     wanted: u8,
     line: &[u8],
-) -> Result<Differs, AllocError> {
+) -> Result<Differs, Memory> {
     tells_for(alloc, given.words, files, wanted, line)
 }
 

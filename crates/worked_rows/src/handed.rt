@@ -1,9 +1,11 @@
 //! Runs at a handed polarity: what is written, the words that hand one, and what is told first where several things are wrong.
 
-use crate::files::{BLIF, Differs, Given, PLA};
-use crate::refused::{Other, ends};
+use crate::differs::{Differs, Other, assert_all, assert_same};
+use crate::files::{BLIF, Given, PLA};
+use crate::refused::ends;
 use crate::written::{AND, Counts, Row, gives_at, gives_for};
-use std::alloc::{AllocError, Global};
+use ae_base::Memory;
+use std::alloc::Global;
 use std::test::Fail;
 use synth_cmd::{REFUSED, TOO_MANY_TERMS, WORDS};
 
@@ -16,7 +18,7 @@ struct Handed {
 }
 
 /// Runs `synth` at the polarity on each of the row's sources, and compares all that is written and held with what the row says.
-fn gives_handed(alloc: Global, handed: &Handed) -> Result<Differs, AllocError> {
+fn gives_handed(alloc: Global, handed: &Handed) -> Result<Differs, Memory> {
     let pla = Given {
         words: handed.pla_words,
         ..PLA
@@ -56,9 +58,7 @@ static SEVENTEEN: Handed = Handed {
 
 #[test]
 fn seventeen_complemented_inputs_at_their_own_polarity(rt: HostRuntime) -> Result<(), Fail> {
-    let given = gives_handed(rt.alloc(), &SEVENTEEN)?;
-    assert_eq!(rt; given, Differs::Nothing);
-    Ok(())
+    assert_same(&rt, gives_handed(rt.alloc(), &SEVENTEEN))
 }
 
 /// The OR of two inputs where both literals are complemented: 1, and the product of the two.
@@ -84,9 +84,7 @@ static OR: Handed = Handed {
 
 #[test]
 fn two_input_or_with_both_literals_complemented(rt: HostRuntime) -> Result<(), Fail> {
-    let given = gives_handed(rt.alloc(), &OR)?;
-    assert_eq!(rt; given, Differs::Nothing);
-    Ok(())
+    assert_same(&rt, gives_handed(rt.alloc(), &OR))
 }
 
 /// The AND of two inputs where the first literal alone is complemented: the second literal, and the product of the two. The second input
@@ -113,9 +111,7 @@ static MIXED_AND: Handed = Handed {
 
 #[test]
 fn two_input_and_with_one_literal_complemented(rt: HostRuntime) -> Result<(), Fail> {
-    let given = gives_handed(rt.alloc(), &MIXED_AND)?;
-    assert_eq!(rt; given, Differs::Nothing);
-    Ok(())
+    assert_same(&rt, gives_handed(rt.alloc(), &MIXED_AND))
 }
 
 static ALL_PLAIN: [&str; 4] = [
@@ -126,7 +122,7 @@ static ALL_PLAIN: [&str; 4] = [
 ];
 
 /// The first of the words by which the AND of two inputs is not written with both literals plain, where there are some.
-fn first_not_plain(alloc: Global, texts: &[&'static str]) -> Result<Option<Other>, AllocError> {
+fn first_not_plain(alloc: Global, texts: &[&'static str]) -> Result<Option<Other>, Memory> {
     for (row, text) in texts.iter().enumerate() {
         let given = Given {
             words: *text,
@@ -142,9 +138,7 @@ fn first_not_plain(alloc: Global, texts: &[&'static str]) -> Result<Option<Other
 
 #[test]
 fn each_literal_may_be_said_to_be_plain(rt: HostRuntime) -> Result<(), Fail> {
-    let other = first_not_plain(rt.alloc(), &ALL_PLAIN)?;
-    assert_eq!(rt; other, None);
-    Ok(())
+    assert_all(&rt, first_not_plain(rt.alloc(), &ALL_PLAIN))
 }
 
 /// A source and the words of a run, and the status and the line with which it ends.
@@ -217,7 +211,7 @@ fn first_other_end(
     alloc: Global,
     kind: Given,
     endings: &[Ending],
-) -> Result<Option<Other>, AllocError> {
+) -> Result<Option<Other>, Memory> {
     for (row, ending) in endings.iter().enumerate() {
         let given = Given {
             words: ending.words,
@@ -235,8 +229,6 @@ fn first_other_end(
 fn the_number_of_digits_is_told_after_the_text_and_before_the_terms(
     rt: HostRuntime,
 ) -> Result<(), Fail> {
-    let of_pla = first_other_end(rt.alloc(), PLA, &ENDINGS)?;
-    let of_blif = first_other_end(rt.alloc(), BLIF, &ENDINGS_IN_BLIF)?;
-    assert_eq!(rt; of_pla.or(of_blif), None);
-    Ok(())
+    assert_all(&rt, first_other_end(rt.alloc(), PLA, &ENDINGS))?;
+    assert_all(&rt, first_other_end(rt.alloc(), BLIF, &ENDINGS_IN_BLIF))
 }

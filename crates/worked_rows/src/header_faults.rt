@@ -1,5 +1,6 @@
 //! Faults of header lines of a PLA text: the first faulty line, and its fault.
 
+use crate::differs::assert_all;
 use crate::files::PLA;
 use crate::refused::{Refusal, first_wrong};
 use std::test::Fail;
@@ -33,9 +34,7 @@ static LATE: [Refusal; 6] = [
 
 #[test]
 fn a_header_that_comes_twice_or_after_a_row(rt: HostRuntime) -> Result<(), Fail> {
-    let wrong = first_wrong(rt.alloc(), PLA, &LATE)?;
-    assert_eq!(rt; wrong, None);
-    Ok(())
+    assert_all(&rt, first_wrong(rt.alloc(), PLA, &LATE))
 }
 
 static NUMBERS: [Refusal; 7] = [
@@ -71,9 +70,7 @@ static NUMBERS: [Refusal; 7] = [
 
 #[test]
 fn a_number_that_is_none(rt: HostRuntime) -> Result<(), Fail> {
-    let wrong = first_wrong(rt.alloc(), PLA, &NUMBERS)?;
-    assert_eq!(rt; wrong, None);
-    Ok(())
+    assert_all(&rt, first_wrong(rt.alloc(), PLA, &NUMBERS))
 }
 
 static TOO_MANY: [Refusal; 3] = [
@@ -93,9 +90,7 @@ static TOO_MANY: [Refusal; 3] = [
 
 #[test]
 fn more_inputs_or_outputs_than_a_source_may_have(rt: HostRuntime) -> Result<(), Fail> {
-    let wrong = first_wrong(rt.alloc(), PLA, &TOO_MANY)?;
-    assert_eq!(rt; wrong, None);
-    Ok(())
+    assert_all(&rt, first_wrong(rt.alloc(), PLA, &TOO_MANY))
 }
 
 static NAMES: [Refusal; 5] = [
@@ -123,9 +118,7 @@ static NAMES: [Refusal; 5] = [
 
 #[test]
 fn names_that_do_not_fit(rt: HostRuntime) -> Result<(), Fail> {
-    let wrong = first_wrong(rt.alloc(), PLA, &NAMES)?;
-    assert_eq!(rt; wrong, None);
-    Ok(())
+    assert_all(&rt, first_wrong(rt.alloc(), PLA, &NAMES))
 }
 
 static EQUAL_NAMES: [Refusal; 2] = [
@@ -141,9 +134,7 @@ static EQUAL_NAMES: [Refusal; 2] = [
 
 #[test]
 fn a_line_with_equal_names(rt: HostRuntime) -> Result<(), Fail> {
-    let wrong = first_wrong(rt.alloc(), PLA, &EQUAL_NAMES)?;
-    assert_eq!(rt; wrong, None);
-    Ok(())
+    assert_all(&rt, first_wrong(rt.alloc(), PLA, &EQUAL_NAMES))
 }
 
 static TYPES: [Refusal; 4] = [
@@ -167,9 +158,7 @@ static TYPES: [Refusal; 4] = [
 
 #[test]
 fn a_type_that_is_none(rt: HostRuntime) -> Result<(), Fail> {
-    let wrong = first_wrong(rt.alloc(), PLA, &TYPES)?;
-    assert_eq!(rt; wrong, None);
-    Ok(())
+    assert_all(&rt, first_wrong(rt.alloc(), PLA, &TYPES))
 }
 
 static BEFORE_NUMBERS: [Refusal; 2] = [
@@ -185,9 +174,7 @@ static BEFORE_NUMBERS: [Refusal; 2] = [
 
 #[test]
 fn names_before_their_number(rt: HostRuntime) -> Result<(), Fail> {
-    let wrong = first_wrong(rt.alloc(), PLA, &BEFORE_NUMBERS)?;
-    assert_eq!(rt; wrong, None);
-    Ok(())
+    assert_all(&rt, first_wrong(rt.alloc(), PLA, &BEFORE_NUMBERS))
 }
 
 static UNSUPPORTED: [Refusal; 6] = [
@@ -219,9 +206,7 @@ static UNSUPPORTED: [Refusal; 6] = [
 
 #[test]
 fn headers_that_are_not_supported(rt: HostRuntime) -> Result<(), Fail> {
-    let wrong = first_wrong(rt.alloc(), PLA, &UNSUPPORTED)?;
-    assert_eq!(rt; wrong, None);
-    Ok(())
+    assert_all(&rt, first_wrong(rt.alloc(), PLA, &UNSUPPORTED))
 }
 
 static UNKNOWN: [Refusal; 5] = [
@@ -249,7 +234,5 @@ static UNKNOWN: [Refusal; 5] = [
 
 #[test]
 fn headers_that_no_one_knows(rt: HostRuntime) -> Result<(), Fail> {
-    let wrong = first_wrong(rt.alloc(), PLA, &UNKNOWN)?;
-    assert_eq!(rt; wrong, None);
-    Ok(())
+    assert_all(&rt, first_wrong(rt.alloc(), PLA, &UNKNOWN))
 }

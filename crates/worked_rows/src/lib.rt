@@ -8,6 +8,8 @@ mod blif_profile;
 #[cfg(test)]
 mod cut_texts;
 #[cfg(test)]
+mod differs;
+#[cfg(test)]
 mod files;
 #[cfg(test)]
 mod handed;

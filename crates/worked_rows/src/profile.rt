@@ -1,6 +1,7 @@
 //! What is written for sources of the whole PLA profile: types, names, don't cares, and the many ways to write one text.
 
-use crate::files::{Differs, PLA};
+use crate::differs::{assert_all, assert_same};
+use crate::files::PLA;
 use crate::written::{AND, Counts, ONE_INPUT, Row, first_other, gives, gives_for};
 use std::test::Fail;
 
@@ -22,17 +23,13 @@ static BCD: Row = Row {
 
 #[test]
 fn bcd_to_seven_segments(rt: HostRuntime) -> Result<(), Fail> {
-    let given = gives(rt.alloc(), &BCD)?;
-    assert_eq!(rt; given, Differs::Nothing);
-    Ok(())
+    assert_same(&rt, gives(rt.alloc(), &BCD))
 }
 
 #[test]
 fn a_point_in_on_and_in_dc_is_on(rt: HostRuntime) -> Result<(), Fail> {
     let source = b".i 1\n.o 1\n1 1\n- -\n.e\n".as_slice();
-    let given = gives_for(rt.alloc(), PLA, source, &ONE_INPUT)?;
-    assert_eq!(rt; given, Differs::Nothing);
-    Ok(())
+    assert_same(&rt, gives_for(rt.alloc(), PLA, source, &ONE_INPUT))
 }
 
 /// The point 00 is free, so the output is the first input alone.
@@ -53,9 +50,7 @@ static FREE_POINT: Row = Row {
 
 #[test]
 fn a_point_that_no_row_lists_is_free_in_fr(rt: HostRuntime) -> Result<(), Fail> {
-    let given = gives(rt.alloc(), &FREE_POINT)?;
-    assert_eq!(rt; given, Differs::Nothing);
-    Ok(())
+    assert_same(&rt, gives(rt.alloc(), &FREE_POINT))
 }
 
 /// A source name begins with one underscore, so inner names begin with two.
@@ -76,9 +71,7 @@ static UNDERSCORES: Row = Row {
 
 #[test]
 fn names_with_underscores(rt: HostRuntime) -> Result<(), Fail> {
-    let given = gives(rt.alloc(), &UNDERSCORES)?;
-    assert_eq!(rt; given, Differs::Nothing);
-    Ok(())
+    assert_same(&rt, gives(rt.alloc(), &UNDERSCORES))
 }
 
 static ENDS: [&[u8]; 5] = [
@@ -91,9 +84,7 @@ static ENDS: [&[u8]; 5] = [
 
 #[test]
 fn nothing_is_read_after_the_end(rt: HostRuntime) -> Result<(), Fail> {
-    let other = first_other(rt.alloc(), PLA, &ENDS, &AND)?;
-    assert_eq!(rt; other, None);
-    Ok(())
+    assert_all(&rt, first_other(rt.alloc(), PLA, &ENDS, &AND))
 }
 
 static BLANKS: [&[u8]; 6] = [
@@ -107,9 +98,7 @@ static BLANKS: [&[u8]; 6] = [
 
 #[test]
 fn blanks_bars_and_comments_say_nothing(rt: HostRuntime) -> Result<(), Fail> {
-    let other = first_other(rt.alloc(), PLA, &BLANKS, &AND)?;
-    assert_eq!(rt; other, None);
-    Ok(())
+    assert_all(&rt, first_other(rt.alloc(), PLA, &BLANKS, &AND))
 }
 
 static HEADERS: [&[u8]; 4] = [
@@ -121,9 +110,7 @@ static HEADERS: [&[u8]; 4] = [
 
 #[test]
 fn headers_stand_in_any_order(rt: HostRuntime) -> Result<(), Fail> {
-    let other = first_other(rt.alloc(), PLA, &HEADERS, &AND)?;
-    assert_eq!(rt; other, None);
-    Ok(())
+    assert_all(&rt, first_other(rt.alloc(), PLA, &HEADERS, &AND))
 }
 
 static MARKS: [&[u8]; 6] = [
@@ -137,7 +124,5 @@ static MARKS: [&[u8]; 6] = [
 
 #[test]
 fn marks_in_every_kind(rt: HostRuntime) -> Result<(), Fail> {
-    let other = first_other(rt.alloc(), PLA, &MARKS, &AND)?;
-    assert_eq!(rt; other, None);
-    Ok(())
+    assert_all(&rt, first_other(rt.alloc(), PLA, &MARKS, &AND))
 }

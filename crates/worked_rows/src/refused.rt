@@ -1,8 +1,10 @@
 //! Runs on a source that is refused.
 
-use crate::files::{Differs, Given, Held, compare_files, tells, with_source};
+use crate::differs::{Differs, Other};
+use crate::files::{Given, Held, compare_files, tells, with_source};
+use ae_base::Memory;
 use ae_outside::MemFiles;
-use std::alloc::{AllocError, Global};
+use std::alloc::Global;
 use synth_cmd::REFUSED;
 
 /// A source, and the line that refuses its text.
@@ -11,17 +13,10 @@ pub struct Refusal {
     pub report: &'static [u8],
 }
 
-/// A row of a table that is not as it says.
-#[derive(Debug, PartialEq, Clone, Copy)]
-pub struct Other {
-    pub row: usize,
-    pub differs: Differs,
-}
-
 /// The files before a run: the source, and a network that was there.
-fn files_before(alloc: Global, given: Given, source: &[u8]) -> Result<MemFiles, AllocError> {
+fn files_before(alloc: Global, given: Given, source: &[u8]) -> Result<MemFiles, Memory> {
     let mut files = with_source(alloc, given, source)?;
-    files.put("n.blif", b"old").map_err(|_| AllocError)?;
+    files.put("n.blif", b"old")?;
     Ok(files)
 }
 
@@ -42,18 +37,14 @@ pub fn ends(
     source: &[u8],
     wanted: u8,
     line: &[u8],
-) -> Result<Differs, AllocError> {
+) -> Result<Differs, Memory> {
     let mut files = files_before(alloc, given, source)?;
     let told = tells(alloc, given, &mut files, wanted, line)?;
     Ok(told.or(are_as_before(&files, given, source)))
 }
 
 /// The first row whose text is not refused as it says, where there is one.
-pub fn first_wrong(
-    alloc: Global,
-    given: Given,
-    rows: &[Refusal],
-) -> Result<Option<Other>, AllocError> {
+pub fn first_wrong(alloc: Global, given: Given, rows: &[Refusal]) -> Result<Option<Other>, Memory> {
     for (row, refusal) in rows.iter().enumerate() {
         let differs = ends(alloc, given, refusal.source, REFUSED, refusal.report)?;
         if differs != Differs::Nothing {

@@ -1,5 +1,6 @@
 //! Faults of rows of a PLA text: the first faulty line, and its fault.
 
+use crate::differs::assert_all;
 use crate::files::PLA;
 use crate::refused::{Refusal, first_wrong};
 use std::test::Fail;
@@ -17,9 +18,7 @@ static BEFORE_NUMBERS: [Refusal; 2] = [
 
 #[test]
 fn a_row_before_the_numbers(rt: HostRuntime) -> Result<(), Fail> {
-    let wrong = first_wrong(rt.alloc(), PLA, &BEFORE_NUMBERS)?;
-    assert_eq!(rt; wrong, None);
-    Ok(())
+    assert_all(&rt, first_wrong(rt.alloc(), PLA, &BEFORE_NUMBERS))
 }
 
 static WIDTHS: [Refusal; 4] = [
@@ -43,9 +42,7 @@ static WIDTHS: [Refusal; 4] = [
 
 #[test]
 fn rows_that_are_too_short_or_too_long(rt: HostRuntime) -> Result<(), Fail> {
-    let wrong = first_wrong(rt.alloc(), PLA, &WIDTHS)?;
-    assert_eq!(rt; wrong, None);
-    Ok(())
+    assert_all(&rt, first_wrong(rt.alloc(), PLA, &WIDTHS))
 }
 
 static CHARACTERS: [Refusal; 5] = [
@@ -73,9 +70,7 @@ static CHARACTERS: [Refusal; 5] = [
 
 #[test]
 fn rows_with_other_characters(rt: HostRuntime) -> Result<(), Fail> {
-    let wrong = first_wrong(rt.alloc(), PLA, &CHARACTERS)?;
-    assert_eq!(rt; wrong, None);
-    Ok(())
+    assert_all(&rt, first_wrong(rt.alloc(), PLA, &CHARACTERS))
 }
 
 static FIRST: [Refusal; 3] = [
@@ -95,7 +90,5 @@ static FIRST: [Refusal; 3] = [
 
 #[test]
 fn the_first_of_several_faults(rt: HostRuntime) -> Result<(), Fail> {
-    let wrong = first_wrong(rt.alloc(), PLA, &FIRST)?;
-    assert_eq!(rt; wrong, None);
-    Ok(())
+    assert_all(&rt, first_wrong(rt.alloc(), PLA, &FIRST))
 }

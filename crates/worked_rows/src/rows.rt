@@ -1,6 +1,6 @@
 //! What is written for sources, byte for byte.
 
-use crate::files::Differs;
+use crate::differs::assert_same;
 use crate::written::{AND, Counts, ONE_INPUT, Row, gives};
 use std::test::Fail;
 
@@ -145,77 +145,55 @@ static CANCELLED_PRODUCTS: Row = Row {
 
 #[test]
 fn two_inputs_even_and_one_odd(rt: HostRuntime) -> Result<(), Fail> {
-    let given = gives(rt.alloc(), &TWO_EVEN_AND_ONE_ODD)?;
-    assert_eq!(rt; given, Differs::Nothing);
-    Ok(())
+    assert_same(&rt, gives(rt.alloc(), &TWO_EVEN_AND_ONE_ODD))
 }
 
 #[test]
 fn two_input_and(rt: HostRuntime) -> Result<(), Fail> {
-    let given = gives(rt.alloc(), &AND)?;
-    assert_eq!(rt; given, Differs::Nothing);
-    Ok(())
+    assert_same(&rt, gives(rt.alloc(), &AND))
 }
 
 #[test]
 fn majority_of_three(rt: HostRuntime) -> Result<(), Fail> {
-    let given = gives(rt.alloc(), &MAJORITY)?;
-    assert_eq!(rt; given, Differs::Nothing);
-    Ok(())
+    assert_same(&rt, gives(rt.alloc(), &MAJORITY))
 }
 
 #[test]
 fn two_input_exor(rt: HostRuntime) -> Result<(), Fail> {
-    let given = gives(rt.alloc(), &EXOR)?;
-    assert_eq!(rt; given, Differs::Nothing);
-    Ok(())
+    assert_same(&rt, gives(rt.alloc(), &EXOR))
 }
 
 #[test]
 fn one_input(rt: HostRuntime) -> Result<(), Fail> {
-    let given = gives(rt.alloc(), &ONE_INPUT)?;
-    assert_eq!(rt; given, Differs::Nothing);
-    Ok(())
+    assert_same(&rt, gives(rt.alloc(), &ONE_INPUT))
 }
 
 #[test]
 fn constant_0(rt: HostRuntime) -> Result<(), Fail> {
-    let given = gives(rt.alloc(), &CONSTANT_0)?;
-    assert_eq!(rt; given, Differs::Nothing);
-    Ok(())
+    assert_same(&rt, gives(rt.alloc(), &CONSTANT_0))
 }
 
 #[test]
 fn constant_1(rt: HostRuntime) -> Result<(), Fail> {
-    let given = gives(rt.alloc(), &CONSTANT_1)?;
-    assert_eq!(rt; given, Differs::Nothing);
-    Ok(())
+    assert_same(&rt, gives(rt.alloc(), &CONSTANT_1))
 }
 
 #[test]
 fn shared_term_and_inverter(rt: HostRuntime) -> Result<(), Fail> {
-    let given = gives(rt.alloc(), &SHARED)?;
-    assert_eq!(rt; given, Differs::Nothing);
-    Ok(())
+    assert_same(&rt, gives(rt.alloc(), &SHARED))
 }
 
 #[test]
 fn half_adder(rt: HostRuntime) -> Result<(), Fail> {
-    let given = gives(rt.alloc(), &HALF_ADDER)?;
-    assert_eq!(rt; given, Differs::Nothing);
-    Ok(())
+    assert_same(&rt, gives(rt.alloc(), &HALF_ADDER))
 }
 
 #[test]
 fn an_input_that_nothing_reads(rt: HostRuntime) -> Result<(), Fail> {
-    let given = gives(rt.alloc(), &UNREAD_INPUT)?;
-    assert_eq!(rt; given, Differs::Nothing);
-    Ok(())
+    assert_same(&rt, gives(rt.alloc(), &UNREAD_INPUT))
 }
 
 #[test]
 fn two_products_that_cancel(rt: HostRuntime) -> Result<(), Fail> {
-    let given = gives(rt.alloc(), &CANCELLED_PRODUCTS)?;
-    assert_eq!(rt; given, Differs::Nothing);
-    Ok(())
+    assert_same(&rt, gives(rt.alloc(), &CANCELLED_PRODUCTS))
 }

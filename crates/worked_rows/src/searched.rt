@@ -1,11 +1,12 @@
 //! Runs that search for a polarity, with advisors: what is written, what each advisor was told, and what is left of it.
 
-use crate::files::{Differs, Held, PLA, compare_files, compare_report, run_advised, with_source};
-use crate::refused::Other;
-use ae_base::Mask;
+use crate::differs::{Differs, Other, assert_all, assert_same};
+use crate::files::{Held, PLA, compare_files, compare_report, run_advised, with_source};
+use ae_base::{Mask, Memory};
 use ae_outside::{MemFiles, MemSink};
+use given::set;
 use polarity::{Advisor, Listed, Negative, Told, Walker};
-use std::alloc::{AllocError, Global};
+use std::alloc::Global;
 use std::test::Fail;
 use synth_cmd::{DONE, TOO_MANY_TERMS};
 
@@ -32,17 +33,7 @@ struct Search {
     asked: &'static [Asked],
 }
 
-fn set(members: &[u32]) -> Mask {
-    let mut set = Mask::empty();
-    for j in members {
-        if *j < 64 {
-            set = set.with(*j);
-        }
-    }
-    set
-}
-
-fn sets(alloc: Global, lists: &[&'static [u32]]) -> Result<Vec<Mask>, AllocError> {
+fn sets(alloc: Global, lists: &[&'static [u32]]) -> Result<Vec<Mask>, Memory> {
     let mut sets = Vec::new(alloc);
     for members in lists {
         sets.push(set(members))?;
@@ -50,7 +41,7 @@ fn sets(alloc: Global, lists: &[&'static [u32]]) -> Result<Vec<Mask>, AllocError
     Ok(sets)
 }
 
-fn bring(alloc: Global, brought: &Brought) -> Result<Box<dyn Advisor>, AllocError> {
+fn bring(alloc: Global, brought: &Brought) -> Result<Box<dyn Advisor>, Memory> {
     match brought {
         Brought::Sets(lists) => Ok(Box::new(alloc, Listed::new(alloc, sets(alloc, lists)?))?),
         Brought::Complements => Ok(Box::new(alloc, Negative::new(alloc))?),
@@ -58,7 +49,7 @@ fn bring(alloc: Global, brought: &Brought) -> Result<Box<dyn Advisor>, AllocErro
     }
 }
 
-fn bring_all(alloc: Global, brought: &[Brought]) -> Result<Vec<Box<dyn Advisor>>, AllocError> {
+fn bring_all(alloc: Global, brought: &[Brought]) -> Result<Vec<Box<dyn Advisor>>, Memory> {
     let mut advisors: Vec<Box<dyn Advisor>> = Vec::new(alloc);
     for one in brought {
         advisors.push(bring(alloc, one)?)?;
@@ -86,7 +77,7 @@ fn are_told(advisors: &[Box<dyn Advisor>], asked: &[Asked]) -> bool {
 }
 
 /// Runs over these files, and compares the status and the report, and what became of the advisors.
-fn ends(alloc: Global, files: &mut MemFiles, search: &Search) -> Result<Differs, AllocError> {
+fn ends(alloc: Global, files: &mut MemFiles, search: &Search) -> Result<Differs, Memory> {
     let mut advisors = bring_all(alloc, search.brought)?;
     let mut report = MemSink::new(alloc);
     let status = run_advised(alloc, search.words, files, &mut report, &mut advisors)?;
@@ -97,7 +88,7 @@ fn ends(alloc: Global, files: &mut MemFiles, search: &Search) -> Result<Differs,
 }
 
 /// The first run that does not end as it says, where there is one.
-fn first_other(alloc: Global, searches: &[Search]) -> Result<Option<Other>, AllocError> {
+fn first_other(alloc: Global, searches: &[Search]) -> Result<Option<Other>, Memory> {
     for (row, search) in searches.iter().enumerate() {
         let mut files = with_source(alloc, PLA, search.source)?;
         let differs = ends(alloc, &mut files, search)?;
@@ -171,9 +162,7 @@ static OTHERS: [Search; 6] = [
 
 #[test]
 fn searches_end_as_their_advisors_say(rt: HostRuntime) -> Result<(), Fail> {
-    let other = first_other(rt.alloc(), &OTHERS)?;
-    assert_eq!(rt; other, None);
-    Ok(())
+    assert_all(&rt, first_other(rt.alloc(), &OTHERS))
 }
 
 /// BCD to seven segments with the program's own advisors: the digits from 10 on are specified as nothing.
@@ -211,18 +200,11 @@ static SEVEN_SEGMENTS: [Search; 1] = [Search {
 
 #[test]
 fn bcd_to_seven_segments_is_searched(rt: HostRuntime) -> Result<(), Fail> {
-    let other = first_other(rt.alloc(), &SEVEN_SEGMENTS)?;
-    assert_eq!(rt; other, None);
-    Ok(())
+    assert_all(&rt, first_other(rt.alloc(), &SEVEN_SEGMENTS))
 }
 
 /// Runs on the source, and compares with how the run ends, and the files with these.
-fn writes(
-    alloc: Global,
-    search: &Search,
-    net: &[u8],
-    vectors: &[u8],
-) -> Result<Differs, AllocError> {
+fn writes(alloc: Global, search: &Search, net: &[u8], vectors: &[u8]) -> Result<Differs, Memory> {
     let mut files = with_source(alloc, PLA, search.source)?;
     let ended = ends(alloc, &mut files, search)?;
     let held = Held {
@@ -235,24 +217,26 @@ fn writes(
 
 #[test]
 fn a_proposal_of_fewest_terms_is_taken(rt: HostRuntime) -> Result<(), Fail> {
-    let differs = writes(
-        rt.alloc(),
-        &COMPLEMENTS,
-        b".model andexor\n.inputs x1 x2 x3 _c\n.outputs f1\n.names x1 _i1\n0 1\n.names x2 _i2\n0 1\n.names x3 _i3\n0 1\n.names _i1 _i2 _i3 _t1\n111 1\n.names _c _t1 f1\n10 1\n01 1\n.end\n",
-        b"andexor-vectors 1\nform reddy\ninputs x1 x2 x3 _c\noutputs f1\npolarity 000\nvector 1110 0\nvector 0000 1\nvector 1111 1\nvector 0001 0\nvector 1000 0\nvector 0100 0\nvector 0010 0\nend\n",
-    )?;
-    assert_eq!(rt; differs, Differs::Nothing);
-    Ok(())
+    assert_same(
+        &rt,
+        writes(
+            rt.alloc(),
+            &COMPLEMENTS,
+            b".model andexor\n.inputs x1 x2 x3 _c\n.outputs f1\n.names x1 _i1\n0 1\n.names x2 _i2\n0 1\n.names x3 _i3\n0 1\n.names _i1 _i2 _i3 _t1\n111 1\n.names _c _t1 f1\n10 1\n01 1\n.end\n",
+            b"andexor-vectors 1\nform reddy\ninputs x1 x2 x3 _c\noutputs f1\npolarity 000\nvector 1110 0\nvector 0000 1\nvector 1111 1\nvector 0001 0\nvector 1000 0\nvector 0100 0\nvector 0010 0\nend\n",
+        ),
+    )
 }
 
 #[test]
 fn a_proposal_that_no_flip_finds_is_taken(rt: HostRuntime) -> Result<(), Fail> {
-    let differs = writes(
-        rt.alloc(),
-        &OR,
-        b".model andexor\n.inputs x1 x2 _c\n.outputs f1\n.names x1 _i1\n0 1\n.names x2 _i2\n0 1\n.names _c _m\n0 1\n.names _i1 _i2 _t1\n11 1\n.names _m _t1 f1\n10 1\n01 1\n.end\n",
-        b"andexor-vectors 1\nform reddy\ninputs x1 x2 _c\noutputs f1\npolarity 00\nvector 110 1\nvector 000 0\nvector 111 0\nvector 001 1\nvector 100 1\nvector 010 1\nend\n",
-    )?;
-    assert_eq!(rt; differs, Differs::Nothing);
-    Ok(())
+    assert_same(
+        &rt,
+        writes(
+            rt.alloc(),
+            &OR,
+            b".model andexor\n.inputs x1 x2 _c\n.outputs f1\n.names x1 _i1\n0 1\n.names x2 _i2\n0 1\n.names _c _m\n0 1\n.names _i1 _i2 _t1\n11 1\n.names _m _t1 f1\n10 1\n01 1\n.end\n",
+            b"andexor-vectors 1\nform reddy\ninputs x1 x2 _c\noutputs f1\npolarity 00\nvector 110 1\nvector 000 0\nvector 111 0\nvector 001 1\nvector 100 1\nvector 010 1\nend\n",
+        ),
+    )
 }

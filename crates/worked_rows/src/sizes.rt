@@ -1,9 +1,11 @@
 //! Texts at the limits, and past them.
 
-use crate::files::{BLIF, Differs, Given, PLA, with_source};
+use crate::differs::{Differs, assert_same};
+use crate::files::{BLIF, Given, PLA, with_source};
 use crate::refused::ends;
 use crate::written::{AND, Counts, ONE_INPUT, counts_for, gives_for};
-use std::alloc::{AllocError, Global};
+use ae_base::Memory;
+use std::alloc::Global;
 use std::test::Fail;
 use synth_cmd::{DONE, REFUSED, TOO_LONG, TOO_MANY_TERMS};
 
@@ -11,7 +13,7 @@ use synth_cmd::{DONE, REFUSED, TOO_LONG, TOO_MANY_TERMS};
 const LONGEST: usize = 16_777_216;
 
 /// A text that ends with `.e`, and after it bytes 10 up to this number of bytes.
-fn filled(alloc: Global, count: usize) -> Result<Vec<u8>, AllocError> {
+fn filled(alloc: Global, count: usize) -> Result<Vec<u8>, Memory> {
     let mut text = Vec::from_slice(alloc, AND.pla)?;
     text.resize(count, b'\n')?;
     Ok(text)
@@ -21,22 +23,21 @@ fn filled(alloc: Global, count: usize) -> Result<Vec<u8>, AllocError> {
 fn a_text_of_the_greatest_length(rt: HostRuntime) -> Result<(), Fail> {
     let alloc = rt.alloc();
     let text = filled(alloc, LONGEST)?;
-    let given = gives_for(alloc, PLA, &text, &AND)?;
-    assert_eq!(rt; given, Differs::Nothing);
-    Ok(())
+    assert_same(&rt, gives_for(alloc, PLA, &text, &AND))
 }
 
 #[test]
 fn a_text_of_one_byte_more(rt: HostRuntime) -> Result<(), Fail> {
     let alloc = rt.alloc();
     let text = filled(alloc, LONGEST + 1)?;
-    let refused = ends(alloc, PLA, &text, TOO_LONG, b"too long: in.pla\n")?;
-    assert_eq!(rt; refused, Differs::Nothing);
-    Ok(())
+    assert_same(
+        &rt,
+        ends(alloc, PLA, &text, TOO_LONG, b"too long: in.pla\n"),
+    )
 }
 
 /// A text of one input, one output and this number of rows.
-fn rows(alloc: Global, count: usize) -> Result<Vec<u8>, AllocError> {
+fn rows(alloc: Global, count: usize) -> Result<Vec<u8>, Memory> {
     let mut text = Vec::from_slice(alloc, b".i 1\n.o 1\n")?;
     for _ in 0..count {
         text.extend_from_slice(b"1 1\n")?;
@@ -48,9 +49,7 @@ fn rows(alloc: Global, count: usize) -> Result<Vec<u8>, AllocError> {
 fn as_many_rows_as_there_may_be(rt: HostRuntime) -> Result<(), Fail> {
     let alloc = rt.alloc();
     let text = rows(alloc, 65_536)?;
-    let given = gives_for(alloc, PLA, &text, &ONE_INPUT)?;
-    assert_eq!(rt; given, Differs::Nothing);
-    Ok(())
+    assert_same(&rt, gives_for(alloc, PLA, &text, &ONE_INPUT))
 }
 
 #[test]
@@ -58,13 +57,11 @@ fn one_row_more_than_there_may_be(rt: HostRuntime) -> Result<(), Fail> {
     let alloc = rt.alloc();
     let text = rows(alloc, 65_537)?;
     let line = b"refused: in.pla: line 65539: TooManyRows\n".as_slice();
-    let refused = ends(alloc, PLA, &text, REFUSED, line)?;
-    assert_eq!(rt; refused, Differs::Nothing);
-    Ok(())
+    assert_same(&rt, ends(alloc, PLA, &text, REFUSED, line))
 }
 
 /// A text whose input has a name of this number of bytes.
-fn named(alloc: Global, count: usize) -> Result<Vec<u8>, AllocError> {
+fn named(alloc: Global, count: usize) -> Result<Vec<u8>, Memory> {
     let mut text = Vec::from_slice(alloc, b".i 1\n.o 1\n.ilb ")?;
     for _ in 0..count {
         text.push(b'a')?;
@@ -74,7 +71,7 @@ fn named(alloc: Global, count: usize) -> Result<Vec<u8>, AllocError> {
 }
 
 /// Runs `synth` on a text whose input has a name of this number of bytes, and compares with a refusal.
-fn refuses_named(alloc: Global, count: usize, line: &[u8]) -> Result<Differs, AllocError> {
+fn refuses_named(alloc: Global, count: usize, line: &[u8]) -> Result<Differs, Memory> {
     let text = named(alloc, count)?;
     ends(alloc, PLA, &text, REFUSED, line)
 }
@@ -82,24 +79,20 @@ fn refuses_named(alloc: Global, count: usize, line: &[u8]) -> Result<Differs, Al
 #[test]
 fn the_longest_name(rt: HostRuntime) -> Result<(), Fail> {
     let line = b"refused: in.pla: line 5: Late\n".as_slice();
-    let refused = refuses_named(rt.alloc(), 255, line)?;
-    assert_eq!(rt; refused, Differs::Nothing);
-    Ok(())
+    assert_same(&rt, refuses_named(rt.alloc(), 255, line))
 }
 
 #[test]
 fn a_name_of_one_byte_more(rt: HostRuntime) -> Result<(), Fail> {
     let line = b"refused: in.pla: line 3: BadNames\n".as_slice();
-    let refused = refuses_named(rt.alloc(), 256, line)?;
-    assert_eq!(rt; refused, Differs::Nothing);
-    Ok(())
+    assert_same(&rt, refuses_named(rt.alloc(), 256, line))
 }
 
 /// The bytes of each name of the widest source.
 const LONG: usize = 255;
 
 /// Writes a blank and a name of `LONG` bytes: one letter over and over, and the two digits of the number.
-fn push_long(text: &mut Vec<u8>, letter: u8, number: u8) -> Result<(), AllocError> {
+fn push_long(text: &mut Vec<u8>, letter: u8, number: u8) -> Result<(), Memory> {
     text.push(b' ')?;
     for _ in 2..LONG {
         text.push(letter)?;
@@ -110,7 +103,7 @@ fn push_long(text: &mut Vec<u8>, letter: u8, number: u8) -> Result<(), AllocErro
 }
 
 /// Writes a line of sixty-four long names.
-fn push_names(text: &mut Vec<u8>, head: &[u8], letter: u8) -> Result<(), AllocError> {
+fn push_names(text: &mut Vec<u8>, head: &[u8], letter: u8) -> Result<(), Memory> {
     text.extend_from_slice(head)?;
     for number in 0..64 {
         push_long(text, letter, number)?;
@@ -120,7 +113,7 @@ fn push_names(text: &mut Vec<u8>, head: &[u8], letter: u8) -> Result<(), AllocEr
 }
 
 /// Writes sixty-four bytes, of which one is a `1`.
-fn push_one(text: &mut Vec<u8>, other: u8, place: u8) -> Result<(), AllocError> {
+fn push_one(text: &mut Vec<u8>, other: u8, place: u8) -> Result<(), Memory> {
     for k in 0..64 {
         text.push(if k == place { b'1' } else { other })?;
     }
@@ -128,7 +121,7 @@ fn push_one(text: &mut Vec<u8>, other: u8, place: u8) -> Result<(), AllocError> 
 }
 
 /// A text of sixty-four inputs and as many outputs, each of which is the input of its place.
-fn widest(alloc: Global) -> Result<Vec<u8>, AllocError> {
+fn widest(alloc: Global) -> Result<Vec<u8>, Memory> {
     let mut text = Vec::from_slice(alloc, b".i 64\n.o 64\n")?;
     push_names(&mut text, b".ilb", b'a')?;
     push_names(&mut text, b".ob", b'f')?;
@@ -155,13 +148,11 @@ static WIDEST_COUNTS: Counts = Counts {
 fn as_many_inputs_and_outputs_as_there_may_be(rt: HostRuntime) -> Result<(), Fail> {
     let alloc = rt.alloc();
     let text = widest(alloc)?;
-    let told = tells_counts(alloc, PLA, &text, &WIDEST_COUNTS)?;
-    assert_eq!(rt; told, Differs::Nothing);
-    Ok(())
+    assert_same(&rt, tells_counts(alloc, PLA, &text, &WIDEST_COUNTS))
 }
 
 /// Writes the gate of an output that is the input of its place.
-fn push_buffer(text: &mut Vec<u8>, place: u8) -> Result<(), AllocError> {
+fn push_buffer(text: &mut Vec<u8>, place: u8) -> Result<(), Memory> {
     text.extend_from_slice(b".names")?;
     push_long(text, b'a', place)?;
     push_long(text, b'f', place)?;
@@ -170,7 +161,7 @@ fn push_buffer(text: &mut Vec<u8>, place: u8) -> Result<(), AllocError> {
 }
 
 /// The same as a BLIF text.
-fn widest_in_blif(alloc: Global) -> Result<Vec<u8>, AllocError> {
+fn widest_in_blif(alloc: Global) -> Result<Vec<u8>, Memory> {
     let mut text = Vec::from_slice(alloc, b".model m\n")?;
     push_names(&mut text, b".inputs", b'a')?;
     push_names(&mut text, b".outputs", b'f')?;
@@ -184,16 +175,14 @@ fn widest_in_blif(alloc: Global) -> Result<Vec<u8>, AllocError> {
 fn a_network_of_as_many_inputs_and_outputs_as_there_may_be(rt: HostRuntime) -> Result<(), Fail> {
     let alloc = rt.alloc();
     let text = widest_in_blif(alloc)?;
-    let told = tells_counts(alloc, BLIF, &text, &WIDEST_COUNTS)?;
-    assert_eq!(rt; told, Differs::Nothing);
-    Ok(())
+    assert_same(&rt, tells_counts(alloc, BLIF, &text, &WIDEST_COUNTS))
 }
 
 /// The most gates of a network.
 const GATES: u32 = 262_144;
 
 /// A BLIF text of this number of gates: a buffer, and gates that are 0, which nothing reads.
-fn gates(alloc: Global, count: u32) -> Result<String, AllocError> {
+fn gates(alloc: Global, count: u32) -> Result<String, Memory> {
     let head = ".model m\n.inputs x1\n.outputs f1\n.names x1 f1\n1 1\n";
     let mut text = String::from_str(alloc, head)?;
     for k in 1..count {
@@ -207,9 +196,7 @@ fn gates(alloc: Global, count: u32) -> Result<String, AllocError> {
 fn as_many_gates_as_there_may_be(rt: HostRuntime) -> Result<(), Fail> {
     let alloc = rt.alloc();
     let text = gates(alloc, GATES)?;
-    let given = gives_for(alloc, BLIF, text.as_bytes(), &ONE_INPUT)?;
-    assert_eq!(rt; given, Differs::Nothing);
-    Ok(())
+    assert_same(&rt, gives_for(alloc, BLIF, text.as_bytes(), &ONE_INPUT))
 }
 
 #[test]
@@ -217,9 +204,7 @@ fn one_gate_more_than_there_may_be(rt: HostRuntime) -> Result<(), Fail> {
     let alloc = rt.alloc();
     let text = gates(alloc, GATES + 1)?;
     let line = b"refused: in.blif: line 262149: TooManyGates\n".as_slice();
-    let refused = ends(alloc, BLIF, text.as_bytes(), REFUSED, line)?;
-    assert_eq!(rt; refused, Differs::Nothing);
-    Ok(())
+    assert_same(&rt, ends(alloc, BLIF, text.as_bytes(), REFUSED, line))
 }
 
 /// With every literal plain the expansion has a term for each set of the seventeen inputs: 131,072.
@@ -232,10 +217,11 @@ static SEVENTEEN_IN_BLIF: &[u8] =
 fn seventeen_complemented_inputs(rt: HostRuntime) -> Result<(), Fail> {
     let alloc = rt.alloc();
     let line = b"too many terms: output 1\n".as_slice();
-    let pla = ends(alloc, PLA, SEVENTEEN, TOO_MANY_TERMS, line)?;
-    let blif = ends(alloc, BLIF, SEVENTEEN_IN_BLIF, TOO_MANY_TERMS, line)?;
-    assert_eq!(rt; pla.or(blif), Differs::Nothing);
-    Ok(())
+    assert_same(&rt, ends(alloc, PLA, SEVENTEEN, TOO_MANY_TERMS, line))?;
+    assert_same(
+        &rt,
+        ends(alloc, BLIF, SEVENTEEN_IN_BLIF, TOO_MANY_TERMS, line),
+    )
 }
 
 /// The expansion has a term for each set of the forty inputs, more than any memory holds.
@@ -244,9 +230,7 @@ static FORTY: &[u8] = b".i 40\n.o 1\n0000000000000000000000000000000000000000 1\
 #[test]
 fn forty_complemented_inputs(rt: HostRuntime) -> Result<(), Fail> {
     let line = b"too many terms: output 1\n".as_slice();
-    let refused = ends(rt.alloc(), PLA, FORTY, TOO_MANY_TERMS, line)?;
-    assert_eq!(rt; refused, Differs::Nothing);
-    Ok(())
+    assert_same(&rt, ends(rt.alloc(), PLA, FORTY, TOO_MANY_TERMS, line))
 }
 
 /// The output has a term for each set of the sixteen inputs: 65,536, as many as there may be in all.
@@ -273,16 +257,14 @@ fn tells_counts(
     given: Given,
     source: &[u8],
     counts: &Counts,
-) -> Result<Differs, AllocError> {
+) -> Result<Differs, Memory> {
     let mut files = with_source(alloc, given, source)?;
     counts_for(alloc, given, &mut files, counts)
 }
 
 #[test]
 fn as_many_terms_as_there_may_be(rt: HostRuntime) -> Result<(), Fail> {
-    let told = tells_counts(rt.alloc(), PLA, SIXTEEN, &SIXTEEN_COUNTS)?;
-    assert_eq!(rt; told, Differs::Nothing);
-    Ok(())
+    assert_same(&rt, tells_counts(rt.alloc(), PLA, SIXTEEN, &SIXTEEN_COUNTS))
 }
 
 /// Each of the two outputs has a term for each set of the sixteen inputs.
@@ -291,7 +273,8 @@ static SIXTEEN_TWICE: &[u8] = b".i 16\n.o 2\n0000000000000000 11\n.e\n";
 #[test]
 fn the_terms_of_all_outputs_count(rt: HostRuntime) -> Result<(), Fail> {
     let line = b"too many terms: output 2\n".as_slice();
-    let refused = ends(rt.alloc(), PLA, SIXTEEN_TWICE, TOO_MANY_TERMS, line)?;
-    assert_eq!(rt; refused, Differs::Nothing);
-    Ok(())
+    assert_same(
+        &rt,
+        ends(rt.alloc(), PLA, SIXTEEN_TWICE, TOO_MANY_TERMS, line),
+    )
 }

@@ -1,13 +1,13 @@
 //! The statuses, the lines that tell them, and what the files hold then.
 
+use crate::differs::{Differs, Other, assert_all, assert_same};
 use crate::files::{
-    BLIF, Differs, Given, Held, PLA, compare_files, compare_report, run_words, tells, tells_for,
-    with_source,
+    BLIF, Given, Held, PLA, compare_files, compare_report, run_words, tells, tells_for, with_source,
 };
-use crate::refused::Other;
 use crate::written::{self, gives_for, net_text};
+use ae_base::Memory;
 use ae_outside::{MemFiles, MemSink};
-use std::alloc::{AllocError, Global};
+use std::alloc::Global;
 use std::test::Fail;
 use synth_cmd::{DONE, READ_FAULT, WORDS, WRITE_FAULT};
 
@@ -17,7 +17,7 @@ static USAGE: &[u8] =
     b"usage: andexor synth IN NET VEC, grade NET VEC, check NET VEC, demo NUMBER NET VEC\n";
 
 /// The status of `synth` with ample memory.
-fn status_of_and(alloc: Global) -> Result<u8, AllocError> {
+fn status_of_and(alloc: Global) -> Result<u8, Memory> {
     let mut files = with_source(alloc, PLA, AND)?;
     let mut report = MemSink::new(alloc);
     run_words(alloc, PLA.words, &mut files, &mut report)
@@ -31,7 +31,7 @@ fn synth_succeeds_with_ample_memory(rt: HostRuntime) -> Result<(), Fail> {
 }
 
 /// Runs words that are none of a command, and compares with their refusal: no file is touched.
-fn refuses_words(alloc: Global, text: &str) -> Result<Differs, AllocError> {
+fn refuses_words(alloc: Global, text: &str) -> Result<Differs, Memory> {
     let mut files = with_source(alloc, PLA, AND)?;
     let told = tells_for(alloc, text, &mut files, WORDS, USAGE)?;
     let left = Held {
@@ -43,7 +43,7 @@ fn refuses_words(alloc: Global, text: &str) -> Result<Differs, AllocError> {
 }
 
 /// The first of such words that are not refused so, where there are some.
-fn first_taken(alloc: Global, texts: &[&'static str]) -> Result<Option<Other>, AllocError> {
+fn first_taken(alloc: Global, texts: &[&'static str]) -> Result<Option<Other>, Memory> {
     for (row, text) in texts.iter().enumerate() {
         let differs = refuses_words(alloc, text)?;
         if differs != Differs::Nothing {
@@ -82,9 +82,7 @@ static OTHER_OPTIONS: [&str; 14] = [
 
 #[test]
 fn options_that_are_none(rt: HostRuntime) -> Result<(), Fail> {
-    let taken = first_taken(rt.alloc(), &OTHER_OPTIONS)?;
-    assert_eq!(rt; taken, None);
-    Ok(())
+    assert_all(&rt, first_taken(rt.alloc(), &OTHER_OPTIONS))
 }
 
 /// The longest of these words has 65 digits.
@@ -112,9 +110,7 @@ static OTHER_POLARITIES: [&str; 19] = [
 
 #[test]
 fn polarities_that_are_none(rt: HostRuntime) -> Result<(), Fail> {
-    let taken = first_taken(rt.alloc(), &OTHER_POLARITIES)?;
-    assert_eq!(rt; taken, None);
-    Ok(())
+    assert_all(&rt, first_taken(rt.alloc(), &OTHER_POLARITIES))
 }
 
 #[test]
@@ -123,20 +119,16 @@ fn the_kind_of_a_pla_may_be_said(rt: HostRuntime) -> Result<(), Fail> {
         words: "synth in.pla n.blif v.vec --kind pla",
         ..PLA
     };
-    let given = gives_for(rt.alloc(), said, AND, &written::AND)?;
-    assert_eq!(rt; given, Differs::Nothing);
-    Ok(())
+    assert_same(&rt, gives_for(rt.alloc(), said, AND, &written::AND))
 }
 
 #[test]
 fn words_of_another_number_or_mode_or_with_equal_names(rt: HostRuntime) -> Result<(), Fail> {
-    let taken = first_taken(rt.alloc(), &OTHER_WORDS)?;
-    assert_eq!(rt; taken, None);
-    Ok(())
+    assert_all(&rt, first_taken(rt.alloc(), &OTHER_WORDS))
 }
 
 /// Compares a run with no file there with a read fault: none is there after it.
-fn source_is_missing(alloc: Global, given: Given, line: &[u8]) -> Result<Differs, AllocError> {
+fn source_is_missing(alloc: Global, given: Given, line: &[u8]) -> Result<Differs, Memory> {
     let mut files = MemFiles::new(alloc);
     let told = tells(alloc, given, &mut files, READ_FAULT, line)?;
     let nothing = Held {
@@ -149,30 +141,25 @@ fn source_is_missing(alloc: Global, given: Given, line: &[u8]) -> Result<Differs
 
 #[test]
 fn a_missing_source_is_a_read_fault(rt: HostRuntime) -> Result<(), Fail> {
-    let pla = source_is_missing(rt.alloc(), PLA, b"read fault: in.pla\n")?;
-    let blif = source_is_missing(rt.alloc(), BLIF, b"read fault: in.blif\n")?;
-    assert_eq!(rt; pla.or(blif), Differs::Nothing);
-    Ok(())
+    let alloc = rt.alloc();
+    assert_same(&rt, source_is_missing(alloc, PLA, b"read fault: in.pla\n"))?;
+    assert_same(
+        &rt,
+        source_is_missing(alloc, BLIF, b"read fault: in.blif\n"),
+    )
 }
 
-/// The second append of a file fails, of pieces of sixteen bytes.
-fn with_cut_append(alloc: Global) -> Result<MemFiles, AllocError> {
-    let mut files = with_source(alloc, PLA, AND)?;
+/// Runs `synth` where the second append of a file fails, of pieces of sixteen bytes, and compares the status and the report.
+fn tells_cut_append(alloc: Global, files: &mut MemFiles) -> Result<Differs, Memory> {
     files.piece(16);
-    files.fail_append(2).map_err(|_| AllocError)?;
-    Ok(files)
+    files.fail_append(2)?;
+    tells(alloc, PLA, files, WRITE_FAULT, b"write fault: n.blif\n")
 }
 
 /// Compares a run whose write of the network is cut: its first piece stands, and no vectors.
-fn network_is_cut(alloc: Global) -> Result<Differs, AllocError> {
-    let mut files = with_cut_append(alloc)?;
-    let told = tells(
-        alloc,
-        PLA,
-        &mut files,
-        WRITE_FAULT,
-        b"write fault: n.blif\n",
-    )?;
+fn network_is_cut(alloc: Global) -> Result<Differs, Memory> {
+    let mut files = with_source(alloc, PLA, AND)?;
+    let told = tells_cut_append(alloc, &mut files)?;
     let left = Held {
         source: Some(AND),
         net: Some(b".model andexor\n.".as_slice()),
@@ -183,22 +170,19 @@ fn network_is_cut(alloc: Global) -> Result<Differs, AllocError> {
 
 #[test]
 fn a_write_of_the_network_stops(rt: HostRuntime) -> Result<(), Fail> {
-    let cut = network_is_cut(rt.alloc())?;
-    assert_eq!(rt; cut, Differs::Nothing);
-    Ok(())
+    assert_same(&rt, network_is_cut(rt.alloc()))
 }
 
-/// The second file is not made.
-fn with_cut_create(alloc: Global) -> Result<MemFiles, AllocError> {
-    let mut files = with_source(alloc, PLA, AND)?;
-    files.fail_create(2).map_err(|_| AllocError)?;
-    Ok(files)
+/// Runs `synth` where the second file is not made, and compares the status and the report.
+fn tells_cut_create(alloc: Global, files: &mut MemFiles) -> Result<Differs, Memory> {
+    files.fail_create(2)?;
+    tells(alloc, PLA, files, WRITE_FAULT, b"write fault: v.vec\n")
 }
 
 /// Compares a run whose file of the vectors is not made: the network stands.
-fn vectors_are_cut(alloc: Global) -> Result<Differs, AllocError> {
-    let mut files = with_cut_create(alloc)?;
-    let told = tells(alloc, PLA, &mut files, WRITE_FAULT, b"write fault: v.vec\n")?;
+fn vectors_are_cut(alloc: Global) -> Result<Differs, Memory> {
+    let mut files = with_source(alloc, PLA, AND)?;
+    let told = tells_cut_create(alloc, &mut files)?;
     let net = net_text(alloc, PLA.model, &written::AND)?;
     let left = Held {
         source: Some(AND),
@@ -210,21 +194,28 @@ fn vectors_are_cut(alloc: Global) -> Result<Differs, AllocError> {
 
 #[test]
 fn a_write_of_the_vectors_stops(rt: HostRuntime) -> Result<(), Fail> {
-    let cut = vectors_are_cut(rt.alloc())?;
-    assert_eq!(rt; cut, Differs::Nothing);
-    Ok(())
+    assert_same(&rt, vectors_are_cut(rt.alloc()))
 }
 
-/// Runs `synth` with a report of which no byte is taken, and compares the status, and the report with nothing.
-fn tells_nothing(alloc: Global, files: &mut MemFiles) -> Result<Differs, AllocError> {
+/// The status of `synth` with a report of which no byte is taken.
+fn status_of_cut_report(
+    alloc: Global,
+    files: &mut MemFiles,
+    report: &mut MemSink,
+) -> Result<u8, Memory> {
+    report.fail_write(1)?;
+    run_words(alloc, PLA.words, files, report)
+}
+
+/// Compares its status, and the report with nothing.
+fn tells_nothing(alloc: Global, files: &mut MemFiles) -> Result<Differs, Memory> {
     let mut report = MemSink::new(alloc);
-    report.fail_write(1).map_err(|_| AllocError)?;
-    let status = run_words(alloc, PLA.words, files, &mut report)?;
+    let status = status_of_cut_report(alloc, files, &mut report)?;
     Ok(compare_report(status, &report, WRITE_FAULT, b""))
 }
 
 /// Compares a run whose report is not taken: both texts stand.
-fn report_is_cut(alloc: Global) -> Result<Differs, AllocError> {
+fn report_is_cut(alloc: Global) -> Result<Differs, Memory> {
     let mut files = with_source(alloc, PLA, AND)?;
     let told = tells_nothing(alloc, &mut files)?;
     let net = net_text(alloc, PLA.model, &written::AND)?;
@@ -238,7 +229,5 @@ fn report_is_cut(alloc: Global) -> Result<Differs, AllocError> {
 
 #[test]
 fn a_write_of_the_report_stops(rt: HostRuntime) -> Result<(), Fail> {
-    let cut = report_is_cut(rt.alloc())?;
-    assert_eq!(rt; cut, Differs::Nothing);
-    Ok(())
+    assert_same(&rt, report_is_cut(rt.alloc()))
 }

@@ -1,5 +1,6 @@
 //! Faults of a whole PLA text, told with the number of the last line that is read.
 
+use crate::differs::assert_all;
 use crate::files::PLA;
 use crate::refused::{Refusal, first_wrong};
 use std::test::Fail;
@@ -33,9 +34,7 @@ static MISSING: [Refusal; 6] = [
 
 #[test]
 fn a_text_without_its_numbers(rt: HostRuntime) -> Result<(), Fail> {
-    let wrong = first_wrong(rt.alloc(), PLA, &MISSING)?;
-    assert_eq!(rt; wrong, None);
-    Ok(())
+    assert_all(&rt, first_wrong(rt.alloc(), PLA, &MISSING))
 }
 
 static SHARED: [Refusal; 3] = [
@@ -55,9 +54,7 @@ static SHARED: [Refusal; 3] = [
 
 #[test]
 fn an_input_and_an_output_of_one_name(rt: HostRuntime) -> Result<(), Fail> {
-    let wrong = first_wrong(rt.alloc(), PLA, &SHARED)?;
-    assert_eq!(rt; wrong, None);
-    Ok(())
+    assert_all(&rt, first_wrong(rt.alloc(), PLA, &SHARED))
 }
 
 static CLASHES: [Refusal; 3] = [
@@ -77,7 +74,5 @@ static CLASHES: [Refusal; 3] = [
 
 #[test]
 fn a_point_that_is_on_and_off(rt: HostRuntime) -> Result<(), Fail> {
-    let wrong = first_wrong(rt.alloc(), PLA, &CLASHES)?;
-    assert_eq!(rt; wrong, None);
-    Ok(())
+    assert_all(&rt, first_wrong(rt.alloc(), PLA, &CLASHES))
 }

@@ -1,12 +1,12 @@
 //! Runs on a source that is accepted.
 
-use crate::files::{BLIF, Differs, Given, Held, PLA, compare_files, tells, with_source};
-use crate::refused::Other;
-use ae_base::TEXT_BYTES;
+use crate::differs::{Differs, Other};
+use crate::files::{BLIF, Given, Held, PLA, compare_files, tells, with_source};
+use ae_base::{Memory, TEXT_BYTES};
 use ae_net::faults;
 use ae_outside::MemFiles;
 use blif_read::{NetLimits, read_blif};
-use std::alloc::{AllocError, Global};
+use std::alloc::Global;
 use synth_cmd::DONE;
 
 /// The numbers of a report: the source's inputs and outputs, the terms of its expansions, the network's gates and stuck-at faults,
@@ -65,7 +65,7 @@ pub static ONE_INPUT: Row = Row {
 };
 
 /// The digits of the polarity of so many inputs at which each literal is plain.
-fn all_plain(alloc: Global, inputs: usize) -> Result<String, AllocError> {
+fn all_plain(alloc: Global, inputs: usize) -> Result<String, Memory> {
     let mut digits = String::new(alloc);
     for _ in 0..inputs {
         digits.push('1')?;
@@ -74,8 +74,8 @@ fn all_plain(alloc: Global, inputs: usize) -> Result<String, AllocError> {
 }
 
 /// The report at these numbers and the polarity of these digits.
-fn report_of(alloc: Global, polarity: &str, counts: &Counts) -> Result<String, AllocError> {
-    format!(in alloc;
+fn report_of(alloc: Global, polarity: &str, counts: &Counts) -> Result<String, Memory> {
+    Ok(format!(in alloc;
         "form reddy\ninputs {} outputs {}\npolarity {}\nterms {}\ngates {}\nfaults {}\nvectors {}\nunchanged 0\n",
         counts.inputs,
         counts.outputs,
@@ -84,7 +84,7 @@ fn report_of(alloc: Global, polarity: &str, counts: &Counts) -> Result<String, A
         counts.gates,
         counts.faults,
         counts.vectors
-    )
+    )?)
 }
 
 /// Whether a text of BLIF is accepted as a written netlist, and the network that it says has so many faults.
@@ -102,8 +102,8 @@ fn reads_back(alloc: Global, text: &[u8], count: usize) -> bool {
 }
 
 /// The text of the row's network, with its model.
-pub fn net_text(alloc: Global, model: &str, row: &Row) -> Result<String, AllocError> {
-    format!(in alloc; ".model {model}\n{}", row.net)
+pub fn net_text(alloc: Global, model: &str, row: &Row) -> Result<String, Memory> {
+    Ok(format!(in alloc; ".model {model}\n{}", row.net)?)
 }
 
 /// Compares the files with what the row says, and reads its netlist back.
@@ -113,7 +113,7 @@ fn are_as_said(
     given: Given,
     source: &[u8],
     row: &Row,
-) -> Result<Differs, AllocError> {
+) -> Result<Differs, Memory> {
     let net = net_text(alloc, given.model, row)?;
     if !reads_back(alloc, net.as_bytes(), row.counts.faults) {
         return Ok(Differs::Net);
@@ -133,7 +133,7 @@ fn counts_at(
     polarity: &str,
     files: &mut MemFiles,
     counts: &Counts,
-) -> Result<Differs, AllocError> {
+) -> Result<Differs, Memory> {
     let wanted = report_of(alloc, polarity, counts)?;
     tells(alloc, given, files, DONE, wanted.as_bytes())
 }
@@ -144,7 +144,7 @@ pub fn counts_for(
     given: Given,
     files: &mut MemFiles,
     counts: &Counts,
-) -> Result<Differs, AllocError> {
+) -> Result<Differs, Memory> {
     let polarity = all_plain(alloc, counts.inputs)?;
     counts_at(alloc, given, &polarity, files, counts)
 }
@@ -156,7 +156,7 @@ pub fn gives_at(
     polarity: &str,
     source: &[u8],
     row: &Row,
-) -> Result<Differs, AllocError> {
+) -> Result<Differs, Memory> {
     let mut files = with_source(alloc, given, source)?;
     let told = counts_at(alloc, given, polarity, &mut files, &row.counts)?;
     let held = are_as_said(alloc, &files, given, source, row)?;
@@ -164,18 +164,13 @@ pub fn gives_at(
 }
 
 /// Runs `synth` on a text, and compares all that is written and held with what is for the row's sources, each literal being plain.
-pub fn gives_for(
-    alloc: Global,
-    given: Given,
-    source: &[u8],
-    row: &Row,
-) -> Result<Differs, AllocError> {
+pub fn gives_for(alloc: Global, given: Given, source: &[u8], row: &Row) -> Result<Differs, Memory> {
     let polarity = all_plain(alloc, row.counts.inputs)?;
     gives_at(alloc, given, &polarity, source, row)
 }
 
 /// Runs `synth` on each of the row's sources, and compares all that is written and held with what the row says.
-pub fn gives(alloc: Global, row: &Row) -> Result<Differs, AllocError> {
+pub fn gives(alloc: Global, row: &Row) -> Result<Differs, Memory> {
     let of_pla = gives_for(alloc, PLA, row.pla, row)?;
     let of_blif = gives_for(alloc, BLIF, row.blif, row)?;
     Ok(of_pla.or(of_blif))
@@ -187,7 +182,7 @@ pub fn first_other(
     given: Given,
     texts: &[&'static [u8]],
     wanted: &Row,
-) -> Result<Option<Other>, AllocError> {
+) -> Result<Option<Other>, Memory> {
     for (row, text) in texts.iter().enumerate() {
         let differs = gives_for(alloc, given, text, wanted)?;
         if differs != Differs::Nothing {

@@ -1,0 +1,2 @@
+mod Cubes
+mod Ops

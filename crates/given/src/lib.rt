@@ -1,0 +1,11 @@
+//! What the tests of several crates are made of: sets by their members, networks and covers by their texts, and comparisons with the rows
+//! of a table. No crate but those of tests uses it.
+#![tactic(auto)]
+
+mod nets;
+mod sets;
+mod texts;
+
+pub use nets::{Literals, Table, are_gates, are_names, cover_of, names_of, net_of};
+pub use sets::{are_sets, polarity, set};
+pub use texts::{AND_NET, AND_VECTORS, HALF_ADDER};
