@@ -1,5 +1,5 @@
 -- What the search for a useful link reads: the two inputs at which cubes differ, and the cubes at the other places.
-use Rattle.std.proofs.Common.{◌≡◌, ◌≢◌, ◌<◌, ◌≤◌, ◌+◌, ◌-◌, ◌∙◌, ℕ, suc, Bool, true, false, ◌||◌, List, [], ◌∷◌, ◌++◌, length, take, drop, ltb, refl, sym, ap, ap₂, arith}
+use Rattle.std.proofs.Common.{◌≡◌, ◌≢◌, ◌<◌, ◌+◌, ◌-◌, ◌∙◌, ℕ, suc, true, false, ◌||◌, List, [], ◌∷◌, ◌++◌, length, take, drop, ltb, refl, sym, ap, ap₂, arith}
 use Rattle.std.specs.Prelude.{Option, Some, None, remove}
 use Rattle.std.specs.List.{list_any}
 use Rattle.std.proofs.lemmas.Bool.{or_left, or_right}
@@ -12,7 +12,7 @@ use Rattle.ae_base.proofs.Truth.{or-false}
 use Rattle.esop.specs.Links.{apart, links, links_at, link}
 use Rattle.esop.specs.Rewriting.{is_near}
 use Rattle.esop.specs.Settled.{others}
-use Rattle.esop.proofs.Thirds.{TwoApart, two_apart, apart_back}
+use Rattle.esop.proofs.Thirds.{two_apart, apart_back}
 
 -- ---- the links of two cubes
 

@@ -1,5 +1,5 @@
 -- The lists of an ESOP: those of an expansion's cubes, and those rewritten.
-use Rattle.std.proofs.Common.{◌≡◌, ◌≤◌, ◌∙◌, ℕ, suc, Bool, true, false, not, cond, List, [], ◌∷◌, length, map, take, get_or, ◌&&◌, refl, sym, ap, ap₂, arith, inl, inr}
+use Rattle.std.proofs.Common.{◌≡◌, ◌≤◌, ◌∙◌, ℕ, suc, Bool, true, false, not, List, [], ◌∷◌, length, map, take, get_or, ◌&&◌, refl, sym, ap, ap₂, inl, inr}
 use Rattle.std.specs.Prelude.{All}
 use Rattle.std.specs.List.{AllByRecursion, AllZip}
 use Rattle.std.specs.List.Sorted.{IsSorted}
@@ -7,7 +7,7 @@ use Rattle.std.proofs.lemmas.Bool.{cases_Bool, false≢true, and_parts}
 use Rattle.std.proofs.lemmas.List.{length-map, take_all}
 use Rattle.std.proofs.lemmas.List.Elements.{All-from_recursion, recursion_from_All, All-map, All-weaker}
 use Rattle.ae_base.specs.Cube.{Product, Signs, IsProduct, IsOver, EachHolds, holds}
-use Rattle.ae_base.specs.Mask.{Set, differ, has, both, xor, first, inside}
+use Rattle.ae_base.specs.Mask.{Set, differ, has, both, first, inside}
 use Rattle.ae_base.specs.Terms.{literal, product, value}
 use Rattle.ae_base.specs.Text.{cmp_text}
 use Rattle.ae_base.proofs.Distinct.{each_weaker, each-map}
@@ -17,7 +17,7 @@ use Rattle.ae_base.proofs.Sets.{has-both, has-xor, has-inside, inside-has}
 use Rattle.ae_base.proofs.Truth.{same_truth}
 use Rattle.expansion.specs.Terms.{Terms, IsTerms}
 use Rattle.esop.specs.Esop.{Cubes, IsCubes, HasSameValue, HasValueOf, esop_value, cube_of, esop_of}
-use Rattle.esop.specs.Order.{placed, in_order}
+use Rattle.esop.specs.Order.{in_order}
 use Rattle.esop.specs.Rewriting.{rewritten, rewritten_lists}
 use Rattle.esop.specs.Settled.{IsSettled, AreSettled}
 use Rattle.esop.proofs.Placed.{length-placed, each_placed, sorted_in_order}

@@ -3,10 +3,10 @@ use Rattle.std.proofs.Common.{◌≡◌, ◌<◌, ◌≤◌, ◌+◌, ◌-◌, �
 use Rattle.std.specs.Prelude.{Option, Some, None, find, flat_map, option_map}
 use Rattle.std.specs.List.{range_with_len}
 use Rattle.std.specs.Option.{option_or}
-use Rattle.std.proofs.lemmas.Bool.{cases_eq, false≢true}
+use Rattle.std.proofs.lemmas.Bool.{cases_eq}
 use Rattle.std.proofs.lemmas.List.Folds.{find-append}
 use Rattle.std.proofs.lemmas.Option.{none-some}
-use Rattle.esop.specs.Rewriting.{pairs}
+use Rattle.esop.specs.Rewriting.{IsFirstPair, pairs}
 
 -- ---- the first number of a range
 
@@ -43,6 +43,14 @@ range_not t (suc n) a h j low high = by (t a) refl h (λ k l. range_not t n (a +
     by : (b : Bool) → t a ≡ b → cond b (Some a) (find t (range_with_len (a + 1) n)) ≡ None → (find t (range_with_len (a + 1) n) ≡ None → a + 1 ≤ j → t j ≡ false) → t j ≡ false
     by true e f later = absurd (none-some a (sym f))
     by false e f later = elim (cases_eq j a) [ inl s ↦ ap t s ∙ e | inr ne ↦ later f (omega (arith, low, ne)) ]
+
+range_before : (t : ℕ → Bool) (n a j : ℕ) → find t (range_with_len a n) ≡ Some j → (k : ℕ) → a ≤ k → k < j → t k ≡ false
+range_before t zero a j h k low high = absurd (none-some j h)
+range_before t (suc n) a j h k low high = by (t a) refl h (λ f l. range_before t n (a + 1) j f k l high)
+  where
+    by : (b : Bool) → t a ≡ b → cond b (Some a) (find t (range_with_len (a + 1) n)) ≡ Some j → (find t (range_with_len (a + 1) n) ≡ Some j → a + 1 ≤ k → t k ≡ false) → t k ≡ false
+    by true e f later = let same : a ≡ j = cc f in absurd (omega (arith, same, low, high))
+    by false e f later = elim (cases_eq k a) [ inl s ↦ ap t s ∙ e | inr ne ↦ later f (omega (arith, low, ne)) ]
 
 -- ---- the first pair
 
@@ -129,3 +137,45 @@ module _ (q : ℕ × ℕ → Bool) (n : ℕ) where
 
   pub pair_nowhere : ((h : ℕ) → h < n → in_row h ≡ None) → find q (pairs n) ≡ None
   pair_nowhere none = rows_none n 0 (λ h l k. none h (omega (arith, k)))
+
+  -- ---- the first pair by a relation
+
+  -- the row of the pair that is found, and no row before it has one
+  record FirstRow (a : ℕ) (p : ℕ × ℕ) : Type 0 where
+    low : a ≤ p.0
+    here : in_row p.0 ≡ Some p.1
+    before : (h : ℕ) → a ≤ h → h < p.0 → in_row h ≡ None
+
+  rows_first : (m a : ℕ) (p : ℕ × ℕ) → find q (rows a m) ≡ Some p → FirstRow a p
+  rows_first zero a p h = absurd (none-some p h)
+  rows_first (suc m) a p h = by (in_row a) refl (sym (first_row a m) ∙ h) (rows_first m (a + 1) p)
+    where
+      by : (o : Option ℕ) → in_row a ≡ o → option_or (option_map (λ j. (a, j)) o) (find q (rows (a + 1) m)) ≡ Some p → (find q (rows (a + 1) m) ≡ Some p → FirstRow (a + 1) p) → FirstRow a p
+      by None e f later =
+          let r = later f in
+          record { low = omega (arith, r.low); here = r.here; before = λ h l k. elim (cases_eq h a) [ inl s ↦ ap in_row s ∙ e | inr ne ↦ r.before h (omega (arith, l, ne)) k ] }
+      by (Some j) e f later =
+          let same : (a, j) ≡ p = cc f in
+          let row : a ≡ p.0 = ap (λ (x : ℕ × ℕ). x.0) same in
+          record { low = omega (arith, row); here = ap in_row (sym row) ∙ e ∙ ap (λ (x : ℕ × ℕ). Some x.1) same; before = λ h l k. absurd (omega (arith, l, k, row)) }
+
+  pub first_from : (p : ℕ × ℕ) → find q (pairs n) ≡ Some p → IsFirstPair q n p
+  first_from p found =
+      let at = pair_found p found in
+      let r = rows_first n 0 p found in
+      record {
+        order = at.order;
+        within = at.within;
+        passes = at.passes;
+        before = λ i j order within before. elim before [
+          | inl l ↦ range_not (λ k. q (i, k)) (n - suc i) (suc i) (r.before i (omega arith) l) j (omega (arith, order)) (omega (arith, order, within))
+          | inr same ↦ range_before (λ k. q (i, k)) (n - suc i) (suc i) p.1 (ap in_row same.0 ∙ r.here) j (omega (arith, order)) same.1
+        ];
+      }
+
+  pub from_first : (p : ℕ × ℕ) → IsFirstPair q n p → find q (pairs n) ≡ Some p
+  from_first p h =
+      pair_at p.0 p.1 (omega (arith, h.order, h.within))
+      (λ i l. range_none (λ k. q (i, k)) (n - suc i) (suc i) (λ k low high. h.before i k (omega (arith, low)) (omega (arith, low, high)) (inl l)))
+      (range_some (λ k. q (p.0, k)) (n - suc p.0) (suc p.0) p.1 (omega (arith, h.order)) (omega (arith, h.order, h.within))
+      (λ k low high. h.before p.0 k (omega (arith, low)) (omega (arith, high, h.within)) (inr (refl, high))) h.passes)

@@ -1,14 +1,13 @@
 -- Rewriting ends: twice as many steps as there are cubes settle a list.
-use Rattle.std.proofs.Common.{◌≡◌, ◌≢◌, ◌<◌, ◌≤◌, ◌+◌, ◌*◌, ◌∙◌, ◌⊎◌, ℕ, zero, suc, Bool, true, false, List, [], ◌∷◌, length, refl, sym, ap, arith, inl, inr}
+use Rattle.std.proofs.Common.{◌≡◌, ◌≢◌, ◌<◌, ◌≤◌, ◌+◌, ◌*◌, ◌∙◌, ◌⊎◌, ℕ, zero, suc, true, List, [], length, refl, sym, ap, arith, inl, inr}
 use Rattle.std.specs.Prelude.{Option, Some, None, unwrap_or}
 use Rattle.std.specs.Option.{option_or}
 use Rattle.std.proofs.lemmas.Bool.{false≢true}
 use Rattle.std.proofs.lemmas.List.{nil_from_length}
-use Rattle.std.proofs.lemmas.Option.{none-some}
 use Rattle.ae_base.specs.Cube.{Product}
 use Rattle.esop.specs.Rewriting.{cancelled, merged, linked, next_list, rewrite_step, steps, rewritten}
 use Rattle.esop.proofs.Close.{close}
-use Rattle.esop.proofs.Steps.{Proper, Keeps, keeps_itself, IsStep, is_step, measure, measure_up, cancelled_is, merged_is, linked_is, cancelled_length, merged_length, linked_length, linked_close, none_close}
+use Rattle.esop.proofs.Steps.{Proper, Keeps, keeps_itself, is_step, measure, measure_up, cancelled_is, merged_is, linked_is, cancelled_length, merged_length, linked_length, linked_close, none_close}
 
 -- ---- what a step is
 

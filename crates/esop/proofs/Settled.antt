@@ -1,6 +1,6 @@
 -- A list is settled exactly where no step applies.
-use Rattle.std.proofs.Common.{◌≡◌, ◌≢◌, ◌<◌, ◌≤◌, ◌∙◌, ℕ, Bool, true, false, cond, ltb, ◌||◌, List, [], ◌∷◌, length, get_or, refl, sym, ap, arith, eqb, ne_eqb}
-use Rattle.std.specs.Prelude.{Option, Some, None, find, is_some, option_map, option_and_then, All, AllPairs}
+use Rattle.std.proofs.Common.{◌≡◌, ◌≢◌, ◌<◌, ◌≤◌, ◌∙◌, ℕ, Bool, true, false, cond, ltb, ◌||◌, List, [], ◌∷◌, length, get_or, refl, sym, ap, arith, ne_eqb}
+use Rattle.std.specs.Prelude.{Option, Some, None, find, is_some, option_map, option_and_then, AllPairs}
 use Rattle.std.specs.List.{AllByRecursion, list_any}
 use Rattle.std.specs.Option.{option_or}
 use Rattle.std.proofs.lemmas.Bool.{false≢true, le-ltb, ltb-false}
@@ -13,7 +13,7 @@ use Rattle.ae_base.proofs.Results.{or_none}
 use Rattle.ae_base.proofs.Distinct.{each_weaker}
 use Rattle.esop.specs.Links.{Link, links, merge}
 use Rattle.esop.specs.Order.{placed}
-use Rattle.esop.specs.Rewriting.{pairs, first_at, is_near, useful_link, cancelled, merged, linked, next_list}
+use Rattle.esop.specs.Rewriting.{pairs, is_near, useful_link, cancelled, merged, linked, next_list}
 use Rattle.esop.specs.Settled.{cube_at, others, IsFar, IsSettled}
 use Rattle.esop.proofs.Places.{pair_found, no_pair, pair_none}
 use Rattle.esop.proofs.Thirds.{neither, distance_itself}

@@ -1,23 +1,23 @@
 -- A rewriting step: it keeps the value and the order, adds no cube, and lowers a measure.
-use Rattle.std.proofs.Common.{◌≡◌, ◌<◌, ◌≤◌, ◌+◌, ◌*◌, ◌∙◌, ◌⊎◌, ℕ, zero, suc, Bool, true, false, cond, ltb, ◌||◌, List, [], ◌∷◌, length, refl, sym, ap, ap₂, subst, arith, inl, inr, eqb, eqb-true, eq-eqb, ne_eqb, lt-ltb}
-use Rattle.std.specs.Prelude.{Option, Some, None, find, is_some, unwrap_or, option_map, option_and_then, remove}
+use Rattle.std.proofs.Common.{◌≡◌, ◌<◌, ◌≤◌, ◌+◌, ◌*◌, ◌∙◌, ℕ, Bool, true, false, cond, ltb, ◌||◌, List, [], ◌∷◌, length, refl, sym, ap, subst, arith, inl, inr, eqb, eqb-true, lt-ltb}
+use Rattle.std.specs.Prelude.{Option, Some, None, find, is_some, option_map, option_and_then, remove}
 use Rattle.std.specs.List.{AllByRecursion}
 use Rattle.std.specs.List.Sorted.{IsSorted}
 use Rattle.std.specs.Option.{option_or}
-use Rattle.std.proofs.lemmas.Bool.{cases_lt, false≢true, le-ltb, or_cases, or_left, or_right}
+use Rattle.std.proofs.lemmas.Bool.{le-ltb, or_cases, or_left, or_right}
 use Rattle.std.proofs.lemmas.Bool.Decides.{nat_tests}
 use Rattle.std.proofs.lemmas.Option.{none-some}
 use Rattle.ae_base.specs.Mask.{Set, differ}
-use Rattle.ae_base.specs.Cube.{Product, IsProduct, IsOver, holds, distance, whole}
+use Rattle.ae_base.specs.Cube.{Product, IsOver, holds, distance, whole}
 use Rattle.ae_base.specs.Text.{cmp_text}
 use Rattle.ae_base.proofs.Truth.{differ-same, differ-assoc}
 use Rattle.esop.specs.Esop.{esop_value}
 use Rattle.esop.specs.Links.{Link, links, merge}
 use Rattle.esop.specs.Order.{placed}
-use Rattle.esop.specs.Rewriting.{pairs, first_at, is_near, useful_link, cancelled, merged, linked, next_list, rewrite_step}
+use Rattle.esop.specs.Rewriting.{pairs, first_at, is_near, useful_link, cancelled, merged, linked, next_list}
 use Rattle.esop.specs.Settled.{cube_at, others}
 use Rattle.esop.proofs.Close.{close, close_at, not_close, close-placed}
-use Rattle.esop.proofs.Places.{Passes, pair_found, no_pair, pair_none}
+use Rattle.esop.proofs.Places.{Passes, pair_found, no_pair}
 use Rattle.esop.proofs.Placed.{any-placed, length-placed, each_placed, sorted_placed, sorted_removed}
 use Rattle.esop.proofs.Thirds.{IsLink, are_links, distance_none, merged_value, merged_over}
 use Rattle.esop.proofs.Values.{length-removed, each_at, each_other, length-others, value-others, value-placed}

@@ -1,15 +1,15 @@
 -- Whether a step applies, by the first pair that is found.
-use Rattle.std.proofs.Common.{◌≡◌, ◌∙◌, ◌<◌, ℕ, Bool, true, false, List, length, refl, sym, ap}
-use Rattle.std.specs.Prelude.{Option, Some, None, find, is_some, unwrap_or, option_map, option_and_then}
+use Rattle.std.proofs.Common.{◌≡◌, ◌∙◌, ℕ, Bool, true, false, List, length, refl, sym, ap}
+use Rattle.std.specs.Prelude.{Option, Some, None, is_some, unwrap_or, option_map, option_and_then}
 use Rattle.std.proofs.lemmas.Bool.{false≢true}
 use Rattle.ae_base.specs.Cube.{Product}
 use Rattle.esop.specs.Links.{Link, merge}
 use Rattle.esop.specs.Order.{placed}
-use Rattle.esop.specs.Rewriting.{pairs, useful_link, cancelled, merged, linked, next_list}
+use Rattle.esop.specs.Rewriting.{useful_link, cancelled, merged, linked}
 use Rattle.esop.specs.Search.{IsTaken, first_pair, is_sought}
 use Rattle.esop.specs.Settled.{cube_at, others}
 use Rattle.esop.specs.declared.pairs.Sought.TheVariants.{Equal, Adjacent, Linked}
-use Rattle.esop.proofs.Places.{Passes, pair_found}
+use Rattle.esop.proofs.Places.{pair_found}
 use Rattle.esop.proofs.Steps.{relinked}
 
 pub taken_none : (next : Option (List Product)) (before after : List Product) → next ≡ None → after ≡ before → IsTaken next before after false

@@ -1,14 +1,14 @@
 -- The third literal: two literals that differ have it as their EXOR, so two near cubes can be replaced.
-use Rattle.std.proofs.Common.{◌≡◌, ◌≢◌, ◌<◌, ◌∙◌, ℕ, Bool, true, false, not, cond, ◌&&◌, ◌||◌, List, [], ◌∷◌, refl, sym, ap, ap₂, arith, inl, inr, eqb, eqb-true, eq-eqb, ne_eqb, lt-ltb, length, slice_index, subst}
+use Rattle.std.proofs.Common.{◌≡◌, ◌≢◌, ◌<◌, ◌∙◌, ℕ, Bool, true, false, not, cond, ◌&&◌, ◌||◌, List, [], ◌∷◌, refl, sym, ap, ap₂, arith, inl, inr, eqb, eq-eqb, ne_eqb, lt-ltb, length, slice_index, subst}
 use Rattle.std.proofs.lemmas.Bool.{cases_eq, cases_Bool, false≢true, and_from, and_parts, or_cases, or_left, or_right}
 use Rattle.std.specs.Prelude.{Some}
 use Rattle.std.specs.List.{list_any, AllByRecursion}
-use Rattle.ae_base.specs.Mask.{Set, differ, has, with, without, either, xor, first, inside, least, len, members}
+use Rattle.ae_base.specs.Mask.{Set, differ, has, with, without, xor, first, inside, least, len, members}
 use Rattle.ae_base.specs.Cube.{Product, IsProduct, IsOver, EachHolds, holds, distance}
 use Rattle.ae_base.proofs.Members.{least-first, members-has, members-increasing, len-members, len-none, len-zero}
 use Rattle.ae_base.proofs.Products.{holds-has, has-holds}
 use Rattle.ae_base.proofs.Sets.{same_set, has-with, has-without, has-either, has-xor, has-inside, inside-has, inside-below, has-first}
-use Rattle.ae_base.proofs.Truth.{same_truth, differ-flip, differ-same, and-differ, equal_values, differ_true, differ_true_else}
+use Rattle.ae_base.proofs.Truth.{same_truth, differ-flip, differ-same, and-differ, equal_values, differ_true_else}
 use Rattle.esop.specs.Links.{apart, with_third, merge, Link, link, links, links_at}
 
 -- ---- literals as two tests: whether the literal is plain, and whether it is complemented
@@ -129,9 +129,6 @@ apart_back c d =
     same_set _ _ (λ k. has-apart c d k ∙ ap₂ (λ a b. a || b) (differ-flip (has c.pos k) (has d.pos k)) (differ-flip (has c.neg k) (has d.neg k)) ∙ sym (has-apart d c k))
 
 -- ---- the third literal
-
-third_part : Set → Set → ℕ → Set
-third_part s t j = cond (has s j || has t j) (without s j) (with s j)
 
 has-third_here : (s t : Set) (j : ℕ) → has (cond (has s j || has t j) (without s j) (with s j)) j ≡ not (has s j || has t j)
 has-third_here s t j = by (has s j || has t j)

@@ -1,12 +1,12 @@
 -- The value of a list of cubes, and lists without some of their cubes.
-use Rattle.std.proofs.Common.{◌≡◌, ◌<◌, ◌≤◌, ◌+◌, ◌%◌, ◌∙◌, ℕ, zero, suc, Bool, true, false, not, cond, List, [], ◌∷◌, length, get_or, refl, sym, ap, ap₂, arith, inl, inr, eqb, eq-eqb, ne_eqb}
-use Rattle.std.specs.Prelude.{remove, count_by, map}
+use Rattle.std.proofs.Common.{◌≡◌, ◌<◌, ◌+◌, ◌%◌, ◌∙◌, ℕ, zero, suc, Bool, true, false, not, cond, List, [], ◌∷◌, length, get_or, refl, sym, ap, arith, inl, inr, eqb, eq-eqb, ne_eqb}
+use Rattle.std.specs.Prelude.{remove, count_by}
 use Rattle.std.specs.List.{AllByRecursion}
 use Rattle.std.proofs.lemmas.Bool.{cases_eq}
 use Rattle.std.proofs.lemmas.List.Sums.{sum_by-cons}
 use Rattle.ae_base.specs.Mask.{Set, differ}
 use Rattle.ae_base.specs.Cube.{Product, holds, whole}
-use Rattle.ae_base.proofs.Truth.{differ-front, differ-assoc, differ-flip}
+use Rattle.ae_base.proofs.Truth.{differ-front, differ-assoc}
 use Rattle.esop.specs.Esop.{esop_value}
 use Rattle.esop.specs.Order.{placed, in_order}
 use Rattle.esop.specs.Settled.{cube_at, others}

@@ -16,7 +16,7 @@ with_third c d j = record {
   neg = if has c.neg j || has d.neg j then without c.neg j else with c.neg j;
 }
 
--- the EXOR of two cubes at distance 1, as one cube
+-- the EXOR of two cubes at distance 1, as one cube; that of 00- and 000 is 001
 abbrev pub merge : Product → Product → Product
 merge c d = with_third c d (slice_index (members (apart c d)) 0)
 
@@ -28,6 +28,7 @@ abbrev pub links_at : List ℕ → Product → Product → List Link
 links_at (p ∷ q ∷ []) c d = link c d p q ∷ link c d q p ∷ []
 links_at _ c d = []
 
--- the two links of cubes at distance 2, the one by the lower input first; no others have any
+-- The two links of cubes at distance 2, the one by the lower input first; no others have any. Those of --- and 10- are
+-- 0-- with 11-, and -1- with 00-.
 abbrev pub links : Product → Product → List Link
 links c d = links_at (members (apart c d)) c d

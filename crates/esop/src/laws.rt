@@ -1,5 +1,5 @@
 //! What lists of cubes mean, and that rewriting them ends.
-ghost use Rattle.std.specs.Prelude.{◌≡◌, ◌≢◌, ◌↔◌, ◌⊎◌, ◌<◌, ◌≤◌, ℕ, false, List, [], ◌∷◌, length, All, AllPairs, None};
+ghost use Rattle.std.specs.Prelude.{◌≡◌, ◌≢◌, ◌↔◌, ◌⊎◌, ◌<◌, ◌≤◌, ℕ, Bool, false, List, [], ◌∷◌, length, All, AllPairs, None, Some, find};
 ghost use Rattle.std.specs.List.Sorted.{IsPermutation, IsSorted};
 ghost use Rattle.ae_base.specs.Cube.{Product, IsOver, holds};
 ghost use Rattle.ae_base.specs.Mask.{Set, differ};
@@ -7,7 +7,7 @@ ghost use Rattle.ae_base.specs.Text.{cmp_text};
 ghost use Rattle.expansion.specs.Terms.{Terms, IsTerms};
 ghost use Rattle.esop.specs.Esop.{IsCubes, HasSameValue, esop_of, esop_value};
 ghost use Rattle.esop.specs.Order.{in_order};
-ghost use Rattle.esop.specs.Rewriting.{next_list, rewrite_step, rewritten};
+ghost use Rattle.esop.specs.Rewriting.{IsFirstPair, next_list, pairs, rewrite_step, rewritten};
 ghost use Rattle.esop.specs.Settled.{IsSettled};
 
 /// The value of a list is the EXOR of its cubes: 0 where there is none, and one more cube changes it where that cube holds. A list that is
@@ -18,6 +18,13 @@ pub fn esop_law()
     ensures order { (cs : List Product) → IsSorted cmp_text (in_order cs) }
     ensures cubes { (cs : List Product) → IsPermutation cs (in_order cs) }
     ensures terms { (e : Terms) → IsTerms e → IsCubes (esop_of e) }
+{}
+
+/// What is found first among the pairs of places is the first one that passes in lexicographic order, and nothing is found exactly where
+/// none passes.
+pub fn pairs_law()
+    ensures first { (test : ℕ × ℕ → Bool) (n : ℕ) (p : ℕ × ℕ) → (find test (pairs n) ≡ Some p) ↔ IsFirstPair test n p }
+    ensures none { (test : ℕ × ℕ → Bool) (n : ℕ) → (find test (pairs n) ≡ None) ↔ ((i j : ℕ) → i < j → j < n → test (i, j) ≡ false) }
 {}
 
 /// A list is settled exactly where no step applies, and then a step keeps it. A step keeps the value of an ordered list and adds no cube.

@@ -1,5 +1,5 @@
 //! The rewriting steps of a list of cubes.
-ghost use Rattle.std.specs.Prelude.{◌≡◌, ◌<◌, IfOk, OnOk, is_some, length, unwrap_or};
+ghost use Rattle.std.specs.Prelude.{◌≡◌, IfOk, OnOk};
 ghost use Rattle.std.specs.List.{prefix_len};
 ghost use Rattle.std.specs.Ordering.{is_lt};
 ghost use Rattle.ae_base.specs.Text.{cmp_text};
@@ -12,7 +12,8 @@ use crate::near::merge;
 use crate::pairs::{Sought, first_pair};
 use ae_base::{Cube, Memory};
 
-/// Takes the first step that applies, and says whether one did. After `Memory` the list may have lost cubes.
+/// Takes the first step that applies in place, and says whether one did. Where memory runs out, `Memory`, and the list may have lost
+/// cubes.
 pub fn take_step(cubes: &mut Vec<Cube>) -> Result<bool, Memory>
     ensures { IfOk result (IsTaken (rewriting.next_list cubes.old.items) cubes.old.items cubes.new.items) }
 {
@@ -25,7 +26,7 @@ pub fn take_step(cubes: &mut Vec<Cube>) -> Result<bool, Memory>
     link_first(cubes)
 }
 
-/// The first pair of equal cubes goes, where there is one.
+/// The first pair of equal cubes goes, where there is such a pair.
 fn cancel(cubes: &mut Vec<Cube>) -> bool
     ensures { IsTaken (rewriting.cancelled cubes.old.items) cubes.old.items cubes.new.items result }
 {
@@ -39,7 +40,7 @@ fn cancel(cubes: &mut Vec<Cube>) -> bool
     }
 }
 
-/// The first pair at distance 1 becomes one cube, where there is one.
+/// The first pair at distance 1 becomes one cube, where there is such a pair.
 fn merge_first(cubes: &mut Vec<Cube>) -> Result<bool, Memory>
     ensures { IfOk result (IsTaken (rewriting.merged cubes.old.items) cubes.old.items cubes.new.items) }
 {
@@ -55,7 +56,7 @@ fn merge_first(cubes: &mut Vec<Cube>) -> Result<bool, Memory>
     }
 }
 
-/// The first pair with a useful link becomes that link, where there is one.
+/// The first pair with a useful link becomes that link, where there is such a pair.
 fn link_first(cubes: &mut Vec<Cube>) -> Result<bool, Memory>
     ensures { IfOk result (IsTaken (rewriting.linked cubes.old.items) cubes.old.items cubes.new.items) }
 {
@@ -63,7 +64,7 @@ fn link_first(cubes: &mut Vec<Cube>) -> Result<bool, Memory>
         return Ok(false);
     };
     let Some(link) = useful_link(cubes.as_slice(), first, second) else {
-        return Ok(false);
+        return Ok(false); // not reached: such pairs were sought
     };
     cubes.remove(second);
     cubes.remove(first);

@@ -1,1 +1,11 @@
+pub mod Found
+pub mod Places
+pub mod Said
+pub mod Reading
+pub mod Soundness
+pub mod Steps
+pub mod WordLists
 pub mod Written
+pub mod WrittenAgain
+pub mod WrittenLines
+pub mod WrittenWords

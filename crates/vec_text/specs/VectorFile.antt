@@ -1,5 +1,5 @@
 -- Vector files and their text.
-use Rattle.std.specs.Prelude.{◌≡◌, ◌≢◌, ℕ, suc, ◌+◌, ◌==◌, ◌<◌, ◌≤◌, Bool, true, false, not, ◌&&◌, nat_le, if◌then◌else◌, List, [], ◌∷◌, ◌++◌, length, map, All, AllPairs, codes}
+use Rattle.std.specs.Prelude.{◌≡◌, ◌≢◌, ℕ, suc, ◌+◌, ◌==◌, ◌<◌, ◌≤◌, Bool, true, not, ◌&&◌, nat_le, if◌then◌else◌, List, [], ◌∷◌, ◌++◌, length, map, All, AllPairs, codes}
 use Rattle.std.specs.Fmt.{decimal}
 use Rattle.ae_base.specs.declared.limits.TheConstants.{PINS, WRITTEN_LINES}
 use Rattle.ae_base.specs.Cube.{Signs, IsSigns, IsOver}

@@ -1,4 +1,3 @@
-use Rattle.std.specs.List.{AllByRecursion}
 use Rattle.std.proofs.lemmas.List.Elements.{recursion_from_All}
 use Rattle.ae_base.specs.Cube.{IsOver}
 use Rattle.esop.proofs.Rewritten.{one_removes, rewritten_ends, step_keeps, step_none}

@@ -1,6 +1,6 @@
 use Rattle.std.proofs.Common.{◌≡◌, ◌∙◌, length, sym, ap, arith}
 use Rattle.std.specs.Prelude.{None, Some}
-use Rattle.ae_base.specs.Mask.{least, members}
+use Rattle.ae_base.specs.Mask.{least}
 use Rattle.ae_base.proofs.Members.{least-is, members-none}
 use Rattle.esop.specs.Links.{apart, with_third}
 use Rattle.esop.proofs.Thirds.{first_apart, members-distance}

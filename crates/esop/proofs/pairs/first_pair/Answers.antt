@@ -1,6 +1,5 @@
-use Rattle.std.proofs.Common.{◌≡◌, ◌∙◌, length, sym, arith}
-use Rattle.std.specs.Prelude.{Some}
-use Rattle.esop.specs.Search.{first_pair, is_sought, partner}
+use Rattle.std.proofs.Common.{◌∙◌, length, sym, arith}
+use Rattle.esop.specs.Search.{first_pair, is_sought}
 use Rattle.esop.proofs.Places.{pair_at, pair_found, pair_nowhere}
 use Rattle.esop.proofs.pairs.first_pair.Goals as goal
 

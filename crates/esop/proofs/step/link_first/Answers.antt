@@ -1,4 +1,4 @@
-use Rattle.std.proofs.Common.{◌≡◌, ◌∙◌, refl, sym, ap, ap₂}
+use Rattle.std.proofs.Common.{◌≡◌, ◌∙◌, refl, sym, ap}
 use Rattle.std.specs.Prelude.{None, Some, is_some, remove}
 use Rattle.std.proofs.lemmas.Bool.{false≢true}
 use Rattle.esop.specs.Order.{placed}

@@ -1,0 +1,114 @@
+-- Trees whose leaves hold, and the tree of a fault.
+use Rattle.std.proofs.Common.{◌≡◌, ℕ, zero, suc, ◌+◌, ◌<◌, Bool, true, false, not, cond, ◌&&◌, ◌||◌, inl, inr, List, [], ◌++◌, length, refl, sym, ap, ap₂, ◌∙◌, arith, eq-eqb, ne_eqb, append_assoc, append-nil}
+use Rattle.std.specs.Prelude.{Option}
+use Rattle.std.proofs.lemmas.Bool.{false≢true, cases_Bool, cases_eq}
+use Rattle.ae_base.specs.Mask.{Set, has}
+use Rattle.ae_base.proofs.Sets.{has-with, has-without}
+use Rattle.ae_net.specs.declared.net.Fault.{Fault}
+use Rattle.ae_net.specs.Detects.{Detects}
+use Rattle.ae_net.specs.Network.{Network}
+use Rattle.ae_net.specs.Out.{HasOneRun}
+use Rattle.ae_net.specs.Valid.{IsValid}
+use Rattle.redundancy.specs.declared.lines.Subcube.{Subcube}
+use Rattle.redundancy.specs.declared.words.Step.{Step}
+use Rattle.redundancy.specs.Evidence.{Tree, leaf, split, written, IsTree, WordHolds, EachLeafHolds, SplitsOnNeed, IsEvidenceTree}
+use Rattle.redundancy.specs.Growing.{tree_of}
+use Rattle.redundancy.specs.Leaf.{IsIn, whole, low, high, LeafHolds}
+use Rattle.redundancy.specs.Undetectable.{IsUndetectable}
+use Rattle.redundancy.specs.Worked.{leaf_holds}
+use Rattle.redundancy.proofs.Full.{LeafHolds-worked, worked-LeafHolds, full-leaf}
+use Rattle.redundancy.proofs.Sound.{leaf-covers}
+
+-- ---- halves
+
+in_high : (x : Set) (d : Subcube) → IsIn x d → has x d.depth ≡ true → IsIn x (high d)
+in_high x d within e j l =
+    elim (cases_eq j d.depth) [
+      | inl same ↦ ap (has x) same ∙ e ∙ sym (has-with d.point d.depth j ∙ ap (λ b. b || has d.point j) (eq-eqb j d.depth same))
+      | inr other ↦ within j (omega arith) ∙ sym (has-with d.point d.depth j ∙ ap (λ b. b || has d.point j) (ne_eqb j d.depth other))
+    ]
+
+in_low : (x : Set) (d : Subcube) → IsIn x d → has x d.depth ≡ false → IsIn x (low d)
+in_low x d within e j l =
+    elim (cases_eq j d.depth) [
+      | inl same ↦ ap (has x) same ∙ e ∙ sym (has-without d.point d.depth j ∙ ap (λ b. not b && has d.point j) (eq-eqb j d.depth same))
+      | inr other ↦ within j (omega arith) ∙ sym (has-without d.point d.depth j ∙ ap (λ b. not b && has d.point j) (ne_eqb j d.depth other))
+    ]
+
+-- ---- a tree whose leaves hold covers every point of its subcube
+
+covered : (n : Network) (fault : Fault) → IsValid n → (t : Tree) (d : Subcube) (x : Set) → EachLeafHolds n fault d t → IsIn x d → Detects n fault x → ⊥
+covered n fault valid leaf d x h within = leaf-covers n fault d x valid h within
+covered n fault valid (split a b) d x h within =
+    elim (cases_Bool (has x d.depth)) [
+      | inl e ↦ covered n fault valid b (high d) x (h.1) (in_high x d within e)
+      | inr e ↦ covered n fault valid a (low d) x (h.0) (in_low x d within e)
+    ]
+
+pub undetectable : (n : Network) (fault : Fault) (word : List Step) → IsValid n → WordHolds n fault word → IsUndetectable n fault
+undetectable n fault word valid h x = covered n fault valid h.whole_tree.tree whole x h.leaves (λ j l. absurd (omega (arith, l)))
+
+-- ---- words
+
+-- one word has one tree, and what is left after it
+pub one_tree : (t u : Tree) (v w : List Step) → written t ++ v ≡ written u ++ w → (t ≡ u) × (v ≡ w)
+one_tree leaf leaf v w e = (refl, cc)
+one_tree leaf (split a b) v w e = absurd (let s : ⊥ = cc in s)
+one_tree (split a b) leaf v w e = absurd (let s : ⊥ = cc in s)
+one_tree (split a b) (split c d) v w e =
+    let rest : (written a ++ written b) ++ v ≡ (written c ++ written d) ++ w = cc in
+    let first = one_tree a c (written b ++ v) (written d ++ w) (sym (append_assoc (written a) (written b) v) ∙ rest ∙ append_assoc (written c) (written d) w) in
+    let second = one_tree b d v w (first.1) in
+    (ap₂ (λ x y. split x y) (first.0) (second.0), second.1)
+
+pub one_tree_of_word : (t u : Tree) → written t ≡ written u → t ≡ u
+one_tree_of_word t u e = (one_tree t u [] [] (append-nil (written t) ∙ e ∙ sym (append-nil (written u)))).0
+
+-- ---- the tree of a fault
+
+holds_each : (n : Network) (fault : Fault) (t : Tree) (d : Subcube) → SplitsOnNeed n fault d t → EachLeafHolds n fault d t
+holds_each n fault leaf d h = h
+holds_each n fault (split a b) d h = (holds_each n fault a (low d) (h.1), holds_each n fault b (high d) (h.2))
+
+pub WordHolds-evidence : (n : Network) (fault : Fault) (t : Tree) → IsEvidenceTree n fault t → WordHolds n fault (written t)
+WordHolds-evidence n fault t is = record { whole_tree = record { tree = t; is_written = refl; is_tree = is.is_tree }; leaves = holds_each n fault t whole is.on_need }
+
+one_evidence : (n : Network) (fault : Fault) (t u : Tree) (d : Subcube) → SplitsOnNeed n fault d t → SplitsOnNeed n fault d u → t ≡ u
+one_evidence n fault leaf leaf d g h = refl
+one_evidence n fault leaf (split a b) d g h = absurd ((h.0) g)
+one_evidence n fault (split a b) leaf d g h = absurd ((g.0) h)
+one_evidence n fault (split a b) (split p q) d g h = ap₂ (λ x y. split x y) (one_evidence n fault a p (low d) (g.1) (h.1)) (one_evidence n fault b q (high d) (g.2) (h.2))
+
+pub only_evidence : (n : Network) (fault : Fault) (t u : Tree) → IsEvidenceTree n fault t → IsEvidenceTree n fault u → t ≡ u
+only_evidence n fault t u g h = one_evidence n fault t u whole g.on_need h.on_need
+
+pub IsTree-tree_of : (n : Network) (fault : Fault) (m : ℕ) (d : Subcube) → m + d.depth ≡ length n.inputs → IsTree (length n.inputs) d.depth (tree_of n fault m d)
+unfolding tree_of
+IsTree-tree_of n fault zero d e = tt
+IsTree-tree_of n fault (suc m) d e =
+    let l : d.depth < length n.inputs = omega arith in
+    by_test (leaf_holds n fault d) (l, IsTree-tree_of n fault m (low d) (omega arith), IsTree-tree_of n fault m (high d) (omega arith))
+  where
+    by_test : (b : Bool) → IsTree (length n.inputs) d.depth (split (tree_of n fault m (low d)) (tree_of n fault m (high d))) → IsTree (length n.inputs) d.depth (cond b leaf (split (tree_of n fault m (low d)) (tree_of n fault m (high d))))
+    by_test true h = tt
+    by_test false h = h
+
+-- where no point of the subcube detects the fault
+needed : (n : Network) (fault : Fault) → IsValid n → ((h : Option Fault) (x : Set) → HasOneRun n h x) → IsUndetectable n fault → (m : ℕ) (d : Subcube) → m + d.depth ≡ length n.inputs → SplitsOnNeed n fault d (tree_of n fault m d)
+unfolding tree_of
+needed n fault valid runs none zero d e = full-leaf n fault d valid (omega arith) (λ h. runs h d.point) (none d.point)
+needed n fault valid runs none (suc m) d e =
+    by_test (leaf_holds n fault d) (LeafHolds-worked n fault d valid) (worked-LeafHolds n fault d valid) (needed n fault valid runs none m (low d) (omega arith)) (needed n fault valid runs none m (high d) (omega arith))
+  where
+    by_test : (b : Bool) → (b ≡ true → LeafHolds n fault d) → (LeafHolds n fault d → b ≡ true) → SplitsOnNeed n fault (low d) (tree_of n fault m (low d)) → SplitsOnNeed n fault (high d) (tree_of n fault m (high d))
+        → SplitsOnNeed n fault d (cond b leaf (split (tree_of n fault m (low d)) (tree_of n fault m (high d))))
+    by_test true to back g h = to refl
+    by_test false to back g h = (λ holds. false≢true (back holds), g, h)
+
+pub evidence_of_undetectable : (n : Network) (fault : Fault) → IsValid n → ((h : Option Fault) (x : Set) → HasOneRun n h x) → IsUndetectable n fault → (t : Tree) × IsEvidenceTree n fault t
+evidence_of_undetectable n fault valid runs none =
+    let all : length n.inputs + whole.depth ≡ length n.inputs = omega arith in
+    (tree_of n fault (length n.inputs) whole, record { is_tree = IsTree-tree_of n fault (length n.inputs) whole all; on_need = needed n fault valid runs none (length n.inputs) whole all })
+
+pub undetectable_by_evidence : (n : Network) (fault : Fault) → IsValid n → (t : Tree) → IsEvidenceTree n fault t → IsUndetectable n fault
+undetectable_by_evidence n fault valid t is = undetectable n fault (written t) valid (WordHolds-evidence n fault t is)

@@ -1,0 +1,11 @@
+pub mod Bytes
+pub mod EvidenceTrees
+pub mod Findings
+pub mod Full
+pub mod Growths
+pub mod Places
+pub mod Readings
+pub mod Simulated
+pub mod Sound
+pub mod Tables
+pub mod Visited

@@ -1,0 +1,162 @@
+-- What a simulation says of a signal holds in the runs at every point of the subcube.
+use Rattle.std.proofs.Common.{◌≡◌, ℕ, zero, suc, ◌+◌, ◌<◌, Bool, true, false, cond, inl, inr, List, length, refl, sym, ap, ap₂, ◌∙◌, arith, ltb, eqb, eqb-true}
+use Rattle.std.specs.Prelude.{Option, Some, None, is_some, slice_get, slice_index, ◌⊎◌}
+use Rattle.std.proofs.lemmas.Bool.{false≢true, cases_eq, and_parts, or_cases, ltb-true}
+use Rattle.std.proofs.lemmas.Option.{slice_get_within}
+use Rattle.ae_base.specs.Mask.{Set, has, where_below}
+use Rattle.ae_net.specs.declared.net.Gate.{Gate}
+use Rattle.ae_net.specs.declared.net.Place.{Place}
+use Rattle.ae_net.specs.declared.net.Place.TheVariants.{Stem, Pin, Port}
+use Rattle.ae_net.specs.declared.net.Fault.{Fault}
+use Rattle.ae_net.specs.Detects.{Detects}
+use Rattle.ae_net.specs.Network.{Network, signals}
+use Rattle.ae_net.specs.Run.{table, same_place, seen, value_of, IsRun, ports_of}
+use Rattle.ae_net.specs.Valid.{IsValid}
+use Rattle.redundancy.specs.declared.lines.Line.{Line}
+use Rattle.redundancy.specs.declared.lines.Subcube.{Subcube}
+use Rattle.redundancy.specs.Leaf.{IsIn, line_at, port_line, IsUntouched, LeafHolds}
+use Rattle.redundancy.specs.Simulation.{Known, each_below, known_pins, known_table, held, input_line, gate_line, line_of, pin_line, IsSimulation}
+use Rattle.redundancy.proofs.Simulated.{where_below_agree, each_signal, gate_is}
+use Rattle.redundancy.proofs.Tables.{IsAs, table-known}
+
+-- what is known of a line holds of its values without and with the fault
+pub record IsSound (l : Line) (a b : Bool) : Type 0 where
+  pub good : IsAs l.good a
+  pub faulty : IsAs l.faulty b
+  pub quiet : l.quiet ≡ true → b ≡ a
+
+-- ---- one line
+
+sound_held : (t v : Bool) (l : Line) (a b : Bool) → IsSound l a b → IsSound (cond t (record { good = l.good; faulty = Some v; quiet = false }) l) a (cond t v b)
+sound_held true v l a b s = record { good = s.good; faulty = λ c e. cc; quiet = λ q. absurd (false≢true q) }
+sound_held false v l a b s = s
+
+held-sound : (fault : Fault) (at : Place) (l : Line) (a b : Bool) → IsSound l a b → IsSound (held fault at l) (seen None at a) (seen (Some fault) at b)
+held-sound fault at l a b s = sound_held (same_place fault.place at) fault.value l a b s
+
+known_when : (t v a : Bool) → (t ≡ true → a ≡ v) → IsAs (cond t (Some v) None) a
+known_when true v a h c e = h refl ∙ cc
+known_when false v a h c e = absurd (let s : ⊥ = cc in s)
+
+input-sound : (d : Subcube) (x : Set) (j : ℕ) → IsIn x d → IsSound (input_line d j) (has x j) (has x j)
+input-sound d x j within =
+    let known : IsAs (cond (ltb j d.depth) (Some (has d.point j)) None) (has x j) = known_when (ltb j d.depth) (has d.point j) (has x j) (λ t. within j (ltb-true j d.depth t)) in
+    record { good = known; faulty = known; quiet = λ q. refl }
+
+pub each_at : (n : ℕ) (p : ℕ → Bool) → each_below n p ≡ true → (k : ℕ) → k < n → p k ≡ true
+each_at zero p h k l = absurd (omega (arith, l))
+each_at (suc n) p h k l = elim (cases_eq k n) [ inl e ↦ ap p e ∙ (and_parts _ _ h).0 | inr other ↦ each_at n p ((and_parts _ _ h).1) k (omega arith) ]
+
+abbrev alone : Line → Known
+alone l = cond l.quiet l.good None
+
+alone_good : (l : Line) (a b : Bool) → IsSound l a b → IsAs (alone l) a
+alone_good l a b s = by_quiet l.quiet
+  where
+    by_quiet : (q : Bool) → IsAs (cond q l.good None) a
+    by_quiet true = s.good
+    by_quiet false = λ c e. absurd (let w : ⊥ = cc in w)
+
+alone_bad : (l : Line) (a b : Bool) → IsSound l a b → IsAs (alone l) b
+alone_bad l a b s = by_quiet l.quiet s.quiet
+  where
+    by_quiet : (q : Bool) → (q ≡ true → b ≡ a) → IsAs (cond q l.good None) b
+    by_quiet true h = λ c e. h refl ∙ s.good c e
+    by_quiet false h = λ c e. absurd (let w : ⊥ = cc in w)
+
+some_known : (k : Option Bool) → is_some k ≡ true → (c : Bool) × (k ≡ Some c)
+some_known None h = absurd (false≢true h)
+some_known (Some c) h = (c, refl)
+
+gate-sound : (gate : Gate) (p : ℕ → Line) (a b : ℕ → Bool) → ((k : ℕ) → k < length gate.pins → IsSound (p k) (a k) (b k)) → IsSound (gate_line gate p) (table gate (where_below (length gate.pins) a)) (table gate (where_below (length gate.pins) b))
+gate-sound gate p a b h =
+    let n = length gate.pins in
+    record {
+      good = table-known gate n (λ k. (p k).good) a (λ k l. (h k l).good);
+      faulty = table-known gate n (λ k. (p k).faulty) b (λ k l. (h k l).faulty);
+      quiet = λ q. by_cause (or_cases _ _ q);
+    }
+  where
+    by_cause : (each_below (length gate.pins) (λ k. (p k).quiet) ≡ true) ⊎ (is_some (known_table gate (known_pins (length gate.pins) (λ k. alone (p k)))) ≡ true) → table gate (where_below (length gate.pins) b) ≡ table gate (where_below (length gate.pins) a)
+    by_cause (inl all) = ap (table gate) (where_below_agree (length gate.pins) b a (λ k l. (h k l).quiet (each_at (length gate.pins) (λ k. (p k).quiet) all k l)))
+    by_cause (inr some) =
+        let known = some_known _ some in
+        table-known gate (length gate.pins) (λ k. alone (p k)) b (λ k l. alone_bad (p k) (a k) (b k) (h k l)) (known.0) (known.1)
+        ∙ sym (table-known gate (length gate.pins) (λ k. alone (p k)) a (λ k l. alone_good (p k) (a k) (b k) (h k l)) (known.0) (known.1))
+
+-- ---- places
+
+same-place-is : (p q : Place) → same_place p q ≡ true → p ≡ q
+same-place-is (Stem s) (Stem t) h = ap (λ s. Stem s) (eqb-true s t h)
+same-place-is (Pin i k) (Pin j l) h = let both = and_parts (eqb i j) (eqb k l) h in ap₂ (λ i k. Pin i k) (eqb-true i j (both.0)) (eqb-true k l (both.1))
+same-place-is (Port o) (Port p) h = ap (λ o. Port o) (eqb-true o p h)
+same-place-is _ _ h = absurd (false≢true h)
+
+kept_value : (t v a b : Bool) → (t ≡ true → a ≡ v) → b ≡ a → cond t v b ≡ a
+kept_value true v a b h e = sym (h refl)
+kept_value false v a b h e = e
+
+-- a place whose value is the stuck value already sees the same with the fault
+seen_inactive : (fault : Fault) (at : Place) (a b : Bool) → (same_place fault.place at ≡ true → a ≡ fault.value) → b ≡ a → seen (Some fault) at b ≡ a
+seen_inactive fault at a b h e = kept_value (same_place fault.place at) fault.value a b h e
+
+moved : (l l' : Line) (a a' b b' : Bool) → l ≡ l' → a ≡ a' → b ≡ b' → IsSound l' a' b' → IsSound l a b
+moved l l' a a' b b' e f g s = rw (e, f, g) s
+
+-- ---- all signals, at a point of the subcube
+
+module _ (n : Network) (fault : Fault) (d : Subcube) (x : Set) (lines : List Line) (w v : List Bool) (valid : IsValid n) (sim : IsSimulation n fault d lines) (within : IsIn x d) (good : IsRun n None x w) (faulty : IsRun n (Some fault) x v) where
+  pub signal-sound : (s : ℕ) → s < signals n → IsSound (line_of lines s) (value_of w s) (value_of v s)
+  signal-sound =
+      each_signal n valid (λ s. IsSound (line_of lines s) (value_of w s) (value_of v s))
+      (λ j l. moved _ _ _ _ _ _ (sim.inputs j l) (good.inputs j l) (faulty.inputs j l) (held-sound fault (Stem j) _ _ _ (input-sound d x j within)))
+      (λ i gate there pins. moved _ _ _ _ _ _ (sim.gates i gate there) (good.gates i gate there) (faulty.gates i gate there)
+      (held-sound fault (Stem (length n.inputs + i)) _ _ _ (gate-sound gate (pin_line fault lines i gate) (λ k. seen None (Pin i k) (value_of w (slice_index gate.pins k))) (λ k. seen (Some fault) (Pin i k) (value_of v (slice_index gate.pins k))) (λ k l. held-sound fault (Pin i k) _ _ _ (pins k l)))))
+
+  pub port-sound : (o : ℕ) → o < length n.outputs → IsSound (port_line n fault lines o) (value_of w (slice_index n.outputs o)) (seen (Some fault) (Port o) (value_of v (slice_index n.outputs o)))
+  port-sound o l = held-sound fault (Port o) _ _ _ (signal-sound (slice_index n.outputs o) ((valid.ports o 0 l).1))
+
+  -- the fault's line has the stuck value without the fault
+  abbrev IsInactive : Type 0
+  IsInactive = (line_at n lines fault.place).good ≡ Some fault.value
+
+  site_value : IsInactive → (s : ℕ) → s < signals n → line_at n lines fault.place ≡ line_of lines s → value_of w s ≡ fault.value
+  site_value known s l e = (signal-sound s l).good fault.value (ap (λ k. k.good) (sym e) ∙ known)
+
+  stem_site : IsInactive → (s : ℕ) → s < signals n → same_place fault.place (Stem s) ≡ true → value_of w s ≡ fault.value
+  stem_site known s l e = site_value known s l (ap (line_at n lines) (same-place-is fault.place (Stem s) e))
+
+  pin_site : IsInactive → (i : ℕ) (gate : Gate) → slice_get n.gates i ≡ Some gate → (k : ℕ) → k < length gate.pins → same_place fault.place (Pin i k) ≡ true → value_of w (slice_index gate.pins k) ≡ fault.value
+  pin_site known i gate there k l e =
+      site_value known (slice_index gate.pins k) (omega (arith, (valid.gates i gate there).earlier k 0 l, slice_get_within n.gates i gate there))
+      (ap (line_at n lines) (same-place-is fault.place (Pin i k) e) ∙ ap (λ g. line_of lines (slice_index g.pins k)) (gate_is n i gate there))
+
+  port_site : IsInactive → (o : ℕ) → o < length n.outputs → same_place fault.place (Port o) ≡ true → value_of w (slice_index n.outputs o) ≡ fault.value
+  port_site known o l e = site_value known (slice_index n.outputs o) ((valid.ports o 0 l).1) (ap (line_at n lines) (same-place-is fault.place (Port o) e))
+
+  same_values : IsInactive → (s : ℕ) → s < signals n → value_of v s ≡ value_of w s
+  same_values known =
+      each_signal n valid (λ s. value_of v s ≡ value_of w s)
+      (λ j l. faulty.inputs j l ∙ seen_inactive fault (Stem j) (has x j) (has x j) (λ e. sym (good.inputs j l) ∙ stem_site known j (omega arith) e) refl ∙ sym (good.inputs j l))
+      (λ i gate there pins.
+      faulty.gates i gate there
+      ∙ seen_inactive fault (Stem (length n.inputs + i)) _ _ (λ e. sym (good.gates i gate there) ∙ stem_site known (length n.inputs + i) (omega (arith, slice_get_within n.gates i gate there)) e)
+      (ap (table gate) (where_below_agree (length gate.pins) _ _ (λ k l. seen_inactive fault (Pin i k) _ _ (pin_site known i gate there k l) (pins k l))))
+      ∙ sym (good.gates i gate there))
+
+  port_same : (o : ℕ) → o < length n.outputs → IsUntouched (port_line n fault lines o) → seen (Some fault) (Port o) (value_of v (slice_index n.outputs o)) ≡ value_of w (slice_index n.outputs o)
+  port_same o l (inl quiet) = (port-sound o l).quiet quiet
+  port_same o l (inr (b, g, h)) = (port-sound o l).faulty b h ∙ sym ((port-sound o l).good b g)
+
+  -- what the leaf shows leaves each port as it is without the fault
+  pub ports_same : ((line_at n lines fault.place).good ≡ Some fault.value) ⊎ ((o : ℕ) → o < length n.outputs → IsUntouched (port_line n fault lines o)) → ports_of n (Some fault) v ≡ ports_of n None w
+  ports_same (inl known) = where_below_agree (length n.outputs) _ _ (λ o l. seen_inactive fault (Port o) _ _ (port_site known o l) (same_values known (slice_index n.outputs o) ((valid.ports o 0 l).1)))
+  ports_same (inr untouched) = where_below_agree (length n.outputs) _ _ (λ o l. port_same o l (untouched o l))
+
+-- a leaf that holds covers every point in it
+pub leaf-covers : (n : Network) (fault : Fault) (d : Subcube) (x : Set) → IsValid n → LeafHolds n fault d → IsIn x d → Detects n fault x → ⊥
+leaf-covers n fault d x valid leaf within detects =
+    detects.differ
+    (detects.shows_faulty.ports
+    ∙ ports_same n fault d x leaf.lines detects.shows_good.run detects.shows_faulty.run valid leaf.is_simulation within detects.shows_good.is_run detects.shows_faulty.is_run leaf.shows_nothing
+    ∙ sym detects.shows_good.ports)

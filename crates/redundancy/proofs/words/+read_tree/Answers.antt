@@ -1,0 +1,46 @@
+use Rattle.std.proofs.Common.{◌≡◌, ℕ, suc, ◌+◌, ◌<◌, List, ◌∷◌, get_or, length, drop, sym, ap, ◌∙◌, subst, arith, add-one, drop-cons}
+use Rattle.std.specs.Prelude.{MatchOption}
+use Rattle.std.proofs.lemmas.Bool.{false≢true}
+use Rattle.std.proofs.lemmas.List.{drop_all}
+use Rattle.redundancy.specs.declared.words.Step.{Step}
+use Rattle.redundancy.specs.declared.words.Step.TheVariants.{S, L}
+use Rattle.redundancy.specs.Reading.{HasNoTree, ReadsTo}
+use Rattle.redundancy.proofs.Full.{LeafHolds-worked, worked-LeafHolds}
+use Rattle.redundancy.proofs.Readings.{nothing_left, reads_leaf, no_leaf, no_split, no_low, reads_second}
+use Rattle.redundancy.proofs.words.+read_tree.Goals as goal
+
+-- the letter that is read, and what follows it
+letter : (word : List Step) (at : ℕ) (s d : Step) → at < length word → get_or word at d ≡ s → drop at word ≡ s ∷ drop (at + 1) word
+letter word at s d l e = rw add-one (drop-cons word at d l ∙ ap (λ y. y ∷ drop (suc at) word) e)
+
+pub returns-then-at-word-clause-reads : goal.returns-then-at-word-clause-reads
+returns-then-at-word-clause-reads t c = nothing_left c.args.net.now c.args.fault c.args.cube.now c.args.word.now c.args.at (drop_all c.args.at c.args.word.now c.if-at-word.true)
+
+pub returns-then-leaf_holds-clause-reads : goal.returns-then-leaf_holds-clause-reads
+returns-then-leaf_holds-clause-reads t c =
+    reads_leaf c.args.net.now c.args.fault c.args.cube.now c.args.word.now c.args.at (letter c.args.word.now c.args.at L S c.if-at-word.false c.in-L.is) c.if-at-word.false
+    (LeafHolds-worked c.args.net.now c.args.fault c.args.cube.now c.inputs-inputs.ensures.valid (sym c.leaf_holds.ensures ∙ c.if-leaf_holds.true))
+
+pub returns-else-leaf_holds-clause-reads : goal.returns-else-leaf_holds-clause-reads
+returns-else-leaf_holds-clause-reads t c =
+    no_leaf c.args.net.now c.args.fault c.args.cube.now c.args.word.now c.args.at (letter c.args.word.now c.args.at L S c.if-at-word.false c.in-L.is)
+    (λ h. false≢true (sym c.if-leaf_holds.false ∙ c.leaf_holds.ensures ∙ worked-LeafHolds c.args.net.now c.args.fault c.args.cube.now c.inputs-inputs.ensures.valid h))
+
+pub returns-then-cube-inputs-clause-reads : goal.returns-then-cube-inputs-clause-reads
+returns-then-cube-inputs-clause-reads t c =
+    no_split c.args.net.now c.args.fault c.args.cube.now c.args.word.now c.args.at (letter c.args.word.now c.args.at S S c.if-at-word.false c.in-S.is)
+    (omega (arith, ap length c.inputs-inputs.ensures.inputs, c.if-cube-inputs.true))
+
+pub returns-in-None-clause-reads : goal.returns-in-None-clause-reads
+returns-in-None-clause-reads t c =
+    no_low c.args.net.now c.args.fault c.args.cube.now c.args.word.now c.args.at (letter c.args.word.now c.args.at S S c.if-at-word.false c.in-S.is)
+    (subst (λ d. HasNoTree c.args.net.now c.args.fault d c.args.word.now (c.args.at + 1)) c.low.ensures c.in-None.ensures.reads)
+
+pub returns-in-Some-clause-reads : goal.returns-in-Some-clause-reads
+returns-in-Some-clause-reads t c =
+    let n = c.args.net.now in
+    reads_second n c.args.fault c.args.cube.now c.args.word.now c.args.at (letter c.args.word.now c.args.at S S c.if-at-word.false c.in-S.is)
+    (omega (arith, ap length c.inputs-inputs.ensures.inputs, c.if-cube-inputs.false, c.requires.depth)) c.in-Some.middle
+    (subst (λ d. ReadsTo n c.args.fault d c.args.word.now (c.args.at + 1) c.in-Some.middle) c.low.ensures c.in-Some.ensures.reads)
+    c.read_tree-in-Some.result
+    (subst (λ d. MatchOption c.read_tree-in-Some.result (HasNoTree n c.args.fault d c.args.word.now c.in-Some.middle) (λ end. ReadsTo n c.args.fault d c.args.word.now c.in-Some.middle end)) c.high.ensures c.read_tree-in-Some.ensures.reads)

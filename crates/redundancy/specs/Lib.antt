@@ -1,0 +1,9 @@
+pub mod Evidence
+pub mod Growing
+pub mod Kept
+pub mod Leaf
+pub mod Reading
+pub mod Simulation
+pub mod Undetectable
+pub mod Visits
+pub mod Worked

@@ -1,0 +1,178 @@
+-- The points in order: all points are among them, and the least point of a function is the first one at which the function is 1.
+use Rattle.std.proofs.Common.{◌≡◌, ◌≢◌, ℕ, zero, suc, ◌+◌, ◌<◌, Bool, true, false, not, ◌||◌, ◌&&◌, cond, inl, inr, List, [], ◌∷◌, ◌++◌, Some, refl, sym, ap, ap₂, ◌∙◌, eq-eqb, ne_eqb, arith}
+use Rattle.std.specs.Prelude.{◌⊎◌, filter, slice_get}
+use Rattle.std.specs.List.{AllByRecursion}
+use Rattle.std.proofs.lemmas.Bool.{cases_eq, cases_Bool, cases_lt, true≢false, false≢true}
+use Rattle.std.proofs.lemmas.List.Elements.{filter-append}
+use Rattle.ae_base.specs.Mask.{Set, empty, has}
+use Rattle.ae_base.specs.Cube.{Signs}
+use Rattle.ae_base.specs.Terms.{IsPoint, literal}
+use Rattle.ae_base.proofs.Sets.{same_set, has-empty, has-with, has-without, inside-above, inside-from}
+use Rattle.ae_base.proofs.Distinct.{each-append}
+use Rattle.fn_store.specs.Davio.{put, low, high}
+use Rattle.fn_store.specs.Functions.{AgreeAt, IsBefore, IsLeastPoint}
+use Rattle.test_gen.specs.Points.{points_from, points_in_order}
+
+-- ---- an input put at a value
+
+put-same : (j : ℕ) (v : Bool) (x : Set) → has (put j v x) j ≡ v
+put-same j true x = has-with x j j ∙ ap (λ b. b || has x j) (eq-eqb j j refl)
+put-same j false x = has-without x j j ∙ ap (λ b. not b && has x j) (eq-eqb j j refl)
+
+put-other : (j k : ℕ) (v : Bool) (x : Set) → (k ≢ j) → has (put j v x) k ≡ has x k
+put-other j k true x n = has-with x j k ∙ ap (λ b. b || has x k) (ne_eqb k j n)
+put-other j k false x n = has-without x j k ∙ ap (λ b. not b && has x k) (ne_eqb k j n)
+
+low-literal : (p : Signs) (j : ℕ) (y : Set) → literal p j y ≡ false → has y j ≡ not (has p.plain j)
+low-literal p j y h = by_sign (has p.plain j) (has y j) h
+  where
+    by_sign : (b v : Bool) → cond b v (not v) ≡ false → v ≡ not b
+    by_sign true v e = e
+    by_sign false true e = refl
+    by_sign false false e = absurd (true≢false e)
+
+high-literal : (p : Signs) (j : ℕ) (y : Set) → literal p j y ≡ true → has y j ≡ has p.plain j
+high-literal p j y h = by_sign (has p.plain j) (has y j) h
+  where
+    by_sign : (b v : Bool) → cond b v (not v) ≡ true → v ≡ b
+    by_sign true v e = e
+    by_sign false false e = refl
+    by_sign false true e = absurd (false≢true e)
+
+-- ---- points that agree below an input
+
+-- below j both have the same members
+abbrev SameBelow : ℕ → Set → Set → Type 0
+SameBelow j x y = (k : ℕ) → k < j → has x k ≡ has y k
+
+put_below : (j : ℕ) (v : Bool) (x y : Set) → has y j ≡ v → SameBelow j y x → SameBelow (suc j) y (put j v x)
+put_below j v x y at same k l =
+    elim (cases_eq k j) [
+      | inl e ↦ ap (has y) e ∙ at ∙ sym (put-same j v x) ∙ ap (has (put j v x)) (sym e)
+      | inr ne ↦ same k (omega arith) ∙ sym (put-other j k v x ne)
+    ]
+
+from_put : (j : ℕ) (v : Bool) (x y : Set) → SameBelow (suc j) y (put j v x) → SameBelow j y x
+from_put j v x y same k l = same k (omega arith) ∙ put-other j k v x (λ e. absurd (omega (arith, e, l)))
+
+at_put : (j : ℕ) (v : Bool) (x y : Set) → SameBelow (suc j) y (put j v x) → has y j ≡ v
+at_put j v x y same = same j (omega arith) ∙ put-same j v x
+
+put_point : (n j : ℕ) (v : Bool) (x : Set) → j < n → IsPoint n x → IsPoint n (put j v x)
+put_point n j v x l is = inside-from n (put j v x) (λ k above. put-other j k v x (λ e. absurd (omega (arith, e, l, above))) ∙ inside-above n x is k above)
+
+literal-at : (p : Signs) (k : ℕ) (x y : Set) → has x k ≡ has y k → literal p k x ≡ literal p k y
+literal-at p k x y e = ap (λ v. cond (has p.plain k) v (not v)) e
+
+same_point : (n : ℕ) (x y : Set) → IsPoint n x → IsPoint n y → SameBelow n x y → x ≡ y
+same_point n x y is other same =
+    same_set x y (λ k. elim (cases_lt k n) [ inl l ↦ same k l | inr g ↦ inside-above n x is k g ∙ sym (inside-above n y other k g) ])
+
+-- ---- the points
+
+each_point : (p : Signs) (m j : ℕ) (x : Set) → j + m ≡ p.n → IsPoint p.n x → AllByRecursion (IsPoint p.n) (points_from p m j x)
+unfolding points_from
+each_point p zero j x e is = (is, tt)
+each_point p (suc m) j x e is =
+    each-append (IsPoint p.n) _ _ (each_point p m (suc j) (low p j x) (omega arith) (put_point p.n j _ x (omega arith) is)) (each_point p m (suc j) (high p j x) (omega arith) (put_point p.n j _ x (omega arith) is))
+
+none_in : (p : Signs) (f : Set → Bool) (m j : ℕ) (x : Set) → j + m ≡ p.n → IsPoint p.n x → ((y : Set) → IsPoint p.n y → SameBelow j y x → f y ≡ false) → filter f (points_from p m j x) ≡ []
+unfolding points_from
+none_in p f zero j x e is h = let k = h x is (λ k l. refl) in rw k refl
+none_in p f (suc m) j x e is h =
+    filter-append f (points_from p m (suc j) (low p j x)) (points_from p m (suc j) (high p j x))
+    ∙ ap₂ (λ a b. a ++ b)
+    (none_in p f m (suc j) (low p j x) (omega arith) (put_point p.n j _ x (omega arith) is) (λ y point same. h y point (from_put j _ x y same)))
+    (none_in p f m (suc j) (high p j x) (omega arith) (put_point p.n j _ x (omega arith) is) (λ y point same. h y point (from_put j _ x y same)))
+
+pub no_front : {X : Type 0} (xs ys : List X) → xs ++ ys ≡ [] → (xs ≡ []) × (ys ≡ [])
+no_front [] ys e = (refl, e)
+no_front (x ∷ xs) ys e = absurd cc
+
+none_out : (p : Signs) (f : Set → Bool) (m j : ℕ) (x : Set) → j + m ≡ p.n → IsPoint p.n x → filter f (points_from p m j x) ≡ [] → (y : Set) → IsPoint p.n y → SameBelow j y x → f y ≡ false
+unfolding points_from
+none_out p f zero j x e is none y point same =
+    let same_one : y ≡ x = same_point p.n y x point is (λ k l. same k (omega arith)) in
+    ap f same_one ∙ dropped (f x) none
+  where
+    dropped : (b : Bool) → cond b (x ∷ []) [] ≡ [] → b ≡ false
+    dropped true h = absurd cc
+    dropped false h = refl
+none_out p f (suc m) j x e is none y point same =
+    let parts : (filter f (points_from p m (suc j) (low p j x)) ≡ []) × (filter f (points_from p m (suc j) (high p j x)) ≡ []) = no_front _ _ (sym (filter-append f (points_from p m (suc j) (low p j x)) (points_from p m (suc j) (high p j x))) ∙ none) in
+    elim (cases_Bool (literal p j y)) [
+      | inl at ↦ none_out p f m (suc j) (high p j x) (omega arith) (put_point p.n j _ x (omega arith) is) parts.1 y point (put_below j _ x y (high-literal p j y at) same)
+      | inr at ↦ none_out p f m (suc j) (low p j x) (omega arith) (put_point p.n j _ x (omega arith) is) parts.0 y point (put_below j _ x y (low-literal p j y at) same)
+    ]
+
+pub first_of_front : {X : Type 0} (xs ys : List X) (x : X) → slice_get xs 0 ≡ Some x → slice_get (xs ++ ys) 0 ≡ Some x
+first_of_front [] ys x e = absurd cc
+first_of_front (z ∷ xs) ys x e = e
+
+-- a point that has literal 0 of an input at which y has literal 1, and the literals of y before it, is not above y
+not_above : (p : Signs) (j : ℕ) (x y z : Set) → SameBelow j y x → SameBelow j z x → literal p j y ≡ true → literal p j z ≡ false → (y ≡ z) ⊎ IsBefore p y z → ⊥
+not_above p j x y z sy sz at_y at_z (inl e) = true≢false (sym at_y ∙ ap (literal p j) e ∙ at_z)
+not_above p j x y z sy sz at_y at_z (inr b) =
+    elim (cases_lt b.input j) [
+      | inl l ↦ false≢true (sym b.low ∙ literal-at p b.input y z (sy b.input l ∙ sym (sz b.input l)) ∙ b.high)
+      | inr g ↦ elim (cases_eq b.input j) [
+        | inl e ↦ true≢false (sym at_y ∙ ap (λ k. literal p k y) (sym e) ∙ b.low)
+        | inr ne ↦ true≢false (sym at_y ∙ b.same j (omega arith) ∙ at_z)
+      ]
+    ]
+
+least_first : (p : Signs) (f : Set → Bool) (m j : ℕ) (x y : Set) → j + m ≡ p.n → IsPoint p.n x → IsPoint p.n y → SameBelow j y x → f y ≡ true
+    → ((z : Set) → IsPoint p.n z → SameBelow j z x → f z ≡ true → (y ≡ z) ⊎ IsBefore p y z) → slice_get (filter f (points_from p m j x)) 0 ≡ Some y
+unfolding points_from
+least_first p f zero j x y e is point same holds least =
+    let one : x ≡ y = sym (same_point p.n y x point is (λ k l. same k (omega arith))) in
+    let at : f x ≡ true = ap f one ∙ holds in
+    rw at (ap Some one)
+least_first p f (suc m) j x y e is point same holds least =
+    let A = points_from p m (suc j) (low p j x) in
+    let B = points_from p m (suc j) (high p j x) in
+    ap (λ us. slice_get us 0) (filter-append f A B)
+    ∙ elim (cases_Bool (literal p j y)) [
+      | inr at ↦
+          first_of_front (filter f A) (filter f B) y
+          (least_first p f m (suc j) (low p j x) y (omega arith) (put_point p.n j _ x (omega arith) is) point (put_below j _ x y (low-literal p j y at) same) holds
+          (λ z z_point z_same h. least z z_point (from_put j _ x z z_same) h))
+      | inl at ↦
+          let none : filter f A ≡ [] =
+          none_in p f m (suc j) (low p j x) (omega arith) (put_point p.n j _ x (omega arith) is) (λ z z_point z_same. not_one z z_point z_same at (f z) refl) in
+          ap (λ us. slice_get (us ++ filter f B) 0) none
+          ∙ least_first p f m (suc j) (high p j x) y (omega arith) (put_point p.n j _ x (omega arith) is) point (put_below j _ x y (high-literal p j y at) same) holds
+          (λ z z_point z_same h. least z z_point (from_put j _ x z z_same) h)
+    ]
+  where
+    literal_low : (z : Set) → SameBelow (suc j) z (low p j x) → literal p j z ≡ false
+    literal_low z z_same = by_sign (has p.plain j) (has z j) (at_put j _ x z z_same)
+      where
+        by_sign : (b v : Bool) → v ≡ not b → cond b v (not v) ≡ false
+        by_sign true v k = k
+        by_sign false v k = ap not k
+
+    not_one : (z : Set) → IsPoint p.n z → SameBelow (suc j) z (low p j x) → literal p j y ≡ true → (v : Bool) → f z ≡ v → v ≡ false
+    not_one z z_point z_same at true h = absurd (not_above p j x y z same (from_put j _ x z z_same) at (literal_low z z_same) (least z z_point (from_put j _ x z z_same) h))
+    not_one z z_point z_same at false h = refl
+
+empty_point : (n : ℕ) → IsPoint n empty
+empty_point n = inside-from n empty (λ k l. has-empty k)
+
+-- ---- all points in order
+
+pub are_points : (p : Signs) → AllByRecursion (IsPoint p.n) (points_in_order p)
+unfolding points_in_order
+are_points p = each_point p p.n 0 empty (omega arith) (empty_point p.n)
+
+pub none_passes : (p : Signs) (f : Set → Bool) → AgreeAt p.n f (λ x. false) → filter f (points_in_order p) ≡ []
+unfolding points_in_order
+none_passes p f h = none_in p f p.n 0 empty (omega arith) (empty_point p.n) (λ y point same. h y point)
+
+pub no_point : (p : Signs) (f : Set → Bool) → filter f (points_in_order p) ≡ [] → AgreeAt p.n f (λ x. false)
+unfolding points_in_order
+no_point p f none y point = none_out p f p.n 0 empty (omega arith) (empty_point p.n) none y point (λ k l. absurd (omega (arith, l)))
+
+pub least_passes : (p : Signs) (f : Set → Bool) (x : Set) → IsLeastPoint p f x → slice_get (filter f (points_in_order p)) 0 ≡ Some x
+unfolding points_in_order
+least_passes p f x is = least_first p f p.n 0 empty x (omega arith) (empty_point p.n) is.is_point (λ k l. absurd (omega (arith, l))) is.holds (λ z point same h. is.least z point h)

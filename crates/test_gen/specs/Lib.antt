@@ -1,0 +1,4 @@
+pub mod Points
+pub mod Selection
+pub mod Tests
+pub mod Undetectable
