@@ -1,11 +1,12 @@
 //! What lists of cubes mean, and that rewriting them ends.
 ghost use Rattle.std.specs.Prelude.{◌≡◌, ◌≢◌, ◌↔◌, ◌⊎◌, ◌<◌, ◌≤◌, ℕ, Bool, false, List, [], ◌∷◌, length, All, AllPairs, None, Some, find};
 ghost use Rattle.std.specs.List.Sorted.{IsPermutation, IsSorted};
-ghost use Rattle.ae_base.specs.Cube.{Product, IsOver, holds};
+ghost use Rattle.ae_base.specs.Cube.{Product, IsOver, IsProduct, distance, holds};
 ghost use Rattle.ae_base.specs.Mask.{Set, differ};
 ghost use Rattle.ae_base.specs.Text.{cmp_text};
 ghost use Rattle.expansion.specs.Terms.{Terms, IsTerms};
 ghost use Rattle.esop.specs.Esop.{IsCubes, HasSameValue, esop_of, esop_value};
+ghost use Rattle.esop.specs.Links.{links, merge};
 ghost use Rattle.esop.specs.Order.{in_order};
 ghost use Rattle.esop.specs.Rewriting.{IsFirstPair, next_list, pairs, rewrite_step, rewritten};
 ghost use Rattle.esop.specs.Settled.{IsSettled};
@@ -18,6 +19,12 @@ pub fn esop_law()
     ensures order { (cs : List Product) → IsSorted cmp_text (in_order cs) }
     ensures cubes { (cs : List Product) → IsPermutation cs (in_order cs) }
     ensures terms { (e : Terms) → IsTerms e → IsCubes (esop_of e) }
+{}
+
+/// The EXOR of two cubes at distance 1 is the one cube that they are merged into, and each link of two cubes has their EXOR.
+pub fn link_law()
+    ensures merge { (c d : Product) (x : Set) → IsProduct c → IsProduct d → distance c d ≡ 1 → holds (merge c d) x ≡ differ (holds c x) (holds d x) }
+    ensures links { (c d : Product) (x : Set) → IsProduct c → IsProduct d → All (λ l. differ (holds l.first x) (holds l.second x) ≡ differ (holds c x) (holds d x)) (links c d) }
 {}
 
 /// What is found first among the pairs of places is the first one that passes in lexicographic order, and nothing is found exactly where

@@ -11,6 +11,6 @@ mod step;
 mod terms;
 
 pub use esop::Esop;
-pub use laws::{esop_law, pairs_law, rewriting_law};
+pub use laws::{esop_law, link_law, pairs_law, rewriting_law};
 pub use rewriting::exorlink;
 pub use terms::from_expansion;

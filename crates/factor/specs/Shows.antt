@@ -3,6 +3,7 @@ use Rattle.std.specs.Prelude.{◌≡◌, ℕ, ◌≤◌, ◌==◌, Bool, false, 
 use Rattle.ae_base.specs.Mask.{Set, has, empty, with}
 use Rattle.ae_base.specs.Cube.{Product}
 use Rattle.ae_net.specs.declared.net.Gate.{Gate}
+use Rattle.ae_net.specs.Implements.{port_names}
 use Rattle.ae_net.specs.Names.{Names, IsNames}
 use Rattle.ae_net.specs.Network.{Network}
 use Rattle.ae_net.specs.Run.{Shows}
@@ -51,3 +52,9 @@ is_exor gate = length gate.pins == 2 && gate.on && are_exor_rows gate.rows
 -- the number of EXOR gates
 unfoldable pub exor_count : Network → ℕ
 exor_count n = count_by is_exor n.gates
+
+-- the model, the inputs and the output ports have the names of the source, in order
+pub record HasNames (names : Names) (n : Network) : Type 0 where
+  pub model : n.model ≡ names.model
+  pub inputs : n.inputs ≡ names.inputs
+  pub ports : port_names n ≡ names.outputs

@@ -1,5 +1,5 @@
 -- What is found for a fault is one thing, and tells of the fault what it should.
-use Rattle.std.proofs.Common.{◌≡◌, ℕ, zero, suc, ◌+◌, ◌<◌, ◌≤◌, Bool, true, false, inl, inr, List, [], ◌∷◌, ◌++◌, length, refl, sym, ap, ap₂, ◌∙◌, subst, arith, ne_eqb}
+use Rattle.std.proofs.Common.{◌≡◌, ◌↔◌, ℕ, zero, suc, ◌+◌, ◌<◌, ◌≤◌, Bool, true, false, inl, inr, List, [], ◌∷◌, ◌++◌, length, refl, sym, ap, ap₂, ◌∙◌, subst, arith, ne_eqb}
 use Rattle.std.specs.Prelude.{Option, Some, slice_get, replicate, ◌⊎◌}
 use Rattle.std.specs.List.{AllByRecursion}
 use Rattle.std.proofs.lemmas.Bool.{cases_Bool, cases_order, and_right, or_from}
@@ -93,6 +93,15 @@ module _ (n : Network) (fault : Fault) (valid : IsValid n) where
       within zero k e = absurd (let s : ⊥ = cc in s)
       within (suc c) zero e = (omega arith, cc)
       within (suc c) (suc k) e = let r = within c k e in (omega (arith, r.0), r.1)
+
+  -- too wide is what a tree of more leaves is
+  pub too_wide : (t : Tree) → IsEvidenceTree n fault t → IsFound n fault TooWide ↔ (LEAVES < leaf_count t)
+  too_wide t is = (λ wide. (no_more t is LEAVES holds (wide LEAVES (omega arith))).0, λ more j l. ap (λ vs. slice_get vs j) (met_leaves t (length n.inputs) whole (omega arith) is.is_tree is.on_need) ∙ at_each (leaf_count t) j (omega arith))
+    where
+      at_each : (c j : ℕ) → j < c → slice_get (replicate c holds) j ≡ Some holds
+      at_each zero j l = absurd (omega (arith, l))
+      at_each (suc c) zero l = refl
+      at_each (suc c) (suc j) l = at_each c j (omega (arith, l))
 
   pub only_found : (f g : Found) → IsFound n fault f → IsFound n fault g → AreSame f g
   only_found (found_tree v) (found_tree w) (t, is, e, few) (u, is', e', few') = e ∙ ap written (only_evidence n fault t u is is') ∙ sym e'

@@ -1,18 +1,20 @@
 //! What evidence proves.
 //!
 //! The functions do nothing: each one's contract is the laws, and a caller has them after the call.
-ghost use Rattle.std.specs.Prelude.{◌≡◌, ◌↔◌, ◌≤◌, List, length, true, IsTrue};
+ghost use Rattle.std.specs.Prelude.{◌≡◌, ◌↔◌, ◌≤◌, ◌<◌, List, length, true};
 ghost use Rattle.ae_net.specs.Detects.{Detects};
 ghost use Rattle.ae_net.specs.declared.net.Fault.{Fault};
 ghost use Rattle.ae_net.specs.Network.{Network};
 ghost use Rattle.ae_net.specs.Valid.{IsValid};
-ghost use Rattle.redundancy.specs.Evidence.{Tree, WordHolds, IsEvidenceTree, written};
+ghost use Rattle.redundancy.specs.Evidence.{Tree, WordHolds, IsEvidenceTree, written, leaf_count};
 ghost use Rattle.redundancy.specs.Leaf.{LeafHolds};
 ghost use Rattle.redundancy.specs.Undetectable.{IsUndetectable};
 ghost use Rattle.redundancy.specs.Visits.{IsFound, AreSame, Tells};
 ghost use Rattle.redundancy.specs.Worked.{leaf_holds};
+ghost use Rattle.redundancy.specs.declared.TheConstants.{LEAVES};
 ghost use Rattle.redundancy.specs.declared.lines.Subcube.{Subcube};
 ghost use Rattle.redundancy.specs.declared.trees.Found.{Found};
+ghost use Rattle.redundancy.specs.declared.trees.Found.TheVariants.{TooWide};
 ghost use Rattle.redundancy.specs.declared.words.Step.{Step};
 
 use ae_net::one_run;
@@ -31,10 +33,11 @@ pub fn evidence_law()
     one_run();
 }
 
-/// What is found for a fault is one thing. A tree proves the fault undetectable, and a point that is found is one of the network's inputs and
-/// detects the fault.
+/// What is found for a fault is one thing. Where the fault has a tree, it is found too wide exactly where the tree has more than `LEAVES`
+/// leaves. A tree that is found proves the fault undetectable, and a point that is found is one of the inputs and detects the fault.
 pub fn found_law()
     ensures only { (n : Network) (fault : Fault) (f g : Found) → IsValid n → IsFound n fault f → IsFound n fault g → AreSame f g }
+    ensures wide { (n : Network) (fault : Fault) (t : Tree) → IsValid n → IsEvidenceTree n fault t → IsFound n fault TooWide ↔ (LEAVES < leaf_count t) }
     ensures tells { (n : Network) (fault : Fault) (f : Found) → IsValid n → IsFound n fault f → Tells n fault f }
 {
     one_run();

@@ -1,10 +1,10 @@
 //! Whether a leaf of an evidence tree holds: three-valued simulation without and with the fault, and quiet lines, in one pass over the gates.
-ghost use Rattle.std.specs.Prelude.{◌≡◌, ◌<◌, ◌≤◌, ◌+◌, ℕ, Bool, length, slice_index, All, if◌then◌else◌, suc};
+ghost use Rattle.std.specs.Prelude.{◌≡◌, ◌<◌, ◌≤◌, length, All, if◌then◌else◌};
 ghost use Rattle.std.specs.List.{list_any, list_all};
+ghost use Rattle.ae_base.specs.Mask as set;
 ghost use Rattle.ae_base.specs.declared.limits.TheConstants.{PINS, NET_LINES, WIDTH};
 ghost use Rattle.ae_net.specs.Faults.{IsPlace};
 ghost use Rattle.ae_net.specs.Network.{signals};
-ghost use Rattle.ae_base.specs.Mask as set;
 ghost use Rattle.redundancy.specs.Kept as kept;
 ghost use Rattle.redundancy.specs.Leaf as leaf;
 ghost use Rattle.redundancy.specs.Simulation as spec;

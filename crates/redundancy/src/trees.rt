@@ -18,9 +18,9 @@ use std::alloc::Global;
 pub enum Found {
     /// The word of the whole tree: no point detects the fault.
     Tree(Vec<Step>),
-    /// The tree would have more than `LEAVES` leaves.
+    /// More than `LEAVES` leaves come before any point that detects the fault.
     TooWide,
-    /// The first point in the tree's order that detects the fault.
+    /// The first point in the order of the tree that detects the fault. It comes after `LEAVES` leaves at most.
     Differs(Point),
 }
 

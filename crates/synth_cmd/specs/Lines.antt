@@ -42,18 +42,13 @@ abbrev pub cubes_lines : Form → Summary → List (List (List ℕ))
 cubes_lines Reddy s = []
 cubes_lines Factored s = (codes "cubes" ∷ decimal s.cubes ∷ []) ∷ []
 
--- in Reddy form the number of faults that no vector detects
-abbrev pub unchanged_lines : Form → Summary → List (List (List ℕ))
-unchanged_lines Reddy s = (codes "unchanged" ∷ decimal s.unchanged ∷ []) ∷ []
-unchanged_lines Factored s = []
-
--- the numbers of gates, stuck-at faults, vectors
+-- the numbers of gates, stuck-at faults, vectors, and faults that no vector detects
 abbrev pub net_lines : Summary → List (List (List ℕ))
 net_lines s =
     (codes "gates" ∷ decimal s.gates ∷ []) ∷
     (codes "faults" ∷ decimal s.faults ∷ []) ∷
     (codes "vectors" ∷ decimal s.vectors ∷ []) ∷
-    unchanged_lines s.form s
+    (codes "unchanged" ∷ decimal s.unchanged ∷ []) ∷ []
 
 -- the number of terms, and the others
 abbrev pub count_lines : Summary → List (List (List ℕ))

@@ -50,16 +50,6 @@ fn push_cubes(alloc: Global, out: &mut Vec<u8>, summary: &Summary) -> Result<(),
     }
 }
 
-/// Writes the line of the number of undetected faults, in Reddy form.
-fn push_unchanged(alloc: Global, out: &mut Vec<u8>, summary: &Summary) -> Result<(), Memory>
-    ensures { OnOk result (out.new.items ≡ out.old.items ++ text_of (spec.unchanged_lines summary.now.form summary.now)) }
-{
-    match summary.form {
-        Form::Reddy => push_count(alloc, out, b"unchanged", summary.unchanged),
-        Form::Factored => Ok(()),
-    }
-}
-
 /// Writes the lines of the numbers of a network and its vectors.
 fn push_net(alloc: Global, out: &mut Vec<u8>, summary: &Summary) -> Result<(), Memory>
     ensures { OnOk result (out.new.items ≡ out.old.items ++ text_of (spec.net_lines summary.now)) }
@@ -68,7 +58,7 @@ fn push_net(alloc: Global, out: &mut Vec<u8>, summary: &Summary) -> Result<(), M
     push_count(alloc, out, b"gates", summary.gates)?;
     push_count(alloc, out, b"faults", summary.faults)?;
     push_count(alloc, out, b"vectors", summary.vectors)?;
-    push_unchanged(alloc, out, summary)?;
+    push_count(alloc, out, b"unchanged", summary.unchanged)?;
     Ok(())
 }
 

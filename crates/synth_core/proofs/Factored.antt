@@ -1,6 +1,12 @@
 -- What is synthesised of a source's expansions in factored form.
-use Rattle.std.proofs.Common.{◌≡◌, ◌<◌, ◌≤◌, ℕ, zero, suc, Bool, List, [], ◌∷◌, inl, length, get_or, refl, sym, ap, ap₂, ◌∙◌, subst, arith}
-use Rattle.std.specs.Prelude.{None, Ok, Some, slice_get}
+use Rattle.std.proofs.Common.{◌≡◌, ◌<◌, ◌≤◌, ℕ, zero, suc, Bool, List, [], ◌∷◌, inl, length, map, get_or, refl, sym, ap, ap₂, ◌∙◌, subst, arith}
+use Rattle.std.specs.Prelude.{Option, None, Ok, Some, slice_get}
+use Rattle.std.proofs.lemmas.List.Elements.{All-map}
+use Rattle.ae_net.specs.declared.net.Fault.{Fault}
+use Rattle.ae_net.specs.Out.{out}
+use Rattle.ae_net.specs.Valid.{IsValid}
+use Rattle.test_gen.specs.Undetectable.{IsComplete}
+use Rattle.vec_text.specs.declared.file.Idle.{Idle}
 use Rattle.std.specs.List.{AllZip}
 use Rattle.std.proofs.lemmas.Option.{slice_get-get_or}
 use Rattle.ae_base.specs.Mask.{Set, has}
@@ -18,7 +24,6 @@ use Rattle.blif_read.specs.Says.{blif_says}
 use Rattle.esop.specs.Esop.{Cubes, HasValueOf, esop_value}
 use Rattle.expansion.specs.Functions.{AreExpansions}
 use Rattle.expansion.specs.Terms.{Terms, cost}
-use Rattle.factor.specs.Factored.{network_of}
 use Rattle.factor.specs.Shows.{cube_count}
 use Rattle.fn_store.specs.Davio.{IsExpansion}
 use Rattle.vec_text.specs.declared.file.Form.TheVariants.{Factored}
@@ -26,7 +31,8 @@ use Rattle.vec_text.specs.VectorFile.{VectorFile, IsValidVectorFile, vector_text
 use Rattle.synth_core.specs.declared.made.Summary.{Summary}
 use Rattle.synth_core.specs.Headline.{IsWritten}
 use Rattle.synth_core.specs.Made.{AreNumbers, names_of, ShowsAt, IsSynthesised, Texts}
-use Rattle.synth_core.specs.Steps.{AreRewritten, IsFactoredNet, factored_file}
+use Rattle.synth_core.specs.Steps.{AreRewritten, AreTests, IsFactoredNet, factored_file}
+use Rattle.synth_core.proofs.Filed.{points-vectors_of}
 use Rattle.synth_core.proofs.Lines.{length-lines}
 use Rattle.synth_core.proofs.Shown.{meets}
 
@@ -37,10 +43,11 @@ zip_get R (x ∷ xs) [] i d e all l = absurd all
 zip_get R (x ∷ xs) (y ∷ ys) zero d e all l = all.0
 zip_get R (x ∷ xs) (y ∷ ys) (suc i) d e all l = zip_get R xs ys i d e all.1 (omega (arith, l))
 
-module _ (s : Source) (e : Terms) (are : AreExpansions s e.polarity e) (cubes : Cubes) (n : Network) (rewritten : AreRewritten e cubes) (net : IsFactoredNet (names_of s) cubes n)
+module _ (s : Source) (e : Terms) (are : AreExpansions s e.polarity e) (cubes : Cubes) (n : Network) (points : List Set) (unchanged : List Idle)
+    (rewritten : AreRewritten e cubes) (net : IsFactoredNet (names_of s) cubes n) (tests : AreTests n e.polarity points unchanged)
     (meaning : (p : Signs) (f : Set → Bool) (ts : List Set) → IsExpansion p f ts → (x : Set) → IsPoint p.n x → value p ts x ≡ f x) where
   abbrev file : VectorFile
-  file = factored_file (names_of s) e.polarity cubes n
+  file = factored_file (names_of s) e.polarity cubes n points unchanged
 
   -- the cubes of an output have the value that is specified On
   cubes_value : (x : Set) → IsPoint (length s.inputs) x → (o : ℕ) → o < length s.outputs → esop_value (get_or cubes.outs o []) x ≡ on_set s o x
@@ -60,35 +67,31 @@ module _ (s : Source) (e : Terms) (are : AreExpansions s e.polarity e) (cubes : 
   values : (x : Set) → IsPoint (length s.inputs) x → (ys : Set) × Shows n None x ys × AreSpecified s x ys
   values x point = ((net.values x).0, (net.values x).1, λ o within. meets (s.specified o x) (has (net.values x).0 o) (low_is x point o within))
 
-  module _ (file_valid : IsValidVectorFile file) (again : blif_says Written (blif_text n) ≡ Ok n) where
-    inputs : n.inputs ≡ s.inputs
-    unfolding network_of
-    inputs = ap (λ m. m.inputs) net.form.is
-
-    model : n.model ≡ s.model
-    unfolding network_of
-    model = ap (λ m. m.model) net.form.is
-
+  module _ (file_valid : IsValidVectorFile file) (again : blif_says Written (blif_text n) ≡ Ok n)
+      (shows : (n : Network) (fault : Option Fault) (x : Set) → IsValid n → Shows n fault x (out n fault x)) where
     abbrev is_written : IsWritten s (blif_text n) (vector_text file)
     is_written = record {
       net = n;
       reads_back = again;
       valid = net.valid;
-      implements = record { ports = net.ports; inputs = inl inputs; values = values };
+      implements = record { ports = net.names_are.ports; inputs = inl net.names_are.inputs; values = values };
       file = file;
       is_text = refl;
       file_valid = file_valid;
       inputs = refl;
-      outputs = sym net.ports;
-      responses = λ i d l. absurd (omega (arith, l));
+      outputs = sym net.names_are.ports;
+      responses = All-map (λ v. Shows n None v.point v.outs) _ points (λ i d l. shows n None (get_or points i d) net.valid);
     }
+
+    points_are : map (λ v. v.point) file.vectors ≡ points
+    points_are = points-vectors_of n points
 
     pub is_factored : ((names : Names) → IsLead names (lead names)) → (summary : Summary) → AreNumbers s e n file summary
         → IsSynthesised Factored e.polarity s e (record { net_text = blif_text n; vec_text = vector_text file; summary = summary })
     unfolding cube_count
     is_factored is_lead summary numbers = record {
-      headline = record { written = is_written; has_form = refl; has_polarity = refl; tested = record { no_control = inputs; no_vectors = refl } };
-      model = model;
+      headline = record { written = is_written; has_form = refl; has_polarity = refl; tested = record { no_control = net.names_are.inputs; complete = subst (IsComplete n) (sym points_are) tests.complete } };
+      model = net.names_are.model;
       low = low;
       net_text = refl;
       of_form = record {
@@ -104,19 +107,20 @@ module _ (s : Source) (e : Terms) (are : AreExpansions s e.polarity e) (cubes : 
         are_sums = net.form.are_sums;
         factored = net.form.is;
         few_exors = omega (arith, length-lines 0 cubes.outs, net.few_exors);
-        none_unchanged = refl;
+        points = points_are ∙ tests.points_are;
+        undetectable = tests.undetectable;
       };
       numbers = numbers;
     }
 
 -- texts of the file and the network, with names and a polarity that are those of the source and of the expansions
-pub made_factored : (names : Names) (s : Source) (e : Terms) (cubes : Cubes) (n : Network) (p : Signs) (file : VectorFile) (summary : Summary) (made : Texts)
-    → p ≡ e.polarity → names ≡ names_of s → file ≡ factored_file names p cubes n → made ≡ record { net_text = blif_text n; vec_text = vector_text file; summary = summary }
+pub made_factored : (names : Names) (s : Source) (e : Terms) (cubes : Cubes) (n : Network) (points : List Set) (unchanged : List Idle) (p : Signs) (file : VectorFile) (summary : Summary) (made : Texts)
+    → p ≡ e.polarity → names ≡ names_of s → file ≡ factored_file names p cubes n points unchanged → made ≡ record { net_text = blif_text n; vec_text = vector_text file; summary = summary }
     → AreNumbers s e n file summary
-    → (AreNumbers s e n (factored_file (names_of s) e.polarity cubes n) summary
-    → IsSynthesised Factored e.polarity s e (record { net_text = blif_text n; vec_text = vector_text (factored_file (names_of s) e.polarity cubes n); summary = summary }))
+    → (AreNumbers s e n (factored_file (names_of s) e.polarity cubes n points unchanged) summary
+    → IsSynthesised Factored e.polarity s e (record { net_text = blif_text n; vec_text = vector_text (factored_file (names_of s) e.polarity cubes n points unchanged); summary = summary }))
     → IsSynthesised Factored e.polarity s e made
-made_factored names s e cubes n p file summary made signs named is texts numbers law =
-    let same : file ≡ factored_file (names_of s) e.polarity cubes n = is ∙ ap₂ (λ m q. factored_file m q cubes n) named signs in
+made_factored names s e cubes n points unchanged p file summary made signs named is texts numbers law =
+    let same : file ≡ factored_file (names_of s) e.polarity cubes n points unchanged = is ∙ ap₂ (λ m q. factored_file m q cubes n points unchanged) named signs in
     subst (IsSynthesised Factored e.polarity s e) (sym (texts ∙ ap (λ f. record { net_text = blif_text n; vec_text = vector_text f; summary = summary }) same))
     (law (subst (λ f. AreNumbers s e n f summary) same numbers))

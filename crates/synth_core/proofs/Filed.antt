@@ -16,15 +16,15 @@ use Rattle.ae_net.specs.Valid.{IsValid, IsDistinct}
 use Rattle.ae_net.specs.Out.{out}
 use Rattle.ae_net.specs.Names.{IsNames, Names}
 use Rattle.esop.specs.Esop.{Cubes}
-use Rattle.factor.specs.Factored.{network_of}
 use Rattle.expansion.specs.Terms.{Terms}
 use Rattle.cascade.specs.Reddy.{reddy_net}
 use Rattle.cascade.specs.Shows.{CanBuild, HasInputNames, HasPortNames}
 use Rattle.input_tests.specs.Whole.{cascade_tests}
 use Rattle.vec_text.specs.declared.file.Form.TheVariants.{Reddy}
+use Rattle.vec_text.specs.declared.file.Idle.{Idle}
 use Rattle.vec_text.specs.VectorFile.{VectorFile, IsCubeOf, IsValidVectorFile}
 use Rattle.synth_core.specs.Made.{lines_from}
-use Rattle.synth_core.specs.Steps.{vectors_of, factored_file, file_over, reddy_file, AreCascadePoints, IsFactoredNet}
+use Rattle.synth_core.specs.Steps.{vectors_of, factored_file, file_over, reddy_file, AreCascadePoints, AreTests, IsFactoredNet}
 use Rattle.synth_core.proofs.Lines.{are_cubes}
 use Rattle.synth_core.proofs.Shown.{listed_distinct}
 
@@ -49,7 +49,7 @@ unfolding out
 out_point n x = where_point (length n.outputs) _
 
 pub same_file : (n m : Network) (outputs names : List (List ℕ)) (p q : Signs) (xs ys : List Set) → n ≡ m → outputs ≡ names → p ≡ q → xs ≡ ys
-    → file_over Reddy n outputs p [] xs ≡ file_over Reddy m names q [] ys
+    → file_over Reddy n outputs p [] xs [] ≡ file_over Reddy m names q [] ys []
 same_file n m outputs names p q xs ys a b c d = rw (a, b, c, d) refl
 
 -- ---- names
@@ -114,17 +114,16 @@ module _ (names : Names) (e : Terms) (can : CanBuild names e) where
 -- ---- the file of a factored network
 
 pub factored_inputs : (names : Names) (cubes : Cubes) (n : Network) → IsFactoredNet names cubes n → length n.inputs ≤ WRITTEN_LINES
-unfolding network_of
-factored_inputs names cubes n is = omega (arith, ap (λ m. length m.inputs) is.form.is, is.named.few_inputs)
+factored_inputs names cubes n is = omega (arith, ap length is.names_are.inputs, is.named.few_inputs)
 
 pub factored_outputs : (names : Names) (cubes : Cubes) (n : Network) → IsFactoredNet names cubes n → length n.outputs ≤ WRITTEN_LINES
-factored_outputs names cubes n is = omega (arith, length-map n.outputs (λ s. (gate_at n (s - length n.inputs)).out), ap length is.ports, is.named.few_outputs)
+factored_outputs names cubes n is = omega (arith, length-map n.outputs (λ s. (gate_at n (s - length n.inputs)).out), ap length is.names_are.ports, is.named.few_outputs)
 
-pub is_valid_factored : (names : Names) (p : Signs) (cubes : Cubes) (n : Network) → IsSigns p → p.n ≡ cubes.n → IsFactoredNet names cubes n → IsValidVectorFile (factored_file names p cubes n)
-unfolding network_of
-is_valid_factored names p cubes n signs same is =
-    let inputs : n.inputs ≡ names.inputs = ap (λ m. m.inputs) is.form.is in
-    let outputs : length n.outputs ≡ length names.outputs = sym (length-map n.outputs _) ∙ ap length is.ports in
+pub is_valid_factored : (names : Names) (p : Signs) (cubes : Cubes) (n : Network) (points : List Set) (unchanged : List Idle)
+    → IsSigns p → p.n ≡ cubes.n → IsFactoredNet names cubes n → AreTests n p points unchanged → IsValidVectorFile (factored_file names p cubes n points unchanged)
+is_valid_factored names p cubes n points unchanged signs same is tests =
+    let inputs : n.inputs ≡ names.inputs = is.names_are.inputs in
+    let outputs : length n.outputs ≡ length names.outputs = sym (length-map n.outputs _) ∙ ap length is.names_are.ports in
     record {
       some_input = omega (arith, same, is.fits.inputs, is.named.some_input);
       signs = signs;
@@ -133,11 +132,11 @@ is_valid_factored names p cubes n signs same is =
       some_output = is.named.some_output;
       few_outputs = omega (arith, is.named.few_outputs);
       named = All-append (λ name. is_name name ≡ true) n.inputs names.outputs is.valid.inputs_named (outputs_are_named names is.named);
-      distinct = subst (λ names. IsDistinct (n.inputs ++ names)) is.ports (listed_distinct n is.valid);
+      distinct = subst (λ names. IsDistinct (n.inputs ++ names)) is.names_are.ports (listed_distinct n is.valid);
       esop = subst (λ k. All (IsCubeOf k (length names.outputs)) (lines_from 0 cubes.outs)) (is.fits.inputs ∙ sym (ap length inputs))
           (are_cubes cubes.n (length names.outputs) 0 cubes.outs (recursion_from_All _ cubes.outs is.cubes_valid.below) (omega (arith, is.fits.outputs)));
-      points = λ i d l. absurd (omega (arith, l));
-      responses = λ i d l. absurd (omega (arith, l));
-      unchanged = λ i d l. absurd (omega (arith, l));
+      points = All-map (λ v. IsPoint (length n.inputs) v.point) _ points tests.over;
+      responses = All-map (λ v. IsPoint (length names.outputs) v.outs) _ points (λ i d l. subst (λ m. IsPoint m (out n None (get_or points i d))) outputs (out_point n (get_or points i d)));
+      unchanged = tests.valid;
       reddy = λ form. absurd (cc form);
     }

@@ -6,6 +6,7 @@ pub mod Lines
 pub mod Meaning
 pub mod OneAnswer
 pub mod Remade
+pub mod Selected
 pub mod Shown
 pub mod Sources
 pub mod Synthesised

@@ -1,10 +1,10 @@
 -- What is made of the bytes of a source is one: the same texts, and the same numbers.
-use Rattle.std.proofs.Common.{◌≡◌, ℕ, Bool, List, [], ◌∷◌, length, map, refl, sym, ap, ap₂, ◌∙◌, subst}
+use Rattle.std.proofs.Common.{◌≡◌, arith, ℕ, Bool, List, [], ◌∷◌, length, map, refl, sym, ap, ap₂, ◌∙◌, subst}
 use Rattle.std.specs.Prelude.{None, Option}
 use Rattle.std.proofs.lemmas.List.Elements.{recursion_from_All}
 use Rattle.std.specs.List.{AllByRecursion}
 use Rattle.ae_base.specs.Mask.{Set}
-use Rattle.ae_base.specs.Cube.{Product, Signs}
+use Rattle.ae_base.specs.Cube.{Signs}
 use Rattle.ae_base.specs.Source.{Source}
 use Rattle.ae_net.specs.declared.net.Fault.{Fault}
 use Rattle.ae_net.specs.Blif.{blif_text}
@@ -21,13 +21,21 @@ use Rattle.fn_store.specs.Davio.{IsExpansion}
 use Rattle.expansion.specs.Terms.{Terms}
 use Rattle.esop.specs.Esop.{Cubes}
 use Rattle.expansion.specs.Functions.{AreExpansions}
-use Rattle.factor.specs.Factored.{AreSums, network_of, wires}
-use Rattle.factor.specs.Sums.{Summands}
+use Rattle.factor.specs.Factored.{HasFactoredForm, network_of, wires}
 use Rattle.polarity.specs.Search.{Advised, IsChosen}
 use Rattle.synth_core.specs.Asked.{terms_limit}
 use Rattle.synth_core.specs.Searched.{IsPolarity}
+use Rattle.redundancy.specs.Evidence.{IsEvidenceTree, Tree, leaf_count, written}
+use Rattle.std.specs.List.{AllZip}
 use Rattle.synth_core.specs.Headline.{IsTested}
-use Rattle.synth_core.specs.Made.{IsMade, IsOfForm, IsSynthesised, Texts, lines_from, names_of}
+use Rattle.synth_core.specs.Listed.{AreUndetectable, IsLineOf, IsShown, step_of}
+use Rattle.synth_core.proofs.Selected.{selected_once}
+use Rattle.test_gen.specs.Tests.{tests_of}
+use Rattle.test_gen.specs.Undetectable.{IsUndetectable}
+use Rattle.vec_text.specs.declared.file.PlaceName.{PlaceName}
+use Rattle.vec_text.specs.declared.file.Shown.{Shown}
+use Rattle.vec_text.specs.declared.file.Shown.TheVariants as shown
+use Rattle.synth_core.specs.Made.{IsFactored, IsMade, IsOfForm, IsSynthesised, Texts, lines_from, names_of}
 use Rattle.synth_core.specs.declared.made.Summary.{Summary}
 use Rattle.synth_core.specs.declared.settings.Choice.{Choice}
 use Rattle.synth_core.specs.declared.settings.Choice.TheVariants.{Positive, Search, Given}
@@ -71,7 +79,43 @@ module _ (only : (n : Network) (fault : Option Fault) (x ys : Set) → IsValid n
       let heads : x ≡ y = ap₂ (λ a b. record { point = a; outs = b }) points outs in
       ap₂ (λ z zs. z ∷ zs) heads tails
 
-  module _ (sums_once : (css : List (List Product)) (a b : List Summands) → AreSums css a → AreSums css b → a ≡ b) where
+  -- the undetectable faults of a network are told by the same lines
+  module _ (trees_once : (n : Network) (fault : Fault) (t u : Tree) → IsEvidenceTree n fault t → IsEvidenceTree n fault u → t ≡ u) where
+    one_shown : (n : Network) (fault : Fault) (s t : Shown) → IsShown n fault s → IsShown n fault t → s ≡ t
+    one_shown n fault (shown.Tree xs) (shown.Tree ys) a b =
+        ap (λ z. shown.Tree z) (a.2 ∙ ap (λ t. map step_of (written t)) (trees_once n fault a.0 b.0 a.1 b.1) ∙ sym b.2)
+    one_shown n fault (shown.Tree xs) shown.Wide a b = absurd (omega (arith, a.3, b.2, ap leaf_count (trees_once n fault a.0 b.0 a.1 b.1)))
+    one_shown n fault shown.Wide (shown.Tree ys) a b = absurd (omega (arith, a.2, b.3, ap leaf_count (trees_once n fault a.0 b.0 a.1 b.1)))
+    one_shown n fault shown.Wide shown.Wide a b = refl
+
+    same_idle : (p q : PlaceName) (v w : Bool) (s t : Shown) → p ≡ q → v ≡ w → s ≡ t → same {X = Idle} (record { place = p; value = v; shown = s }) (record { place = q; value = w; shown = t })
+    same_idle p q v w s t a b c = rw (a, b, c) refl
+
+    one_line : (n : Network) (fault : Fault) (x y : Idle) → IsLineOf n fault x → IsLineOf n fault y → x ≡ y
+    one_line n fault x y a b = same_idle x.place y.place x.value y.value x.shown y.shown (a.place ∙ sym b.place) (a.value ∙ sym b.value) (one_shown n fault x.shown y.shown a.is_shown b.is_shown)
+
+    one_lines : (n : Network) (faults : List Fault) (xs ys : List Idle) → AllZip (IsLineOf n) faults xs → AllZip (IsLineOf n) faults ys → xs ≡ ys
+    one_lines n [] [] [] a b = refl
+    one_lines n [] [] (y ∷ ys) a b = absurd b
+    one_lines n [] (x ∷ xs) ys a b = absurd a
+    one_lines n (f ∷ fs) [] ys a b = absurd a
+    one_lines n (f ∷ fs) (x ∷ xs) [] a b = absurd b
+    one_lines n (f ∷ fs) (x ∷ xs) (y ∷ ys) a b = ap₂ (λ z zs. z ∷ zs) (one_line n f x y a.0 b.0) (one_lines n fs xs ys a.1 b.1)
+
+    same_lines : (n : Network) (xs ys : List Idle) → AreUndetectable n xs → AreUndetectable n ys → xs ≡ ys
+    same_lines n xs ys a b =
+        one_lines n b.faults xs ys (subst (λ fs. AllZip (IsLineOf n) fs xs) (selected_once (IsUndetectable n) (fault_list n) a.faults b.faults a.exactly b.exactly) a.listed) b.listed
+
+  module _ (trees_once : (n : Network) (fault : Fault) (t u : Tree) → IsEvidenceTree n fault t → IsEvidenceTree n fault u → t ≡ u)
+      (net_once : (names : Names) (e : Cubes) (n m : Network) → HasFactoredForm names e n → HasFactoredForm names e m → n ≡ m) where
+    -- the network has factored form, for the one number of underscores
+    form_of : (s : Source) (e : Terms) (n : Network) (f : VectorFile) (is : IsFactored s e n f) → HasFactoredForm (names_of s) is.cubes n
+    form_of s e n f is = record {
+      sums = is.sums;
+      are_sums = is.are_sums;
+      is = is.factored ∙ ap (λ k. network_of k (names_of s) (wires is.cubes) is.sums) (lead_only (names_of s) is.underscores is.is_lead);
+    }
+
     -- what two networks and files of a form have in common
     record Agrees (n m : Network) (f g : VectorFile) : Type 0 where
       nets : n ≡ m
@@ -92,18 +136,14 @@ module _ (only : (n : Network) (fault : Option Fault) (x ys : Set) → IsValid n
           unchanged = fs.1 ∙ sym gs.1;
         }
     agree Factored s e n m f g fv gv ff gf ft gt a b =
-        let same : a.underscores ≡ b.underscores = lead_only (names_of s) a.underscores a.is_lead ∙ sym (lead_only (names_of s) b.underscores b.is_lead) in
         let cubes : a.cubes ≡ b.cubes = a.rewritten ∙ sym b.rewritten in
-        let sums : a.sums ≡ b.sums = sums_once b.cubes.outs a.sums b.sums (subst (λ c. AreSums c.outs a.sums) cubes a.are_sums) b.are_sums in
+        let nets : n ≡ m = net_once (names_of s) b.cubes n m (subst (λ c. HasFactoredForm (names_of s) c n) cubes (form_of s e n f a)) (form_of s e m g b) in
         record {
-          nets = a.factored ∙ same_net same cubes sums ∙ sym b.factored;
+          nets = nets;
           esop = a.lines ∙ ap (λ c. lines_from 0 c.outs) cubes ∙ sym b.lines;
-          points = ap (map (λ v. v.point)) (ft.no_vectors ∙ sym gt.no_vectors);
-          unchanged = a.none_unchanged ∙ sym b.none_unchanged;
+          points = a.points ∙ ap (λ k. tests_of k e.polarity) nets ∙ sym b.points;
+          unchanged = same_lines trees_once m f.unchanged g.unchanged (subst (λ k. AreUndetectable k f.unchanged) nets a.undetectable) b.undetectable;
         }
-      where
-        same_net : {k l : ℕ} {c d : Cubes} {x y : List Summands} → k ≡ l → c ≡ d → x ≡ y → network_of k (names_of s) (wires c) x ≡ network_of l (names_of s) (wires d) y
-        same_net a b c = rw (a, b, c) refl
 
     module _ (form : Form) (s : Source) (p : Signs) (e : Terms) (ta tb : Texts) (a : IsSynthesised form p s e ta) (b : IsSynthesised form p s e tb) where
       abbrev fa : VectorFile

@@ -1,5 +1,5 @@
 -- The headline: what is promised of a source's network and of its vectors.
-use Rattle.std.specs.Prelude.{◌≡◌, ℕ, ◌≤◌, None, Ok, List, [], length, map, All}
+use Rattle.std.specs.Prelude.{◌≡◌, ℕ, ◌≤◌, None, Ok, List, length, map, All}
 use Rattle.ae_base.specs.Cube.{Signs}
 use Rattle.ae_base.specs.Mask.{Set}
 use Rattle.ae_base.specs.Source.{Source}
@@ -12,6 +12,7 @@ use Rattle.blif_read.specs.declared.fault.NetLimits.TheVariants.{Written}
 use Rattle.blif_read.specs.Says.{blif_says}
 use Rattle.expansion.specs.Even.{AreEven}
 use Rattle.input_tests.specs.Whole.{vector_bound}
+use Rattle.test_gen.specs.Undetectable.{IsComplete}
 use Rattle.vec_text.specs.declared.file.Form.{Form}
 use Rattle.vec_text.specs.declared.file.Form.TheVariants.{Reddy, Factored}
 use Rattle.vec_text.specs.VectorFile.{VectorFile, IsValidVectorFile, vector_text}
@@ -45,10 +46,10 @@ pub record IsReddyTested (s : Source) (net : Network) (file : VectorFile) : Type
   pub few : length file.vectors ≤ vector_bound (length s.inputs) evens
   pub detected : DetectsEveryFault net (map (λ v. v.point) file.vectors)
 
--- In factored form the network has no control, and the file has no vectors yet.
+-- In factored form the network has no control, and each stuck-at fault that no vector detects changes no output at any point.
 pub record IsFactoredTested (s : Source) (net : Network) (file : VectorFile) : Type 0 where
   pub no_control : net.inputs ≡ s.inputs
-  pub no_vectors : file.vectors ≡ []
+  pub complete : IsComplete net (map (λ v. v.point) file.vectors)
 
 -- what a form promises of its vectors
 abbrev pub IsTested : Form → Source → Network → VectorFile → Type 0

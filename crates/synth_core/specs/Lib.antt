@@ -1,6 +1,7 @@
 pub mod Asked
 pub mod Errors
 pub mod Headline
+pub mod Listed
 pub mod Made
 pub mod Says
 pub mod Searched

@@ -23,11 +23,13 @@ use Rattle.input_tests.specs.Whole.{cascade_tests}
 use Rattle.polarity.specs.Search.{Advised}
 use Rattle.synth_core.specs.Asked.{IsWithin, terms_limit}
 use Rattle.synth_core.specs.Headline.{Headline}
+use Rattle.synth_core.specs.Listed.{AreUndetectable}
 use Rattle.synth_core.specs.Searched.{IsPolarity}
 use Rattle.synth_core.specs.declared.made.Made.{Made}
 use Rattle.synth_core.specs.declared.made.Summary.{Summary}
 use Rattle.synth_core.specs.declared.settings.Settings.{Settings}
 use Rattle.vec_text.specs.declared.file.Form.{Form}
+use Rattle.test_gen.specs.Tests.{tests_of}
 use Rattle.vec_text.specs.declared.file.EsopLine.{EsopLine}
 use Rattle.vec_text.specs.declared.file.Form.TheVariants.{Reddy, Factored}
 use Rattle.vec_text.specs.VectorFile.{VectorFile}
@@ -66,8 +68,8 @@ lines_from o [] = []
 lines_from o (cs ∷ css) = map (λ c. record { output = o; cube = c }) cs ++ lines_from (suc o) css
 
 -- In factored form each output has the expansion's terms as cubes, rewritten until they are settled: no more cubes than terms, of the same
--- value at each point. The network is the factored one of these cubes, with no more EXOR gates than cubes. No vector and no undetectable
--- fault is listed yet.
+-- value at each point. The network is the factored one of these cubes, with no more EXOR gates than cubes. The vectors are the tests of
+-- the network, and the other faults are listed.
 pub record IsFactored (s : Source) (e : Terms) (n : Network) (file : VectorFile) : Type 0 where
   pub cubes : Cubes
   pub rewritten : cubes ≡ rewritten_lists (esop_of e)
@@ -81,7 +83,8 @@ pub record IsFactored (s : Source) (e : Terms) (n : Network) (file : VectorFile)
   pub are_sums : AreSums cubes.outs sums
   pub factored : n ≡ network_of underscores (names_of s) (wires cubes) sums
   pub few_exors : exor_count n ≤ length file.esop
-  pub none_unchanged : file.unchanged ≡ []
+  pub points : map (λ v. v.point) file.vectors ≡ tests_of n e.polarity
+  pub undetectable : AreUndetectable n file.unchanged
 
 -- what is particular to a form
 abbrev pub IsOfForm : Form → Source → Terms → Network → VectorFile → Type 0

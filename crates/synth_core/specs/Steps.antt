@@ -1,5 +1,5 @@
 -- What the steps of a synthesis work on. For private contracts alone.
-use Rattle.std.specs.Prelude.{◌≡◌, ◌⊎◌, ℕ, ◌+◌, ◌≤◌, None, List, [], map, All}
+use Rattle.std.specs.Prelude.{◌≡◌, ◌⊎◌, ℕ, ◌+◌, ◌≤◌, None, List, [], length, map, All}
 use Rattle.std.specs.List.{AllZip}
 use Rattle.ae_base.specs.Mask.{Set}
 use Rattle.ae_base.specs.Cube.{Signs}
@@ -10,13 +10,12 @@ use Rattle.ae_net.specs.Network.{Network}
 use Rattle.ae_net.specs.Out.{out}
 use Rattle.cascade.specs.Reddy.{reddy_net}
 use Rattle.cascade.specs.Shows.{CanBuild}
-use Rattle.ae_net.specs.Implements.{port_names}
 use Rattle.ae_net.specs.Valid.{IsValid}
 use Rattle.esop.specs.Esop.{Cubes, HasValueOf, IsCubes, esop_of}
 use Rattle.esop.specs.Rewriting.{rewritten_lists}
 use Rattle.esop.specs.Settled.{AreSettled}
 use Rattle.factor.specs.Factored.{HasFactoredForm}
-use Rattle.factor.specs.Shows.{Fits, ShowsEsop, cube_count, exor_count}
+use Rattle.factor.specs.Shows.{Fits, HasNames, ShowsEsop, cube_count, exor_count}
 use Rattle.expansion.specs.Functions.{AreExpansions}
 use Rattle.expansion.specs.Terms.{Terms, cost, PassesAt}
 use Rattle.input_tests.specs.Whole.{cascade_tests}
@@ -26,14 +25,18 @@ use Rattle.synth_core.specs.declared.made.Summary.{Summary}
 use Rattle.synth_core.specs.declared.settings.Settings.{Settings}
 use Rattle.synth_core.specs.declared.settings.Choice.{Choice}
 use Rattle.synth_core.specs.declared.settings.Choice.TheVariants.{Positive, Search, Given}
+use Rattle.synth_core.specs.Listed.{AreUndetectable}
 use Rattle.synth_core.specs.Made.{IsSynthesised, Texts, lines_from}
 use Rattle.synth_core.specs.Searched.{IsSearched}
 use Rattle.synth_core.specs.Sourced.{IsSourced, Parts}
+use Rattle.test_gen.specs.Tests.{tests_of}
+use Rattle.test_gen.specs.Undetectable.{IsComplete}
 use Rattle.vec_text.specs.declared.file.EsopLine.{EsopLine}
+use Rattle.vec_text.specs.declared.file.Idle.{Idle}
 use Rattle.vec_text.specs.declared.file.Form.{Form}
 use Rattle.vec_text.specs.declared.file.Form.TheVariants.{Reddy, Factored}
 use Rattle.vec_text.specs.declared.file.Vector.{Vector}
-use Rattle.vec_text.specs.VectorFile.{VectorFile}
+use Rattle.vec_text.specs.VectorFile.{VectorFile, IsIdle}
 
 -- the expansions of a source pass the limit first at an output
 pub record TooMany (form : Form) (s : Source) (p : Signs) (output : ℕ) : Type 0 where
@@ -45,17 +48,33 @@ pub record TooMany (form : Form) (s : Source) (p : Signs) (output : ℕ) : Type 
 abbrev pub vectors_of : Network → List Set → List Vector
 vectors_of n points = map (λ x. record { point = x; outs = out n None x }) points
 
--- the vector file of a network over these points, with these cubes
-abbrev pub file_over : Form → Network → List (List ℕ) → Signs → List EsopLine → List Set → VectorFile
-file_over form n outputs p esop points = record { form = form; inputs = n.inputs; outputs = outputs; polarity = p; esop = esop; vectors = vectors_of n points; unchanged = [] }
+-- the vector file of a network over these points, with these cubes and these undetectable faults
+abbrev pub file_over : Form → Network → List (List ℕ) → Signs → List EsopLine → List Set → List Idle → VectorFile
+file_over form n outputs p esop points unchanged = record {
+  form = form;
+  inputs = n.inputs;
+  outputs = outputs;
+  polarity = p;
+  esop = esop;
+  vectors = vectors_of n points;
+  unchanged = unchanged;
+}
 
 -- that of the Reddy network of expansions over the vectors of the cascade
 abbrev pub reddy_file : Names → Terms → VectorFile
-reddy_file names e = file_over Reddy (reddy_net names e) names.outputs e.polarity [] (cascade_tests e)
+reddy_file names e = file_over Reddy (reddy_net names e) names.outputs e.polarity [] (cascade_tests e) []
 
--- that of a factored network of cubes
-abbrev pub factored_file : Names → Signs → Cubes → Network → VectorFile
-factored_file names p cubes n = file_over Factored n names.outputs p (lines_from 0 cubes.outs) []
+-- that of a factored network of cubes, over these points
+abbrev pub factored_file : Names → Signs → Cubes → Network → List Set → List Idle → VectorFile
+factored_file names p cubes n points unchanged = file_over Factored n names.outputs p (lines_from 0 cubes.outs) points unchanged
+
+-- the tests of a network: its points, and the lines of its undetectable faults, by their names
+pub record AreTests (n : Network) (p : Signs) (points : List Set) (unchanged : List Idle) : Type 0 where
+  pub points_are : points ≡ tests_of n p
+  pub over : All (IsPoint (length n.inputs)) points
+  pub complete : IsComplete n points
+  pub undetectable : AreUndetectable n unchanged
+  pub valid : All IsIdle unchanged
 
 -- the cubes of expansions, rewritten
 pub record AreRewritten (e : Terms) (cubes : Cubes) : Type 0 where
@@ -76,9 +95,16 @@ pub record IsFactoredNet (names : Names) (cubes : Cubes) (n : Network) : Type 0 
   pub fits : Fits names cubes
   pub valid : IsValid n
   pub form : HasFactoredForm names cubes n
-  pub ports : port_names n ≡ names.outputs
+  pub names_are : HasNames names n
   pub values : ShowsEsop n cubes
   pub few_exors : exor_count n ≤ cube_count cubes
+
+-- the file is that of a factored network of cubes over its tests
+pub record IsTestedFile (names : Names) (p : Signs) (cubes : Cubes) (n : Network) (file : VectorFile) : Type 0 where
+  pub points : List Set
+  pub unchanged : List Idle
+  pub tests : AreTests n p points unchanged
+  pub is : file ≡ factored_file names p cubes n points unchanged
 
 -- what the law of a synthesis asks for of names and expansions
 pub record AreReady (names : Names) (e : Terms) : Type 0 where

@@ -15,14 +15,14 @@ ghost use Rattle.vec_text.specs.VectorFile.{vector_text};
 
 use crate::laws::{factored_synthesis_law, synthesis_law};
 use crate::made::{Made, Summary};
-use crate::vector_files::{factored_file, reddy_file};
+use crate::vector_files::{reddy_file, tested_file};
 use ae_base::Memory;
 use ae_net::{Net, NetNames, fault_count};
 use blif_write::blif_text;
 use cascade::{REDDY_TERMS, reddy};
 use esop::{Esop, exorlink, from_expansion};
 use expansion::{Expansion, pairs};
-use factor::{FACTORED_CUBES, factored};
+use factor::{FACTORED_CUBES, factored, factored_law};
 use std::alloc::Global;
 use vec_text::{Form, VecFile, vec_text};
 
@@ -104,13 +104,14 @@ fn factored_texts(alloc: Global, names: &NetNames, e: &Expansion) -> Result<Made
     ensures { IfOk result (λ made. (s : Source) → names.now ≡ names_of s → AreExpansions s e.now.polarity e.now → IsSynthesised factored_form e.now.polarity s e.now (texts_of made)) }
 {
     factored_synthesis_law();
+    factored_law();
     let esop = rewritten_cubes(alloc, e)?;
     let net = factored(alloc, names, &esop)?;
     // Opened here, since their invariants are part of the file's.
     let _ = names.outputs();
     let _ = esop.lists();
     let _ = net.inputs();
-    let file = factored_file(alloc, names, e.polarity(), &esop, &net)?;
+    let file = tested_file(alloc, names, e.polarity(), &esop, &net)?;
     let summary = summary(alloc, names, e, &net, &file)?;
     made_of(alloc, &net, &file, summary)
 }

@@ -1,5 +1,6 @@
 //! What is made of a source's expansions.
-ghost use Rattle.std.specs.Prelude.{◌≡◌};
+ghost use Rattle.std.specs.Prelude.{◌≡◌, List};
+ghost use Rattle.ae_base.specs.Mask.{Set};
 ghost use Rattle.ae_base.specs.Source.{Source};
 ghost use Rattle.ae_net.specs.Blif.{blif_text};
 ghost use Rattle.ae_base.specs.Cube.{Signs, IsSigns};
@@ -9,11 +10,12 @@ ghost use Rattle.cascade.specs.Reddy.{reddy_net};
 ghost use Rattle.esop.specs.Esop.{Cubes};
 ghost use Rattle.expansion.specs.Functions.{AreExpansions};
 ghost use Rattle.expansion.specs.Terms.{Terms};
+ghost use Rattle.vec_text.specs.declared.file.Idle.{Idle};
 ghost use Rattle.vec_text.specs.declared.file.Form.TheVariants.{Reddy, Factored};
 ghost use Rattle.vec_text.specs.VectorFile.{IsValidVectorFile, vector_text};
 ghost use Rattle.synth_core.specs.declared.made.Summary.{Summary};
 ghost use Rattle.synth_core.specs.Made.{AreNumbers, IsSynthesised, names_of};
-ghost use Rattle.synth_core.specs.Steps.{AreReady, AreRewritten, IsFactoredNet, factored_file, reddy_file};
+ghost use Rattle.synth_core.specs.Steps.{AreReady, AreRewritten, AreTests, IsFactoredNet, factored_file, reddy_file};
 
 use ae_net::{lead_law, one_run};
 use blif_read::{said_again, said_law};
@@ -46,9 +48,11 @@ pub fn synthesis_law()
 /// The same of the cubes that are rewritten from a source's expansions, and of their factored network: the file of the cubes keeps the rules
 /// of a vector file, and the texts of the network and of that file are what a synthesis makes of the source in factored form.
 pub fn factored_synthesis_law()
-    ensures valid { (names : Names) (p : Signs) (cubes : Cubes) (n : Network) → IsSigns p → p.n ≡ cubes.n → IsFactoredNet names cubes n → IsValidVectorFile (factored_file names p cubes n) }
-    ensures made { (s : Source) (e : Terms) (cubes : Cubes) (n : Network) (summary : Summary) → AreExpansions s e.polarity e → IsSigns e.polarity → AreRewritten e cubes → IsFactoredNet (names_of s) cubes n
-        → let file = factored_file (names_of s) e.polarity cubes n in
+    ensures valid { (names : Names) (p : Signs) (cubes : Cubes) (n : Network) (points : List Set) (unchanged : List Idle) → IsSigns p → p.n ≡ cubes.n → IsFactoredNet names cubes n → AreTests n p points unchanged
+        → IsValidVectorFile (factored_file names p cubes n points unchanged) }
+    ensures made { (s : Source) (e : Terms) (cubes : Cubes) (n : Network) (points : List Set) (unchanged : List Idle) (summary : Summary)
+        → AreExpansions s e.polarity e → IsSigns e.polarity → AreRewritten e cubes → IsFactoredNet (names_of s) cubes n → AreTests n e.polarity points unchanged
+        → let file = factored_file (names_of s) e.polarity cubes n points unchanged in
         AreNumbers s e n file summary
         → IsSynthesised Factored e.polarity s e (record { net_text = blif_text n; vec_text = vector_text file; summary = summary }) }
 {
@@ -56,4 +60,5 @@ pub fn factored_synthesis_law()
     said_law();
     said_again();
     expansion_law();
+    one_run();
 }

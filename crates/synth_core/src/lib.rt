@@ -5,6 +5,7 @@ mod error;
 mod fault;
 mod forms;
 mod laws;
+mod listed;
 mod made;
 mod maker;
 mod one;

@@ -1,5 +1,6 @@
 //! The vector files of networks.
 ghost use Rattle.std.specs.Prelude.{◌≡◌, ◌≤◌, ◌++◌, [], IfOk, OnOk, length, map};
+ghost use Rattle.ae_base.specs.Cube.{IsSigns};
 ghost use Rattle.ae_base.specs.declared.limits.TheConstants.{SOURCE_LINES};
 ghost use Rattle.cascade.specs.declared.limits.TheConstants.{REDDY_TERMS};
 ghost use Rattle.cascade.specs.Reddy.{reddy_net};
@@ -7,30 +8,31 @@ ghost use Rattle.cascade.specs.Shows.{Fits};
 ghost use Rattle.expansion.specs.Terms.{cost};
 ghost use Rattle.synth_core.specs.Made.{lines_from};
 ghost use Rattle.synth_core.specs.Steps as spec;
-ghost use Rattle.synth_core.specs.Steps.{AreReady, file_over, vectors_of};
+ghost use Rattle.synth_core.specs.Steps.{AreReady, IsFactoredNet, IsTestedFile, file_over, vectors_of};
 ghost use Rattle.vec_text.specs.declared.file.Form.TheVariants.{Reddy};
 ghost use Rattle.vec_text.specs.VectorFile.{IsValidVectorFile};
 
-use crate::laws::synthesis_law;
+use crate::laws::{factored_synthesis_law, synthesis_law};
+use crate::listed::{Listing, tests_of};
 use ae_base::{Cube, Memory, Name, Point, Polarity, Seq, copies};
-use ae_net::{Net, NetNames, answer, scratch_for};
+use ae_net::{Net, NetNames};
 use esop::Esop;
 use expansion::Expansion;
+use fault_sim::responses;
 use input_tests::cascade_vectors;
 use std::alloc::Global;
 use vec_text::{EsopLine, Form, VecFile, Vector};
 
 /// Each point with the network's fault-free outputs there.
-fn responses(alloc: Global, net: &Net, points: &[Point]) -> Result<Seq<Vector>, Memory>
+fn vectors(alloc: Global, net: &Net, points: &[Point]) -> Result<Seq<Vector>, Memory>
     ensures { IfOk result (λ vectors. vectors ≡ vectors_of net.now points.now) }
 {
-    let mut scratch = scratch_for(alloc, net)?;
+    let outs = responses(alloc, net, points)?;
     let mut vectors = Seq::new(alloc);
-    for point in points {
-        let outs = answer(net, None, *point, &mut scratch);
+    for (k, point) in points.iter().enumerate() {
         vectors.push(Vector {
             point: *point,
-            outs,
+            outs: outs[k],
         })?;
     }
     Ok(vectors)
@@ -44,12 +46,12 @@ fn vector_file(
     polarity: Polarity,
     points: &[Point],
 ) -> Result<VecFile, Memory>
-    requires { IsValidVectorFile (file_over Reddy net.now outputs.now polarity [] points.now) }
-    ensures { IfOk result (λ file. file ≡ file_over Reddy net.now outputs.now polarity [] points.now) }
+    requires { IsValidVectorFile (file_over Reddy net.now outputs.now polarity [] points.now []) }
+    ensures { IfOk result (λ file. file ≡ file_over Reddy net.now outputs.now polarity [] points.now []) }
 {
     let inputs = copies(alloc, net.inputs())?;
     let outputs = copies(alloc, outputs)?;
-    let vectors = responses(alloc, net, points)?;
+    let vectors = vectors(alloc, net, points)?;
     Ok(VecFile {
         form: Form::Reddy,
         inputs,
@@ -106,28 +108,48 @@ fn esop_lines(alloc: Global, esop: &Esop) -> Result<Seq<EsopLine>, Memory>
     Ok(lines)
 }
 
-/// The vector file of a factored network of cubes. It has no vectors yet.
-pub fn factored_file(
+/// The vector file of a factored network of cubes over its tests.
+fn factored_file(
     alloc: Global,
     names: &NetNames,
     polarity: Polarity,
     esop: &Esop,
     net: &Net,
+    tests: Listing,
 ) -> Result<VecFile, Memory>
-    requires valid { IsValidVectorFile (spec.factored_file names.now polarity esop.now net.now) }
+    requires valid { IsValidVectorFile (spec.factored_file names.now polarity esop.now net.now tests.points tests.unchanged) }
     requires few { length esop.now.outs ≤ SOURCE_LINES }
-    ensures { IfOk result (λ file. file ≡ spec.factored_file names.now polarity esop.now net.now) }
+    ensures { IfOk result (λ file. file ≡ spec.factored_file names.now polarity esop.now net.now tests.points tests.unchanged) }
 {
     let inputs = copies(alloc, net.inputs())?;
     let outputs = copies(alloc, names.outputs())?;
     let esop = esop_lines(alloc, esop)?;
+    let vectors = vectors(alloc, net, tests.points.as_slice())?;
     Ok(VecFile {
         form: Form::Factored,
         inputs,
         outputs,
         polarity,
         esop,
-        vectors: Seq::new(alloc),
-        unchanged: Seq::new(alloc),
+        vectors,
+        unchanged: tests.unchanged,
     })
+}
+
+/// The vector file of a factored network of cubes over its tests at a polarity.
+pub fn tested_file(
+    alloc: Global,
+    names: &NetNames,
+    polarity: Polarity,
+    esop: &Esop,
+    net: &Net,
+) -> Result<VecFile, Memory>
+    requires net { IsFactoredNet names.now esop.now net.now }
+    requires signs { IsSigns polarity }
+    requires inputs { polarity.n ≡ esop.now.n }
+    ensures { IfOk result (IsTestedFile names.now polarity esop.now net.now) }
+{
+    factored_synthesis_law();
+    let tests = tests_of(alloc, polarity, net)?;
+    factored_file(alloc, names, polarity, esop, net, tests)
 }

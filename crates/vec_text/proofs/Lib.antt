@@ -1,8 +1,10 @@
+pub mod Examples
 pub mod Found
 pub mod Places
 pub mod Said
 pub mod Reading
 pub mod Soundness
+pub mod States
 pub mod Steps
 pub mod WordLists
 pub mod Written

@@ -25,13 +25,14 @@ use Rattle.vec_text.specs.declared.file.EsopLine.{EsopLine}
 use Rattle.vec_text.specs.declared.file.Idle.{Idle}
 use Rattle.vec_text.specs.declared.file.PlaceName.TheVariants.{Stem, Port}
 use Rattle.vec_text.specs.declared.file.Shown.TheVariants.{Tree, Wide}
-use Rattle.vec_text.specs.VectorFile.{VectorFile, IsValidVectorFile, IsCubeOf, IsIdle, inputs_over, is_place, is_shown}
+use Rattle.vec_text.specs.VectorFile.{IsValidVectorFile, IsCubeOf, IsIdle, inputs_over, is_place, is_shown}
 use Rattle.vec_text.specs.Words.{Word, word, heads, are_names, has_twins, share, is_among, is_count, are_bits, ones, is_cube, cube_said, is_polarity, is_vector, vector_said, esop_said, is_site, is_pin, is_named, is_numbered, is_placed, site, place_said, is_tree, is_step, tree_at, shown_said, step_said, idle_said, value, value_at, is_value}
 use Rattle.vec_text.specs.Says.{Seen, seen, faults, is_reddy, is_factored, has_front, file_of, inputs_of, outputs_of}
 use Rattle.vec_text.specs.Step.{with_line}
 use Rattle.vec_text.specs.Sound.{AreLabels, sound_by, IsSound}
 use Rattle.vec_text.proofs.Found.{none_first}
 use Rattle.vec_text.proofs.Places.{apart, among}
+use Rattle.vec_text.proofs.States.{at, file}
 use Rattle.vec_text.proofs.Steps.{other}
 
 -- ---- names
@@ -142,9 +143,6 @@ shown_is w h = by_wide (bytes_eq w (codes "wide")) h
 
 -- ---- one more line
 
-abbrev at : Option Form → Option (List Word) → Option (List Word) → Option Signs → List EsopLine → List Vector → List Idle → Seen
-at f i o p es vs us = record { form = f; inputs = i; outputs = o; polarity = p; esop = es; vectors = vs; unchanged = us }
-
 -- what is claimed of one more line
 abbrev Keeps : Option Form → Option (List Word) → Option (List Word) → Option Signs → List EsopLine → List Vector → List Idle → List Word → Type 0
 Keeps f i o p es vs us line = first_of (faults (at f i o p es vs us) line) ≡ None → sound_by f i o p es vs us → IsSound (with_line (at f i o p es vs us) line)
@@ -248,9 +246,6 @@ by_front C whole None i o p h = absurd (false≢true h)
 by_front C whole (Some f) None o p h = absurd (false≢true h)
 by_front C whole (Some f) (Some i) None p h = absurd (false≢true h)
 by_front C whole (Some f) (Some i) (Some o) None h = absurd (false≢true h)
-
-abbrev file : Form → List Word → List Word → Signs → List EsopLine → List Vector → List Idle → VectorFile
-file form i o p es vs us = record { form = form; inputs = i; outputs = o; polarity = p; esop = es; vectors = vs; unchanged = us }
 
 -- a file of factored form is of no other
 not_reddy : (form : Form) → is_factored (Some form) ≡ true → form ≡ Reddy → ⊥

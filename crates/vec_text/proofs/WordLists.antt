@@ -1,5 +1,5 @@
 -- Words as slices.
-use Rattle.std.proofs.Common.{◌≡◌, ℕ, ◌+◌, ◌-◌, ◌<◌, ◌≤◌, Bool, true, ◌||◌, ◌&&◌, leb, List, [], ◌∷◌, length, get_or, take, drop, refl, sym, ap, ◌∙◌, arith}
+use Rattle.std.proofs.Common.{◌≡◌, ℕ, ◌+◌, ◌-◌, ◌<◌, ◌≤◌, Bool, true, false, ◌||◌, ◌&&◌, leb, List, [], ◌∷◌, length, get_or, take, drop, refl, sym, ap, ◌∙◌, arith}
 use Rattle.std.specs.Borrow.{Bor}
 use Rattle.std.specs.List.{list_any, list_all}
 use Rattle.std.specs.Str.{bytes_eq}
@@ -9,7 +9,7 @@ use Rattle.std.proofs.lemmas.List.Sums.{AllPass-from_list_all}
 use Rattle.ae_base.specs.declared.limits.TheConstants.{WRITTEN_LINES}
 use Rattle.ae_base.specs.Name.{is_name}
 use Rattle.ae_lex.specs.Slices.{texts}
-use Rattle.vec_text.specs.Words.{Word, word, is_among, has_twins, are_names, site, value_at, tree_at}
+use Rattle.vec_text.specs.Words.{Word, word, is_among, has_twins, share, are_names, site, value_at, tree_at}
 
 -- a test of the texts is a test of the words
 pub any_texts : (p : Word → Bool) (words : List (Bor (List ℕ))) → list_any p (texts words) ≡ list_any (λ w. p w.now) words
@@ -18,6 +18,11 @@ any_texts p (w ∷ words) = ap (λ b. p w.now || b) (any_texts p words)
 
 pub among_texts : (word : Word) (words : List (Bor (List ℕ))) → is_among word (texts words) ≡ list_any (λ other. bytes_eq word other.now) words
 among_texts word words = any_texts (bytes_eq word) words
+
+-- no word is one of no names
+pub share_nothing : (words : List Word) → share [] words ≡ false
+share_nothing [] = refl
+share_nothing (w ∷ words) = share_nothing words
 
 -- each of words that are names is one
 pub name_at : (words : List (Bor (List ℕ))) (k : ℕ) (d : Bor (List ℕ)) → are_names (texts words) ≡ true → k < length words → is_name (get_or words k d).now ≡ true

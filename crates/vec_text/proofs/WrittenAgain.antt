@@ -1,5 +1,5 @@
 -- The text of a valid file says the file again.
-use Rattle.std.proofs.Common.{◌≡◌, ◌≢◌, ℕ, suc, ◌+◌, ◌-◌, ◌<◌, ◌≤◌, Bool, true, false, not, cond, ◌&&◌, eqb, List, [], ◌∷◌, ◌++◌, length, map, codes, Option, Some, None, Ok, All, refl, sym, ap, ap₂, subst, ◌∙◌, append_assoc, append-nil, arith}
+use Rattle.std.proofs.Common.{◌≡◌, ◌≢◌, ℕ, suc, ◌+◌, ◌-◌, ◌<◌, ◌≤◌, Bool, true, false, not, cond, ◌&&◌, eqb, List, [], ◌∷◌, ◌++◌, length, map, codes, Some, None, Ok, All, refl, sym, ap, ap₂, subst, ◌∙◌, append_assoc, append-nil, arith}
 use Rattle.std.specs.List.{AllByRecursion}
 use Rattle.std.specs.Fmt.{decimal}
 use Rattle.std.proofs.lemmas.Bool.{ne_eqb, lt-ltb}
@@ -25,6 +25,7 @@ use Rattle.vec_text.specs.VectorFile.{VectorFile, IsValidVectorFile, IsCubeOf, I
 use Rattle.vec_text.specs.Words.{Word, is_end, are_names, has_twins, share, is_count, is_polarity, polarity_said, esop_said, vector_said, are_bits, value}
 use Rattle.vec_text.specs.Says.{Seen, seen, faults, is_reddy, has_front, at_line, file_of, judged, lines_say, vec_says}
 use Rattle.vec_text.specs.Step.{with_line}
+use Rattle.vec_text.proofs.States.{at, file}
 use Rattle.vec_text.proofs.Steps.{seen_push}
 use Rattle.vec_text.proofs.Reading.{says_more, says_end}
 use Rattle.vec_text.proofs.WrittenWords.{form_is, form_back, names_are, not_among, no_twins, bits_are, bits_back, length-bits, cube_is, cube_back, count_is, value_back}
@@ -48,9 +49,6 @@ goes_end last s front = λ n done e.
     ∙ ap (λ (b : Bool). judged (at_line n (first_of ((not b, OutOfOrder) ∷ []))) (file_of s)) front
 
 -- ---- the lines that each file has one of
-
-abbrev at : Option Form → Option (List Word) → Option (List Word) → Option Signs → List EsopLine → List Vector → List Idle → Seen
-at f i o p es vs us = record { form = f; inputs = i; outputs = o; polarity = p; esop = es; vectors = vs; unchanged = us }
 
 goes_form : (last : ℕ) (file : VectorFile) (form : Form) (lines : List (List Word)) → Goes last file (at (Some form) None None None [] [] []) lines → Goes last file (at None None None None [] [] []) (form_line form ∷ lines)
 unfolding faults with_line
@@ -140,25 +138,22 @@ goes_unchanged last file i o p es vs before (u ∷ us) lines h rest =
 abbrev end_lines : List (List Word)
 end_lines = (codes "end" ∷ []) ∷ []
 
-abbrev made : Form → List Word → List Word → Signs → List EsopLine → List Vector → List Idle → VectorFile
-made form i o p es vs us = record { form = form; inputs = i; outputs = o; polarity = p; esop = es; vectors = vs; unchanged = us }
-
-goes_ended : (last : ℕ) (form : Form) (i o : List Word) (p : Signs) (es : List EsopLine) (vs : List Vector) (us : List Idle) → Goes last (made form i o p es vs us) (at (Some form) (Some i) (Some o) (Some p) es vs us) end_lines
+goes_ended : (last : ℕ) (form : Form) (i o : List Word) (p : Signs) (es : List EsopLine) (vs : List Vector) (us : List Idle) → Goes last (file form i o p es vs us) (at (Some form) (Some i) (Some o) (Some p) es vs us) end_lines
 unfolding file_of
 goes_ended last form i o p es vs us = goes_end last (at (Some form) (Some i) (Some o) (Some p) es vs us) refl
 
-vectors_of : (form : Form) (i o : List Word) (p : Signs) (es : List EsopLine) (vs : List Vector) (us : List Idle) → IsValidVectorFile (made form i o p es vs us) → AllByRecursion (IsVectorOf (length i) (length o)) vs
+vectors_of : (form : Form) (i o : List Word) (p : Signs) (es : List EsopLine) (vs : List Vector) (us : List Idle) → IsValidVectorFile (file form i o p es vs us) → AllByRecursion (IsVectorOf (length i) (length o)) vs
 vectors_of form i o p es vs us v = recursion_from_All (IsVectorOf (length i) (length o)) vs (λ k d lt. record { point = v.points k d lt; outs = v.responses k d lt })
 
 -- after the front the other lines say the file
-goes_body : (last : ℕ) (form : Form) (i o : List Word) (p : Signs) (es : List EsopLine) (vs : List Vector) (us : List Idle) → IsValidVectorFile (made form i o p es vs us)
-    → Goes last (made form i o p es vs us) (at (Some form) (Some i) (Some o) (Some p) [] [] []) (body_lines (made form i o p es vs us))
+goes_body : (last : ℕ) (form : Form) (i o : List Word) (p : Signs) (es : List EsopLine) (vs : List Vector) (us : List Idle) → IsValidVectorFile (file form i o p es vs us)
+    → Goes last (file form i o p es vs us) (at (Some form) (Some i) (Some o) (Some p) [] [] []) (body_lines (file form i o p es vs us))
 goes_body last Factored i o p es vs us v =
-    let file = made Factored i o p es vs us in
-    goes_esop last file i o p [] es (vector_lines file ++ (unchanged_lines file ++ end_lines)) v.few_outputs (recursion_from_All (IsCubeOf (length i) (length o)) es v.esop)
-    (goes_vectors last file Factored i o p es [] vs (unchanged_lines file ++ end_lines) (vectors_of Factored i o p es vs us v)
-    (goes_unchanged last file i o p es vs [] us end_lines (recursion_from_All IsIdle us v.unchanged) (goes_ended last Factored i o p es vs us)))
-goes_body last Reddy i o p [] vs [] v = goes_vectors last (made Reddy i o p [] vs []) Reddy i o p [] [] vs end_lines (vectors_of Reddy i o p [] vs [] v) (goes_ended last Reddy i o p [] vs [])
+    let all = file Factored i o p es vs us in
+    goes_esop last all i o p [] es (vector_lines all ++ (unchanged_lines all ++ end_lines)) v.few_outputs (recursion_from_All (IsCubeOf (length i) (length o)) es v.esop)
+    (goes_vectors last all Factored i o p es [] vs (unchanged_lines all ++ end_lines) (vectors_of Factored i o p es vs us v)
+    (goes_unchanged last all i o p es vs [] us end_lines (recursion_from_All IsIdle us v.unchanged) (goes_ended last Factored i o p es vs us)))
+goes_body last Reddy i o p [] vs [] v = goes_vectors last (file Reddy i o p [] vs []) Reddy i o p [] [] vs end_lines (vectors_of Reddy i o p [] vs [] v) (goes_ended last Reddy i o p [] vs [])
 goes_body last Reddy i o p [] vs (u ∷ us) v = absurd (let none = (v.reddy refl).1 in cc)
 goes_body last Reddy i o p (e ∷ es) vs us v = absurd (let none = (v.reddy refl).0 in cc)
 
@@ -173,18 +168,18 @@ share_none i [] h = refl
 share_none i (y ∷ o) h = rw (not_among y i (each_weaker (λ x. AllByRecursion (λ z. x ≢ z) (y ∷ o)) (λ x. y ≢ x) (λ x k e. k.0 (sym e)) i h)) (share_none i o (each_weaker (λ x. AllByRecursion (λ z. x ≢ z) (y ∷ o)) (λ x. AllByRecursion (λ z. x ≢ z) o) (λ x k. k.1) i h))
 
 -- all lines after the head say the file
-goes_all : (last : ℕ) (form : Form) (i o : List Word) (p : Signs) (es : List EsopLine) (vs : List Vector) (us : List Idle) → IsValidVectorFile (made form i o p es vs us)
-    → Goes last (made form i o p es vs us) (at None None None None [] [] []) (form_line form ∷ (codes "inputs" ∷ i) ∷ (codes "outputs" ∷ o) ∷ polarity_line p ∷ body_lines (made form i o p es vs us))
+goes_all : (last : ℕ) (form : Form) (i o : List Word) (p : Signs) (es : List EsopLine) (vs : List Vector) (us : List Idle) → IsValidVectorFile (file form i o p es vs us)
+    → Goes last (file form i o p es vs us) (at None None None None [] [] []) (form_line form ∷ (codes "inputs" ∷ i) ∷ (codes "outputs" ∷ o) ∷ polarity_line p ∷ body_lines (file form i o p es vs us))
 goes_all last form i o p es vs us v =
-    let file = made form i o p es vs us in
-    let body = body_lines file in
+    let all = file form i o p es vs us in
+    let body = body_lines all in
     let names = each_front (λ name. is_name name ≡ true) i o (recursion_from_All (λ name. is_name name ≡ true) (i ++ o) v.named) in
     let apart = Distinct-parts i o (Distinct-from_AllPairs (i ++ o) v.distinct) in
     let named : (ws : List Word) → AllByRecursion (λ name. is_name name ≡ true) ws → 1 ≤ length ws → length ws ≤ WRITTEN_LINES → are_names ws ≡ true = λ ws h. names_are ws (All-from_recursion (λ name. is_name name ≡ true) ws h) in
-    goes_form last file form ((codes "inputs" ∷ i) ∷ (codes "outputs" ∷ o) ∷ polarity_line p ∷ body)
-    (goes_inputs last file form i ((codes "outputs" ∷ o) ∷ polarity_line p ∷ body) (named i names.0 (some_inputs file v) v.few_inputs) (not_alone form (length i) p.n v.some_input v.polarity) (no_twins i apart.0)
-    (goes_outputs last file form i o (polarity_line p ∷ body) (named o names.1 v.some_output v.few_outputs) (no_twins o apart.1) (share_none i o apart.2)
-    (goes_polarity last file form i o p body v.signs v.polarity (goes_body last form i o p es vs us v))))
+    goes_form last all form ((codes "inputs" ∷ i) ∷ (codes "outputs" ∷ o) ∷ polarity_line p ∷ body)
+    (goes_inputs last all form i ((codes "outputs" ∷ o) ∷ polarity_line p ∷ body) (named i names.0 (some_inputs all v) v.few_inputs) (not_alone form (length i) p.n v.some_input v.polarity) (no_twins i apart.0)
+    (goes_outputs last all form i o (polarity_line p ∷ body) (named o names.1 v.some_output v.few_outputs) (no_twins o apart.1) (share_none i o apart.2)
+    (goes_polarity last all form i o p body v.signs v.polarity (goes_body last form i o p es vs us v))))
 
 -- a text that is written line by line is read line by line
 abbrev pub ReadsLines : Type 0

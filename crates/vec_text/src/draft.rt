@@ -149,12 +149,14 @@ impl Draft {
         Ok(())
     }
 
-    fn is_input(&self, words: &[&[u8]]) -> bool
+    /// Whether some word is the name of an input.
+    #[tactic(auto, using(crate::proofs::WordLists::share_nothing))]
+    fn has_input(&self, words: &[&[u8]]) -> bool
         ensures { result ≡ share (spec.inputs_of self.now) (texts words.now) }
     {
         match &self.inputs {
             Some(names) => share(names.as_slice(), words),
-            None => share(&[], words),
+            None => false,
         }
     }
 
@@ -168,7 +170,7 @@ impl Draft {
         if !are_names(words) {
             return Err(LineErr::Fault(VecFault::BadNames));
         }
-        if has_twins(words) || self.is_input(words) {
+        if has_twins(words) || self.has_input(words) {
             return Err(LineErr::Fault(VecFault::NameTwice));
         }
         self.outputs = Some(names_of(alloc, words)?);

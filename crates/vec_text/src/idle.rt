@@ -66,7 +66,8 @@ fn read_place(alloc: Global, words: &[&[u8]]) -> Result<PlaceName, LineErr<VecFa
     }
 }
 
-fn shown(alloc: Global, word: &[u8]) -> Result<Shown, LineErr<VecFault>>
+/// What a file shows of an undetectable fault.
+fn read_evidence(alloc: Global, word: &[u8]) -> Result<Shown, LineErr<VecFault>>
     ensures { Finds ((not (spec.is_tree word.now), fault.BadEvidence) ∷ []) (spec.shown_said word.now) result }
 {
     match read_shown(alloc, word)? {
@@ -87,7 +88,7 @@ pub fn read_idle(alloc: Global, words: &[&[u8]]) -> Result<Idle, LineErr<VecFaul
         return Err(LineErr::Fault(VecFault::BadPlace));
     };
     let place = read_place(alloc, site)?;
-    let shown = shown(alloc, tree)?;
+    let shown = read_evidence(alloc, tree)?;
     Ok(Idle {
         place,
         value,

@@ -1,6 +1,7 @@
 //! Reads a vector text.
 ghost use Rattle.std.specs.Prelude.{◌≡◌, ◌≤◌, not, [], ◌∷◌, length, false};
 ghost use Rattle.ae_lex.specs.First.{first_of};
+ghost use Rattle.vec_text.specs.declared.fault.VecErr.TheVariants as errors;
 ghost use Rattle.vec_text.specs.declared.fault.VecFault.TheVariants as fault;
 ghost use Rattle.vec_text.specs.Says as spec;
 ghost use Rattle.vec_text.specs.Sound.{IsSound};
@@ -16,6 +17,13 @@ use ae_base::TEXT_BYTES;
 use ae_lex::{LineErr, Style, WordLine, WordLines, word_lines};
 use std::alloc::Global;
 
+/// The refusal of a line.
+fn fault_at(line: u32, what: VecFault) -> VecErr
+    ensures { result ≡ errors.At line what }
+{
+    VecErr::At { line, what }
+}
+
 /// Reads one more line, which is no `end`.
 fn read_line(alloc: Global, line: &WordLine<'_>, draft: &mut Draft) -> Result<(), VecErr>
     requires { is_end line.now.words ≡ false }
@@ -24,10 +32,7 @@ fn read_line(alloc: Global, line: &WordLine<'_>, draft: &mut Draft) -> Result<()
     match draft.read(alloc, line.words()) {
         Ok(()) => Ok(()),
         Err(LineErr::Memory) => Err(VecErr::Memory),
-        Err(LineErr::Fault(what)) => Err(VecErr::At {
-            line: line.number(),
-            what,
-        }),
+        Err(LineErr::Fault(what)) => Err(fault_at(line.number(), what)),
     }
 }
 
@@ -49,10 +54,7 @@ fn finish(draft: Draft, number: u32) -> Result<VecFile, VecErr>
     let (Some(form), Some(inputs), Some(outputs), Some(polarity)) = (
         form, inputs, outputs, polarity,
     ) else {
-        return Err(VecErr::At {
-            line: number,
-            what: VecFault::OutOfOrder,
-        });
+        return Err(fault_at(number, VecFault::OutOfOrder));
     };
     Ok(VecFile {
         form,
@@ -66,6 +68,7 @@ fn finish(draft: Draft, number: u32) -> Result<VecFile, VecErr>
 }
 
 /// The file that the lines after the head say, in a text whose last line has this number.
+#[tactic(auto, using(crate::proofs::Reading::at_last))]
 fn read_lines(alloc: Global, lines: &[WordLine<'_>], last: u32) -> Result<VecFile, VecErr>
     ensures { Gives (spec.lines_say last [] lines.now) result }
 {
@@ -76,10 +79,7 @@ fn read_lines(alloc: Global, lines: &[WordLine<'_>], last: u32) -> Result<VecFil
         }
         read_line(alloc, line, &mut draft)?;
     }
-    Err(VecErr::At {
-        line: last,
-        what: VecFault::NoEnd,
-    })
+    Err(fault_at(last, VecFault::NoEnd))
 }
 
 /// The file that the lines of a text say, the last of which has this number.
@@ -87,18 +87,12 @@ fn read_text(alloc: Global, lines: &[WordLine<'_>], last: u32) -> Result<VecFile
     ensures { Gives (spec.text_says last lines.now) result }
 {
     match lines {
-        [] => Err(VecErr::At {
-            line: last,
-            what: VecFault::NoHead,
-        }),
+        [] => Err(fault_at(last, VecFault::NoHead)),
         [head, others @ ..] => {
             if is_head(head.words()) {
                 read_lines(alloc, others, last)
             } else {
-                Err(VecErr::At {
-                    line: head.number(),
-                    what: VecFault::NoHead,
-                })
+                Err(fault_at(head.number(), VecFault::NoHead))
             }
         }
     }

@@ -6,9 +6,7 @@ ghost use Rattle.ae_base.specs.Text.{text_of, cube_text};
 ghost use Rattle.vec_text.specs.VectorFile as spec;
 
 use crate::file::{EsopLine, Form, Idle, PlaceName, Shown, Step, VecFile, Vector};
-use ae_base::{
-    Cube, Memory, Name, PINS, Polarity, WRITTEN_LINES, push_bits, push_names, push_word,
-};
+use ae_base::{Cube, Memory, Name, Polarity, WRITTEN_LINES, push_bits, push_names, push_word};
 use std::alloc::Global;
 
 /// Writes a blank and a number.

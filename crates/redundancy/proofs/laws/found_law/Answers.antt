@@ -1,4 +1,4 @@
-use Rattle.redundancy.proofs.Visited.{only_found, tells}
+use Rattle.redundancy.proofs.Visited.{only_found, tells, too_wide}
 use Rattle.redundancy.proofs.laws.found_law.Goals as goal
 
 pub returns-clause-only : goal.returns-clause-only
@@ -6,3 +6,6 @@ returns-clause-only c = λ n fault f g valid. only_found n fault valid f g
 
 pub returns-clause-tells : goal.returns-clause-tells
 returns-clause-tells c = λ n fault f valid. tells n fault valid (λ h x. c.one_run.ensures.one n h x valid) f
+
+pub returns-clause-wide : goal.returns-clause-wide
+returns-clause-wide c = λ n fault t valid. too_wide n fault valid t

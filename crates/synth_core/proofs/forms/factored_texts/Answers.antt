@@ -8,7 +8,7 @@ use Rattle.factor.specs.Shows.{cube_count}
 use Rattle.vec_text.specs.declared.file.Form.TheVariants.{Factored}
 use Rattle.vec_text.specs.VectorFile.{VectorFile, vector_text}
 use Rattle.synth_core.specs.Made.{AreNumbers, IsSynthesised, Texts, names_of, texts_of}
-use Rattle.synth_core.specs.Steps.{IsFactoredNet, factored_file}
+use Rattle.synth_core.specs.Steps.{AreTests, IsFactoredNet}
 use Rattle.synth_core.proofs.Factored.{made_factored}
 use Rattle.synth_core.proofs.Lines.{cubes_fit}
 use Rattle.synth_core.proofs.forms.factored_texts.Goals as goal
@@ -29,7 +29,13 @@ is_net c = record {
   fits = cubes_fit c.args.names.now c.args.e.now c.in_ok-esop.esop c.requires.fits (c.in_ok-esop.ensures);
   valid = c.inputs.ensures.valid;
   form = c.in_ok-net.ensures.form;
-  ports = c.in_ok-net.ensures.ports;
+  names_are = c.factored_law.ensures.names c.args.names.now c.in_ok-esop.esop c.in_ok-net.net (record {
+    named = c.outputs.ensures.valid;
+    cubes = c.lists.ensures.valid;
+    fits = cubes_fit c.args.names.now c.args.e.now c.in_ok-esop.esop c.requires.fits (c.in_ok-esop.ensures);
+    few = omega (arith, (c.in_ok-esop.ensures).few, c.requires.cheap);
+    settled = (c.in_ok-esop.ensures).settled;
+  }) c.in_ok-net.ensures.form;
   values = c.in_ok-net.ensures.values;
   few_exors = c.in_ok-net.ensures.few_exors;
 }
@@ -41,19 +47,25 @@ net_of c = record {
   fits = cubes_fit c.args.names.now c.args.e.now c.in_ok-esop.esop c.requires.fits (c.in_ok-esop.ensures);
   valid = c.inputs.ensures.valid;
   form = c.in_ok-net.ensures.form;
-  ports = c.in_ok-net.ensures.ports;
+  names_are = c.factored_law.ensures.names c.args.names.now c.in_ok-esop.esop c.in_ok-net.net (record {
+    named = c.outputs.ensures.valid;
+    cubes = c.lists.ensures.valid;
+    fits = cubes_fit c.args.names.now c.args.e.now c.in_ok-esop.esop c.requires.fits (c.in_ok-esop.ensures);
+    few = omega (arith, (c.in_ok-esop.ensures).few, c.requires.cheap);
+    settled = (c.in_ok-esop.ensures).settled;
+  }) c.in_ok-net.ensures.form;
   values = c.in_ok-net.ensures.values;
   few_exors = c.in_ok-net.ensures.few_exors;
 }
 
-pub factored_file-requires-clause-valid : goal.factored_file-requires-clause-valid
-factored_file-requires-clause-valid c =
-    c.factored_synthesis_law.ensures.valid c.args.names.now c.polarity.result c.in_ok-esop.esop c.in_ok-net.net
-    (subst IsSigns (sym c.polarity.ensures.polarity) c.polarity.ensures.valid.signs)
-    (ap (λ p. p.n) c.polarity.ensures.polarity ∙ sym ((c.in_ok-esop.ensures).inputs)) (is_net c)
+pub tested_file-requires-clause-net : goal.tested_file-requires-clause-net
+tested_file-requires-clause-net c = is_net c
 
-pub factored_file-requires-clause-few : goal.factored_file-requires-clause-few
-factored_file-requires-clause-few c = omega (arith, (is_net c).fits.outputs, (is_net c).named.few_outputs)
+pub tested_file-requires-clause-signs : goal.tested_file-requires-clause-signs
+tested_file-requires-clause-signs c = subst IsSigns (sym c.polarity.ensures.polarity) c.polarity.ensures.valid.signs
+
+pub tested_file-requires-clause-inputs : goal.tested_file-requires-clause-inputs
+tested_file-requires-clause-inputs c = ap (λ p. p.n) c.polarity.ensures.polarity ∙ sym ((c.in_ok-esop.ensures).inputs)
 
 pub returns : goal.returns
 returns c =
@@ -63,7 +75,8 @@ returns c =
     IfOk-weaker c.made_of.result (λ made. texts_of made ≡ record { net_text = blif_text c.in_ok-net.net; vec_text = vector_text c.in_ok-file.file; summary = x })
     (λ made. (s : Source) → names ≡ names_of s → AreExpansions s e.polarity e → IsSynthesised Factored e.polarity s e (texts_of made))
     (λ made is s named are.
-    made_factored names s e c.in_ok-esop.esop c.in_ok-net.net c.polarity.result c.in_ok-file.file x (texts_of made) c.polarity.ensures.polarity named (c.in_ok-file.ensures) is
+    made_factored names s e c.in_ok-esop.esop c.in_ok-net.net (c.in_ok-file.ensures).points (c.in_ok-file.ensures).unchanged c.polarity.result c.in_ok-file.file x (texts_of made) c.polarity.ensures.polarity named (c.in_ok-file.ensures).is is
     (c.in_ok-summary.ensures s named)
-    (λ numbers. c.factored_synthesis_law.ensures.made s e c.in_ok-esop.esop c.in_ok-net.net x are c.polarity.ensures.valid.signs (c.in_ok-esop.ensures)
-    (subst (λ m. IsFactoredNet m c.in_ok-esop.esop c.in_ok-net.net) named (net_of c)) numbers)) c.made_of.ensures
+    (λ numbers. c.factored_synthesis_law.ensures.made s e c.in_ok-esop.esop c.in_ok-net.net (c.in_ok-file.ensures).points (c.in_ok-file.ensures).unchanged x are c.polarity.ensures.valid.signs (c.in_ok-esop.ensures)
+    (subst (λ m. IsFactoredNet m c.in_ok-esop.esop c.in_ok-net.net) named (net_of c))
+    (subst (λ p. AreTests c.in_ok-net.net p (c.in_ok-file.ensures).points (c.in_ok-file.ensures).unchanged) c.polarity.ensures.polarity (c.in_ok-file.ensures).tests) numbers)) c.made_of.ensures

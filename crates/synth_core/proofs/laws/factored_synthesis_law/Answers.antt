@@ -7,10 +7,10 @@ use Rattle.synth_core.proofs.Factored.{is_factored}
 use Rattle.synth_core.proofs.laws.factored_synthesis_law.Goals as goal
 
 pub returns-clause-valid : goal.returns-clause-valid
-returns-clause-valid c names p cubes n signs same is = is_valid_factored names p cubes n signs same is
+returns-clause-valid c names p cubes n points unchanged signs same is tests = is_valid_factored names p cubes n points unchanged signs same is tests
 
 pub returns-clause-made : goal.returns-clause-made
-returns-clause-made c s e cubes n summary are signs rewritten net numbers =
+returns-clause-made c s e cubes n points unchanged summary are signs rewritten net tests numbers =
     let keeps = c.said_law.ensures.written n net.valid (factored_inputs (names_of s) cubes n net) (factored_outputs (names_of s) cubes n net) in
-    is_factored s e are cubes n rewritten net c.expansion_law.ensures.meaning
-    (is_valid_factored (names_of s) e.polarity cubes n signs (sym rewritten.inputs) net) (c.said_again.ensures n net.valid keeps) c.lead_law.ensures.least summary numbers
+    is_factored s e are cubes n points unchanged rewritten net tests c.expansion_law.ensures.meaning
+    (is_valid_factored (names_of s) e.polarity cubes n points unchanged signs (sym rewritten.inputs) net tests) (c.said_again.ensures n net.valid keeps) c.one_run.ensures.shows c.lead_law.ensures.least summary numbers

@@ -5,7 +5,7 @@ use Rattle.vec_text.specs.declared.fault.VecFault.TheVariants.{OutOfOrder}
 use Rattle.vec_text.specs.Reads.{Gives}
 use Rattle.vec_text.specs.Says.{at_line, file_of, has_front, judged}
 use Rattle.vec_text.specs.Words.{is_end}
-use Rattle.vec_text.proofs.Reading.{at_start, at_more, at_fault, at_end, at_last}
+use Rattle.vec_text.proofs.Reading.{at_start, at_more, at_fault, at_end}
 use Rattle.vec_text.proofs.read.read_lines.Goals as goal
 
 pub loop-line-init : goal.loop-line-init
@@ -30,6 +30,3 @@ returns-in_err-read_line c =
     let p = err_from_is_err_and c.from_residual.result c.from_residual.ensures.1 in
     rw (p.1, p.2)
     (at_fault c.args.last c.args.lines.now c.loop-line.line-index c.loop-line.draft c.line-item.result _ c.loop-line.invariant c.loop-line-test.true (sym c.line-item.is) c.in_err-read_line.ensures)
-
-pub returns : goal.returns
-returns c = at_last c.args.last c.args.lines.now c.loop-line.line-index c.loop-line.draft c.loop-line.invariant c.loop-line-test.false

@@ -1,0 +1,267 @@
+-- The factored network is valid, shows the values of its ESOP, and has the names of the source.
+use Rattle.std.proofs.Common.{◌≡◌, ◌≢◌, ℕ, zero, suc, ◌+◌, ◌-◌, ◌*◌, ◌<◌, ◌≤◌, ◌^◌, Bool, true, false, not, ◌&&◌, cond, inl, inr, List, [], ◌∷◌, ◌++◌, length, get_or, map, refl, sym, ap, ap₂, ◌∙◌, subst, arith, length-append, eqb}
+use Rattle.std.specs.Prelude.{Some, None, All, AllPairs, codes, filter, slice_get, slice_index, sum_by}
+use Rattle.std.specs.List.{list_any, AllByRecursion, range_with_len}
+use Rattle.std.specs.Fmt.{decimal}
+use Rattle.std.proofs.lemmas.Bool.{lt-ltb, or_left, or_right}
+use Rattle.std.proofs.lemmas.List.{length-map, get_or-map, ext_get_or}
+use Rattle.std.proofs.lemmas.List.Elements.{All-from_recursion, recursion_from_All}
+use Rattle.std.proofs.lemmas.List.FromFn.{length-range_with_len}
+use Rattle.std.proofs.lemmas.List.Sums.{sum_by-cons}
+use Rattle.std.proofs.lemmas.Option.{slice_get_within, slice_get-get_or}
+use Rattle.ae_base.specs.Cube.{Product, IsOver, distance}
+use Rattle.ae_base.specs.Mask.{Set, has, len, either, xor}
+use Rattle.ae_base.specs.Name.{is_name}
+use Rattle.ae_base.specs.declared.limits.TheConstants.{NET_LINES, SOURCE_NAME_BYTES}
+use Rattle.ae_base.proofs.Distinct.{Distinct, Distinct-from_AllPairs, AllPairs-from_Distinct, each_front, each_weaker}
+use Rattle.ae_base.proofs.Elements.{length_filter_le, range_below}
+use Rattle.ae_base.proofs.Members.{len-none}
+use Rattle.ae_base.proofs.Sets.{has-either, has-xor, has-where_below}
+use Rattle.ae_base.proofs.Truth.{differ-same}
+use Rattle.ae_net.specs.declared.net.Gate.{Gate}
+use Rattle.ae_net.specs.Implements.{port_names}
+use Rattle.ae_net.specs.Lead.{lead}
+use Rattle.ae_net.specs.Names.{Names, IsNames}
+use Rattle.ae_net.specs.Network.{Network, gate_at}
+use Rattle.ae_net.specs.Out.{run}
+use Rattle.ae_net.specs.Run.{value_of, IsRun, Shows, ports_of}
+use Rattle.ae_net.specs.Valid.{IsValid}
+use Rattle.ae_net.proofs.Follow.{EachGate, EachGate-append, Fits as FitsGate, Follows, Follows-run}
+use Rattle.ae_net.proofs.GatesValid.{AreGates, AreGates-append, IsGate-at}
+use Rattle.ae_net.proofs.LeadLemmas.{lead_is_lead, lead_few}
+use Rattle.ae_net.proofs.Runs.{IsRun-run}
+use Rattle.esop.specs.Esop.{Cubes, IsCubes, esop_value}
+use Rattle.esop.specs.Settled.{IsSettled, AreSettled}
+use Rattle.factor.specs.declared.cells.Cell.{Cell}
+use Rattle.factor.specs.declared.cells.Wires.{Wires}
+use Rattle.factor.specs.Cells.{output_cells}
+use Rattle.factor.specs.Factored.{is_turned, wires, inverters, named, output_gates, ends, network_of, AreSums, HasFactoredForm}
+use Rattle.factor.specs.Plan.{most_gates}
+use Rattle.factor.specs.Seen.{IsWithin}
+use Rattle.factor.specs.Shows.{Fits, cube_count, CanBuild, AreValues, ShowsEsop, HasNames, exor_count}
+use Rattle.factor.specs.Sums.{Summands, IsSum, sum_value, nodes}
+use Rattle.factor.proofs.AtPorts.{port_shows, literals_show}
+use Rattle.factor.proofs.Bounds.{nodes_bound}
+use Rattle.factor.proofs.Exors.{all_exors}
+use Rattle.factor.proofs.Meaning.{sum_means, value-esop}
+use Rattle.factor.proofs.NamesApart.{names_apart}
+use Rattle.factor.proofs.Naming.{length-named}
+use Rattle.factor.proofs.Sizes.{output_some}
+use Rattle.factor.proofs.Unique.{one_sum}
+use Rattle.factor.proofs.Valid.{first_gate, AreGates-inverters, AreGates-outputs, length-outputs, ports_within, ports_apart, length-ends}
+use Rattle.factor.proofs.Wired.{Ready, ready_all, within_all}
+
+-- ---- settled lists have no repeats
+
+no_distance : (c : Product) → distance c c ≡ 0
+unfolding distance
+no_distance c = len-none _ (λ j. has-either (xor c.pos c.pos) (xor c.neg c.neg) j ∙ ap₂ (λ a b. Rattle.std.proofs.Common.◌||◌ a b) (has-xor c.pos c.pos j ∙ differ-same (has c.pos j)) (has-xor c.neg c.neg j ∙ differ-same (has c.neg j)))
+
+pub settled_distinct : (cs : List Product) → IsSettled cs → Distinct cs
+settled_distinct cs settled =
+    Distinct-from_AllPairs cs (λ i j d l k same. let far : 2 ≤ distance (get_or cs i d) (get_or cs j d) = settled.far i j d l k in
+    absurd (omega (arith, far, ap (distance (get_or cs i d)) (sym same), no_distance (get_or cs i d))))
+
+-- ---- sizes
+
+pub length_sums : (css : List (List Product)) (sums : List Summands) → AreSums css sums → length sums ≡ length css
+length_sums [] [] are = refl
+length_sums [] (s ∷ ss) are = absurd are
+length_sums (cs ∷ css) [] are = absurd are
+length_sums (cs ∷ css) (s ∷ ss) (is, are) = ap suc (length_sums css ss are)
+
+most_bound : (css : List (List Product)) (sums : List Summands) → AreSums css sums → AllByRecursion Distinct css → most_gates sums ≤ 6 * sum_by length css + length css
+most_bound [] [] are distinct = omega arith
+most_bound [] (s ∷ ss) are distinct = absurd are
+most_bound (cs ∷ css) [] are distinct = absurd are
+most_bound (cs ∷ css) (s ∷ ss) (is, are) (d, ds) = omega (arith, nodes_bound cs s is d, most_bound css ss are ds, sum_by-cons (λ (ds : List Product). length ds) cs css)
+
+pub few_turned : (e : Cubes) → length (wires e).turned ≤ e.n
+few_turned e = omega (arith, length_filter_le (is_turned e.outs) (range_with_len 0 e.n), length-range_with_len 0 e.n)
+
+pub length-inverters : (k : ℕ) (js : List ℕ) → length (inverters k js) ≡ length js
+length-inverters k js = length-map js _
+
+pub over_all : (e : Cubes) → IsCubes e → AllByRecursion (All (IsOver e.n)) e.outs
+over_all e cubes = recursion_from_All (All (IsOver e.n)) e.outs cubes.below
+
+distinct_all : (e : Cubes) → AreSettled e → AllByRecursion Distinct e.outs
+distinct_all e settled = each_weaker IsSettled Distinct settled_distinct e.outs (recursion_from_All IsSettled e.outs settled)
+
+pub most_of_all : (names : Names) (e : Cubes) (sums : List Summands) → CanBuild names e → AreSums e.outs sums → most_gates sums ≤ 6208
+unfolding cube_count
+most_of_all names e sums can are = omega (arith, most_bound e.outs sums are (distinct_all e can.settled), can.few, can.fits.outputs, can.named.few_outputs)
+
+-- ---- valid
+
+pub valid : (names : Names) (e : Cubes) (sums : List Summands) → CanBuild names e → AreSums e.outs sums → IsValid (network_of (lead names) names (wires e) sums)
+unfolding network_of
+valid names e sums can are =
+    let k : ℕ = lead names in
+    let w : Wires = wires e in
+    let named : IsNames names = can.named in
+    let short : k ≤ SOURCE_NAME_BYTES + 1 = lead_few names named in
+    let each : AllByRecursion (λ name. (is_name name ≡ true) × (length name ≤ SOURCE_NAME_BYTES)) (names.inputs ++ names.outputs) = recursion_from_All _ _ named.each in
+    let ins_outs = each_front (λ name. is_name name ≡ true) names.inputs names.outputs (each_weaker (λ name. (is_name name ≡ true) × (length name ≤ SOURCE_NAME_BYTES)) (λ name. is_name name ≡ true) (λ name h. h.0) (names.inputs ++ names.outputs) each) in
+    let inputs : length names.inputs ≡ e.n = sym can.fits.inputs in
+    let small : e.n ≤ 64 = omega (arith, can.fits.inputs, named.few_inputs) in
+    let turned = few_turned e in
+    let most = most_of_all names e sums can are in
+    let s : ℕ = first_gate w in
+    let outs : List Gate = output_gates k w s 0 sums names.outputs in
+    let invs : List Gate = inverters k w.turned in
+    let len : length (invs ++ outs) ≡ length w.turned + length outs = length-append invs outs ∙ ap (λ n. n + length outs) (length-inverters k w.turned) in
+    let few = length-outputs k w s 0 sums names.outputs in
+    let same : length sums ≡ length names.outputs = length_sums e.outs sums are ∙ can.fits.outputs in
+    let z : e.n + length invs ≡ s = ap (λ n. e.n + n) (length-inverters k w.turned) in
+    let gates : AreGates e.n (invs ++ outs) =
+    AreGates-append e.n invs outs
+    (AreGates-inverters k e.n w.turned short (omega (arith, small, turned)) (range_below (is_turned e.outs) 0 e.n e.n (omega arith)))
+    (subst (λ p. AreGates p outs) (sym z)
+    (AreGates-outputs k w s 0 sums names.outputs short (omega (arith, small)) (omega arith) (omega (arith, most)) ins_outs.1 (ready_all e e.outs sums are (over_all e can.cubes) (λ q m. m)) (within_all e.n e.outs sums are (over_all e can.cubes)))) in
+    let ports : length (ends w s sums) ≡ length sums = length-ends w s sums in
+    record {
+      model_named = named.model_named;
+      inputs_named = All-from_recursion _ names.inputs ins_outs.0;
+      some_input = named.some_input;
+      few_inputs = omega (arith, named.few_inputs);
+      names = AllPairs-from_Distinct _ (names_apart k e.n s (is_turned e.outs) w sums names.inputs names.outputs (lead_is_lead names).free (Distinct-from_AllPairs _ named.distinct) (omega (arith, small)) (omega (arith, most)));
+      few_gates = omega (arith, len, few, most, turned, small);
+      gates = λ i gate there. subst (λ m. Rattle.ae_net.specs.Valid.IsGate (m + i) gate) (sym inputs) (IsGate-at e.n (invs ++ outs) gates i gate there);
+      some_output = omega (arith, ports, same, named.some_output);
+      few_outputs = omega (arith, ports, same, named.few_outputs);
+      ports = All-from_recursion _ (ends w s sums) (ports_within k w s 0 (length names.inputs) (length names.inputs + length (invs ++ outs)) sums names.outputs same (omega (arith, inputs)) (omega (arith, inputs, len)));
+      other_ports = AllPairs-from_Distinct _ (ports_apart w s sums);
+    }
+
+-- ---- values
+
+pub record At (cs : List Product) (sums : List Summands) (o : ℕ) : Type 0 where
+  pub sum : Summands
+  pub there : slice_get sums o ≡ Some sum
+  pub is : IsSum cs sum
+
+sum_at : (css : List (List Product)) (sums : List Summands) → AreSums css sums → (o : ℕ) (cs : List Product) → slice_get css o ≡ Some cs → At cs sums o
+sum_at [] sums are o cs there = cc
+sum_at (ds ∷ dss) [] are o cs there = absurd are
+sum_at (ds ∷ dss) (s ∷ ss) (is, are) zero cs there = let e : ds ≡ cs = cc in record { sum = s; there = refl; is = subst (λ c. IsSum c s) e is }
+sum_at (ds ∷ dss) (s ∷ ss) (is, are) (suc o) cs there = let r = sum_at dss ss are o cs there in record { sum = r.sum; there = r.there; is = r.is }
+
+all_at : (P : List Product → Type 0) (css : List (List Product)) → AllByRecursion P css → (o : ℕ) (cs : List Product) → slice_get css o ≡ Some cs → P cs
+all_at P [] h o cs there = cc
+all_at P (ds ∷ dss) (h, hs) zero cs there = let e : ds ≡ cs = cc in subst P e h
+all_at P (ds ∷ dss) (h, hs) (suc o) cs there = all_at P dss hs o cs there
+
+port_value : (names : Names) (e : Cubes) (sums : List Summands) → CanBuild names e → AreSums e.outs sums → (x : Set) (v : List Bool) → IsRun (network_of (lead names) names (wires e) sums) None x v → (o : ℕ) (cs : List Product) → slice_get e.outs o ≡ Some cs
+    → value_of v (slice_index (ends (wires e) (first_gate (wires e)) sums) o) ≡ esop_value cs x
+unfolding network_of
+port_value names e sums can are x v is o cs there =
+    let k : ℕ = lead names in
+    let w : Wires = wires e in
+    let s : ℕ = first_gate w in
+    let outs : List Gate = output_gates k w s 0 sums names.outputs in
+    let inputs : length names.inputs ≡ e.n = sym can.fits.inputs in
+    let all : Follows None v e.n 0 (inverters k w.turned ++ outs) = subst (λ m. Follows None v m 0 (inverters k w.turned ++ outs)) inputs (Follows-run (network_of k names w sums) None x v is) in
+    let both = EachGate-append (FitsGate None v e.n) 0 (inverters k w.turned) outs all in
+    let z : 0 + length (inverters k w.turned) ≡ length w.turned = omega (arith, length-inverters k w.turned) in
+    let show = literals_show k w v x (λ j l. is.inputs j (omega (arith, l, inputs))) both.0 in
+    let at = sum_at e.outs sums are o cs there in
+    port_shows k w v x (length w.turned) 0 sums names.outputs (subst (λ p. EachGate (FitsGate None v e.n) p outs) z both.1) (length_sums e.outs sums are ∙ can.fits.outputs) show (ready_all e e.outs sums are (over_all e can.cubes) (λ q m. m)) o at.sum at.there
+    ∙ sum_means cs at.sum at.is (all_at Distinct e.outs (distinct_all e can.settled) o cs there) x
+    ∙ value-esop cs x
+
+at_ports : (names : Names) (e : Cubes) (sums : List Summands) → CanBuild names e → AreSums e.outs sums → (x : Set) (v : List Bool) → IsRun (network_of (lead names) names (wires e) sums) None x v → AreValues e x (ports_of (network_of (lead names) names (wires e) sums) None v)
+unfolding network_of
+at_ports names e sums can are x v is o cs there =
+    let ps : List ℕ = ends (wires e) (first_gate (wires e)) sums in
+    let l : o < length ps = omega (arith, slice_get_within e.outs o cs there, length-ends (wires e) (first_gate (wires e)) sums, length_sums e.outs sums are) in
+    has-where_below (length ps) (λ p. value_of v (slice_index ps p)) o
+    ∙ ap (λ b. b && value_of v (slice_index ps o)) (lt-ltb o (length ps) l)
+    ∙ port_value names e sums can are x v is o cs there
+
+pub shows : (names : Names) (e : Cubes) (sums : List Summands) → CanBuild names e → AreSums e.outs sums → ShowsEsop (network_of (lead names) names (wires e) sums) e
+shows names e sums can are x =
+    let n : Network = network_of (lead names) names (wires e) sums in
+    let is : IsRun n None x (run n None x) = IsRun-run n None x (valid names e sums can are) in
+    (ports_of n None (run n None x), record { run = run n None x; is_run = is; ports = refl }, at_ports names e sums can are x (run n None x) is)
+
+-- ---- EXOR gates
+
+pub few_exors : (names : Names) (e : Cubes) (sums : List Summands) → AreSums e.outs sums → exor_count (network_of (lead names) names (wires e) sums) ≤ cube_count e
+unfolding network_of exor_count cube_count
+few_exors names e sums are = all_exors (lead names) (wires e) (first_gate (wires e)) e.outs sums names.outputs (wires e).turned are
+
+-- ---- names of ports
+
+after : (a b : List Gate) (i : ℕ) (d : Gate) → get_or (a ++ b) (length a + i) d ≡ get_or b i d
+after [] b i d = let z : 0 + i ≡ i = omega arith in rw z refl
+after (g ∷ a) b i d = let z : suc (length a) + i ≡ suc (length a + i) = omega arith in rw z (after a b i d)
+
+named_end : (k c : ℕ) (out : List ℕ) (cells : List Cell) (more : List Gate) (d : Gate) → 0 < length cells → (get_or (named k c out cells ++ more) (length cells - 1) d).out ≡ out
+named_end k c out [] more d l = absurd (omega (arith, l))
+named_end k c out (cell ∷ []) more d l = refl
+named_end k c out (cell ∷ next ∷ cells) more d l =
+    let z : length (cell ∷ next ∷ cells) - 1 ≡ suc (length (next ∷ cells) - 1) = omega arith in
+    rw z (named_end k (suc c) out (next ∷ cells) more d (omega arith))
+
+-- the gate that port o shows, the outputs' gates being from signal s on
+port_of : (k : ℕ) (w : Wires) (s c : ℕ) (sums : List Summands) (outs : List (List ℕ)) → length sums ≡ length outs → (o : ℕ) (name : List ℕ) → slice_get outs o ≡ Some name → (d : Gate)
+    → (s ≤ slice_index (ends w s sums) o) × ((get_or (output_gates k w s c sums outs) (slice_index (ends w s sums) o - s) d).out ≡ name)
+port_of k w s c sums [] same o name there d = cc
+port_of k w s c [] (out ∷ outs) same o name there d = absurd (omega (arith, same))
+port_of k w s c (sum ∷ sums) (out ∷ outs) same zero name there d =
+    let cells = output_cells w s sum in
+    let z : s + (length cells - 1) - s ≡ length cells - 1 = omega arith in
+    let e0 : out ≡ name = cc in
+    (omega arith, rw z (named_end k c out cells _ d (output_some w s sum) ∙ e0))
+port_of k w s c (sum ∷ sums) (out ∷ outs) same (suc o) name there d =
+    let cells = output_cells w s sum in
+    let later = port_of k w (s + length cells) (c + (length cells - 1)) sums outs (omega (arith, same)) o name there d in
+    let p : ℕ = slice_index (ends w (s + length cells) sums) o in
+    let z : p - s ≡ length (named k c out cells) + (p - (s + length cells)) = omega (arith, later.0, length-named k c out cells) in
+    (omega (arith, later.0), rw (z, after (named k c out cells) _ (p - (s + length cells)) d) later.1)
+
+port_at : (names : Names) (e : Cubes) (sums : List Summands) → Fits names e → AreSums e.outs sums → (o : ℕ) (name : List ℕ) → slice_get names.outputs o ≡ Some name
+    → (gate_at (network_of (lead names) names (wires e) sums) (slice_index (ends (wires e) (first_gate (wires e)) sums) o - length names.inputs)).out ≡ name
+unfolding network_of
+port_at names e sums fits are o name there =
+    let k : ℕ = lead names in
+    let w : Wires = wires e in
+    let s : ℕ = first_gate w in
+    let d : Gate = record { out = []; pins = []; rows = []; on = true } in
+    let outs : List Gate = output_gates k w s 0 sums names.outputs in
+    let found = port_of k w s 0 sums names.outputs (length_sums e.outs sums are ∙ fits.outputs) o name there d in
+    let p : ℕ = slice_index (ends w s sums) o in
+    let z : p - length names.inputs ≡ length (inverters k w.turned) + (p - s) = omega (arith, found.0, fits.inputs, length-inverters k w.turned) in
+    ap (λ m. (get_or (inverters k w.turned ++ outs) m d).out) z ∙ ap (λ (g : Gate). g.out) (after (inverters k w.turned) outs (p - s) d) ∙ found.1
+
+pub port_names_are : (names : Names) (e : Cubes) (sums : List Summands) → Fits names e → AreSums e.outs sums → port_names (network_of (lead names) names (wires e) sums) ≡ names.outputs
+unfolding network_of
+port_names_are names e sums fits are =
+    let n : Network = network_of (lead names) names (wires e) sums in
+    let ps : List ℕ = ends (wires e) (first_gate (wires e)) sums in
+    let ports : length ps ≡ length names.outputs = length-ends (wires e) (first_gate (wires e)) sums ∙ length_sums e.outs sums are ∙ fits.outputs in
+    ext_get_or [] (port_names n) names.outputs (length-map ps _ ∙ ports) (λ o l.
+    let here : o < length names.outputs = omega (arith, l, length-map ps (λ s. (gate_at n (s - length names.inputs)).out), ports) in
+    get_or-map (λ s. (gate_at n (s - length names.inputs)).out) ps o 0 [] (omega (arith, here, ports))
+    ∙ port_at names e sums fits are o (get_or names.outputs o []) (slice_get-get_or names.outputs o [] here))
+
+pub named_net : (names : Names) (e : Cubes) (sums : List Summands) → Fits names e → AreSums e.outs sums → HasNames names (network_of (lead names) names (wires e) sums)
+unfolding network_of
+named_net names e sums fits are = record { model = refl; inputs = refl; ports = port_names_are names e sums fits are }
+
+-- ---- one network
+
+one_each : (css : List (List Product)) (sums more : List Summands) → AreSums css sums → AreSums css more → sums ≡ more
+one_each [] [] [] a b = refl
+one_each [] [] (r ∷ rs) a b = absurd b
+one_each [] (s ∷ ss) more a b = absurd a
+one_each (cs ∷ css) [] more a b = absurd a
+one_each (cs ∷ css) (s ∷ ss) [] a b = absurd b
+one_each (cs ∷ css) (s ∷ ss) (r ∷ rs) (a, az) (b, bs) = ap₂ (λ (t : Summands) (ts : List Summands). t ∷ ts) (one_sum cs s r a b) (one_each css ss rs az bs)
+
+pub one_net : (names : Names) (e : Cubes) (n m : Network) → HasFactoredForm names e n → HasFactoredForm names e m → n ≡ m
+one_net names e n m a b = a.is ∙ ap (network_of (lead names) names (wires e)) (one_each e.outs a.sums b.sums a.are_sums b.are_sums) ∙ sym b.is
+
+pub value_of_sum : (cs : List Product) (s : Summands) (x : Set) → IsSettled cs → IsSum cs s → sum_value s x ≡ esop_value cs x
+value_of_sum cs s x settled is = sum_means cs s is (settled_distinct cs settled) x ∙ value-esop cs x
