@@ -89,7 +89,6 @@ distinct_all : (e : Cubes) → AreSettled e → AllByRecursion Distinct e.outs
 distinct_all e settled = each_weaker IsSettled Distinct settled_distinct e.outs (recursion_from_All IsSettled e.outs settled)
 
 pub most_of_all : (names : Names) (e : Cubes) (sums : List Summands) → CanBuild names e → AreSums e.outs sums → most_gates sums ≤ 6208
-unfolding cube_count
 most_of_all names e sums can are = omega (arith, most_bound e.outs sums are (distinct_all e can.settled), can.few, can.fits.outputs, can.named.few_outputs)
 
 -- ---- valid
@@ -188,7 +187,7 @@ shows names e sums can are x =
 -- ---- EXOR gates
 
 pub few_exors : (names : Names) (e : Cubes) (sums : List Summands) → AreSums e.outs sums → exor_count (network_of (lead names) names (wires e) sums) ≤ cube_count e
-unfolding network_of exor_count cube_count
+unfolding network_of exor_count
 few_exors names e sums are = all_exors (lead names) (wires e) (first_gate (wires e)) e.outs sums names.outputs (wires e).turned are
 
 -- ---- names of ports

@@ -1,6 +1,7 @@
 pub mod AtPorts
 pub mod Bounds
 pub mod Counted
+pub mod CubeCounts
 pub mod Exors
 pub mod Fewer
 pub mod Found

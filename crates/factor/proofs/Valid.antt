@@ -151,8 +151,7 @@ closing_reads k constant (f ∷ fs) (h, hs) = rw (closing_some k constant (f ∷
     by : (b : Bool) → EachReads k (turned_by b k (chain_of k (f ∷ fs))).cells × ((turned_by b k (chain_of k (f ∷ fs))).signal < k + length (turned_by b k (chain_of k (f ∷ fs))).cells)
     by true =
         let len = length-joins k f.signal (f ∷ []) fs in
-        let line : last_of k f.signal (length fs) < k + length (joins k f.signal (f ∷ []) fs) = omega (arith, len, last_before k f.signal (length fs) h) in
-        (
+        let line : last_of k f.signal (length fs) < k + length (joins k f.signal (f ∷ []) fs) = omega (arith, len, last_before k f.signal (length fs) h) in (
           EachReads-append k (joins k f.signal (f ∷ []) fs) (Inverter (last_of k f.signal (length fs)) ∷ []) chain ((line, tt), tt),
           omega (arith, length-append (joins k f.signal (f ∷ []) fs) (Inverter (last_of k f.signal (length fs)) ∷ [])),
         )
@@ -258,8 +257,7 @@ ends_within k w s c (sum ∷ sums) [] same = absurd (omega (arith, same))
 ends_within k w s c (sum ∷ sums) (out ∷ outs) same =
     let cells = output_cells w s sum in
     let rest = output_gates k w (s + length cells) (c + (length cells - 1)) sums outs in
-    let len : length (named k c out cells ++ rest) ≡ length cells + length rest = length-append (named k c out cells) rest ∙ ap (λ n. n + length rest) (length-named k c out cells) in
-    (
+    let len : length (named k c out cells ++ rest) ≡ length cells + length rest = length-append (named k c out cells) rest ∙ ap (λ n. n + length rest) (length-named k c out cells) in (
       (omega arith, omega (arith, len, output_some w s sum)),
       each_weaker (λ p. (s + length cells ≤ p) × (p < s + length cells + length rest)) (λ p. (s ≤ p) × (p < s + length (named k c out cells ++ rest))) (λ p h. (omega (arith, h.0), omega (arith, h.1, len))) (ends w (s + length cells) sums)
           (ends_within k w (s + length cells) (c + (length cells - 1)) sums outs (omega (arith, same))),

@@ -66,8 +66,7 @@ joined_products t inner rest h r =
 pub products : (n : ℕ) (cs : List Product) (s : Summands) → IsSum cs s → All (IsOver n) cs → EachFactor IsProduct s
 products n cs s (flat _ none) over = plain_products cs (list_any is_empty cs) (each_product n cs (recursion_from_All (IsOver n) cs over))
 products n cs s (taken _ t inner rest most hold other) over =
-    joined_products t inner rest
-    (
+    joined_products t inner rest (
       products n (holding t cs) inner hold (over_held n t cs over),
       each_literal (holding t cs) inner hold (λ u. u.input ≢ t.input) (none_stands t.input (holding t cs) (each_avoids t cs (each_product n cs (recursion_from_All (IsOver n) cs over)))),
     )
@@ -92,8 +91,7 @@ neg_stands u cs e m = ap (λ v. some_stands v cs) (sym (same e)) ∙ m
 
 wired_literal : (e : Cubes) (cs : List Product) → All (IsOver e.n) cs → ((q : List Product → Bool) → q cs ≡ true → list_any q e.outs ≡ true) → (u : Literal) → some_stands u cs ≡ true → Wired (wires e) u
 wired_literal e cs over up u m =
-    let below : u.input < e.n = stands_below e.n u cs (recursion_from_All (IsOver e.n) cs over) m in
-    (
+    let below : u.input < e.n = stands_below e.n u cs (recursion_from_All (IsOver e.n) cs over) m in (
       below,
       λ plain. any_kept (is_turned e.outs) u.input (up (λ ds. list_any (λ c. has c.neg u.input) ds) (neg_stands u cs plain m)) (range_with_len 0 e.n) (any_range 0 e.n u.input (omega arith) (omega (arith, below))),
     )

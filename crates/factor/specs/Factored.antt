@@ -1,6 +1,6 @@
 -- The factored network of an ESOP.
 use Rattle.std.specs.Prelude.{◌≡◌, ℕ, suc, ◌+◌, ◌-◌, Bool, List, [], ◌∷◌, ◌++◌, length, map, filter, codes}
-use Rattle.std.specs.List.{list_any, range_with_len}
+use Rattle.std.specs.List.{AllZip, list_any, range_with_len}
 use Rattle.std.specs.Fmt.{decimal}
 use Rattle.ae_base.specs.Mask.{has}
 use Rattle.ae_base.specs.Cube.{Product}
@@ -56,10 +56,7 @@ network_of k names w sums = record {
 
 -- each is the sum of the list in the same place
 abbrev pub AreSums : List (List Product) → List Summands → Type 0
-AreSums [] [] = Unit {0}
-AreSums [] (s ∷ ss) = ⊥
-AreSums (cs ∷ css) [] = ⊥
-AreSums (cs ∷ css) (s ∷ ss) = IsSum cs s × AreSums css ss
+AreSums outs sums = AllZip IsSum outs sums
 
 -- The network is that of the sums of the outputs' cubes.
 pub record HasFactoredForm (names : Names) (e : Cubes) (net : Network) : Type 0 where

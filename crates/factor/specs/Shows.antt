@@ -17,7 +17,7 @@ pub record Fits (names : Names) (e : Cubes) : Type 0 where
   pub outputs : length e.outs ≡ length names.outputs
 
 -- the number of cubes of all outputs
-unfoldable pub cube_count : Cubes → ℕ
+abbrev pub cube_count : Cubes → ℕ
 cube_count e = sum_by length e.outs
 
 -- what is to be known of a source's names and cubes to build their factored network

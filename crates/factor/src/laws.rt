@@ -1,7 +1,8 @@
 //! What the factored network shows, and what its sums mean.
 //!
 //! The functions do nothing: each one's contract is the laws, and a caller has them after the call.
-ghost use Rattle.std.specs.Prelude.{◌≡◌, ◌≤◌, List};
+ghost use Rattle.std.specs.Prelude.{◌≡◌, ◌≤◌, List, length};
+ghost use Rattle.std.specs.List.{AllZip};
 ghost use Rattle.ae_base.specs.Cube.{Product};
 ghost use Rattle.ae_base.specs.Mask.{Set};
 ghost use Rattle.ae_net.specs.Names.{Names};
@@ -9,6 +10,7 @@ ghost use Rattle.ae_net.specs.Network.{Network};
 ghost use Rattle.ae_net.specs.Valid.{IsValid};
 ghost use Rattle.esop.specs.Esop.{Cubes, esop_value};
 ghost use Rattle.esop.specs.Settled.{IsSettled};
+ghost use Rattle.expansion.specs.Terms.{Terms, cost};
 ghost use Rattle.factor.specs.Factored.{HasFactoredForm};
 ghost use Rattle.factor.specs.Shows.{CanBuild, ShowsEsop, HasNames, cube_count, exor_count};
 ghost use Rattle.factor.specs.Sums.{Summands, IsSum, FactorsDiffer, sum_value};
@@ -29,4 +31,11 @@ pub fn sum_law()
     ensures only { (cs : List Product) (s other : Summands) → IsSum cs s → IsSum cs other → s ≡ other }
     ensures factors { (cs : List Product) (s : Summands) → IsSum cs s → FactorsDiffer s }
     ensures value { (cs : List Product) (s : Summands) (x : Set) → IsSettled cs → IsSum cs s → sum_value s x ≡ esop_value cs x }
+{}
+
+/// Where each output has as many cubes as terms, there are as many as the terms of all outputs. Where no output has more cubes than before,
+/// there are no more in all.
+pub fn count_law()
+    ensures terms { (e : Terms) (c : Cubes) → AllZip (λ ts cs. length cs ≡ length ts) e.outs c.outs → cube_count c ≡ cost e }
+    ensures fewer { (c d : Cubes) → AllZip (λ before after. length after ≤ length before) c.outs d.outs → cube_count d ≤ cube_count c }
 {}

@@ -11,5 +11,5 @@ mod parts;
 mod sums;
 
 pub use build::factored;
-pub use laws::{factored_law, sum_law};
+pub use laws::{count_law, factored_law, sum_law};
 pub use limits::FACTORED_CUBES;

@@ -135,8 +135,22 @@ fn best(cubes: &[Cube], n: u32) -> Option<Counted>
 {
     let mut best = None;
     for j in 0..n {
-        let plain = better(cubes, best, Literal { input: j, plain: true });
-        best = better(cubes, plain, Literal { input: j, plain: false });
+        let plain = better(
+            cubes,
+            best,
+            Literal {
+                input: j,
+                plain: true,
+            },
+        );
+        best = better(
+            cubes,
+            plain,
+            Literal {
+                input: j,
+                plain: false,
+            },
+        );
     }
     best
 }

@@ -40,7 +40,13 @@ pub fn inverters(alloc: Global, lead: u32, turned: &[u32]) -> Result<Seq<Gate>, 
 }
 
 /// The name of a gate of an output: the output's for the last one, else the inner name with the number after `number`.
-fn cell_name(alloc: Global, lead: u32, number: usize, out: &Name, last: bool) -> Result<Name, Memory>
+fn cell_name(
+    alloc: Global,
+    lead: u32,
+    number: usize,
+    out: &Name,
+    last: bool,
+) -> Result<Name, Memory>
     requires short { lead ≤ SOURCE_NAME_BYTES + 1 }
     requires small { number ≤ GATES }
     ensures { IfOk result (λ name. name ≡ (if last then out.now else inner lead (codes "g" ++ decimal (suc number)))) }

@@ -218,7 +218,12 @@ fn push_sum(
 
 /// The gates of an output's sum, the first of them with the signal `first`.
 #[tactic(auto, unfolding(crate::specs::Cells::output_cells))]
-pub fn output_cells(alloc: Global, wires: &Wires, first: Sig, sum: &Sum) -> Result<Vec<Cell>, Memory>
+pub fn output_cells(
+    alloc: Global,
+    wires: &Wires,
+    first: Sig,
+    sum: &Sum,
+) -> Result<Vec<Cell>, Memory>
     requires wires { AreWires wires.now }
     requires room { first + 3 * sum_spec.nodes (seen sum.now) + 1 < 2 ^ 32 }
     ensures { IfOk result (λ cells. cells.items ≡ spec.output_cells wires.now first (seen sum.now)) }

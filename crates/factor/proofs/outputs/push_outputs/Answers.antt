@@ -48,9 +48,9 @@ loop-o-preserved c =
     record {
       gates = rw z (outputs_more plan.lead plan.wires (sums_of plan) c.args.names.now o c.loop-o.number c.in_ok-inner.inner s c.index-names-o.result now next _ (within plan o l) m at c.index-names-o.is c.in_ok-inner.ensures.gates c.in_ok-inner.ensures.inner c.loop-o.invariant.gates);
       ports = rw z (
-        ap (λ (ps : List ℕ). ps ++ ends plan.wires (plan.wires.inputs + length next) (drop (suc o) (sums_of plan))) c.in_ok-push.ensures.ok
-        ∙ ends_more plan.lead c.loop-o.number plan.wires (sums_of plan) o c.in_ok-inner.inner _ s c.index-names-o.result now next c.loop-o.ports _ (within plan o l) at c.in_ok-inner.ensures.gates c.in_ok-inner.ensures.inner (ap (λ n. plan.wires.inputs + n + c.in_ok-inner.inner) c.len.ensures) c.loop-o.invariant.ports
-      );
+          ap (λ (ps : List ℕ). ps ++ ends plan.wires (plan.wires.inputs + length next) (drop (suc o) (sums_of plan))) c.in_ok-push.ensures.ok
+          ∙ ends_more plan.lead c.loop-o.number plan.wires (sums_of plan) o c.in_ok-inner.inner _ s c.index-names-o.result now next c.loop-o.ports _ (within plan o l) at c.in_ok-inner.ensures.gates c.in_ok-inner.ensures.inner (ap (λ n. plan.wires.inputs + n + c.in_ok-inner.inner) c.len.ensures) c.loop-o.invariant.ports
+          );
       small = omega (arith, c.loop-o.invariant.small, grown, c.in_ok-inner.ensures.inner);
       room = rw z (omega (arith, c.loop-o.invariant.room, grown, output_bound plan.wires (plan.wires.inputs + length now) s, most_more (sums_of plan) o s (within plan o l) at));
     }
