@@ -2,6 +2,7 @@
 use Rattle.std.proofs.Common.{◌≡◌, ◌≢◌, ℕ, zero, suc, ◌+◌, ◌-◌, ◌<◌, ◌≤◌, Bool, true, false, not, ◌&&◌, ◌||◌, cond, inl, inr, List, [], ◌∷◌, ◌++◌, length, map, refl, sym, ap, ap₂, ◌∙◌, arith, eqb, eq-eqb, ne_eqb}
 use Rattle.std.specs.Prelude.{codes, count_by, sum_by}
 use Rattle.std.specs.Fmt.{decimal}
+use Rattle.std.proofs.Math.Bool.{and-false}
 use Rattle.std.proofs.lemmas.Bool.{cases_Bool, cases_eq, false≢true}
 use Rattle.std.proofs.lemmas.List.Sums.{sum_by-cons, sum_by-append}
 use Rattle.ae_base.specs.Mask.{has, empty, with}
@@ -36,18 +37,14 @@ is_exor_cell (And pins) = false
 is_exor_cell (Exor a b) = true
 is_exor_cell (Or a b) = false
 
-and_false : (a : Bool) → (a && false) ≡ false
-and_false true = refl
-and_false false = refl
-
 exor_gate : (out : List ℕ) (cell : Cell) → is_exor (gate_of out cell) ≡ is_exor_cell cell
 exor_gate out Zero = refl
 exor_gate out One = refl
-exor_gate out (Inverter a) = and_false (eqb 1 2 && true)
-exor_gate out (Buffer a) = and_false (eqb 1 2 && true)
-exor_gate out (And pins) = and_false (eqb (length pins) 2 && true)
+exor_gate out (Inverter a) = and-false (eqb 1 2 && true)
+exor_gate out (Buffer a) = and-false (eqb 1 2 && true)
+exor_gate out (And pins) = and-false (eqb (length pins) 2 && true)
 exor_gate out (Exor a b) = rw (eq-eqb (with empty 0) (with empty 0) refl, eq-eqb (with empty 1) (with empty 1) refl) refl
-exor_gate out (Or a b) = rw (other_set 1, and_false (eqb (with empty 0) (with empty 0))) refl
+exor_gate out (Or a b) = rw (other_set 1, and-false (eqb (with empty 0) (with empty 0))) refl
 
 -- ---- numbers of EXOR gates
 

@@ -2,7 +2,7 @@
 use Rattle.std.proofs.Common.{◌≡◌, ◌≢◌, ℕ, zero, suc, ◌+◌, ◌-◌, ◌<◌, ◌≤◌, Bool, true, false, not, cond, ◌⊎◌, inl, inr, List, [], ◌∷◌, length, get_or, drop, refl, sym, ap, ◌∙◌, subst, arith, drop-cons}
 use Rattle.std.specs.Prelude.{All, filter}
 use Rattle.std.specs.List.{list_any, AllByRecursion}
-use Rattle.std.proofs.lemmas.Bool.{cases_Bool, cases_eq, false≢true}
+use Rattle.std.proofs.lemmas.Bool.{cases_Bool, cases_eq, false≢true, or_cases}
 use Rattle.std.proofs.lemmas.List.Elements.{All-from_recursion, recursion_from_All}
 use Rattle.ae_base.specs.Mask.{has, without, first, inside}
 use Rattle.ae_base.specs.Cube.{Product, IsOver, IsProduct, is_free}
@@ -16,7 +16,7 @@ use Rattle.factor.specs.Sums.Summands.{end, literals, factored}
 use Rattle.factor.proofs.Bounds.{flag}
 use Rattle.factor.proofs.Counted.{some_stands, holding_yes, holding_no, held_stands, other_stands, not_held, not_in_others}
 use Rattle.factor.proofs.Found.{stands_below}
-use Rattle.factor.proofs.Standing.{lit, stands_less, free_from, stands-whole}
+use Rattle.factor.proofs.Standing.{lit, itself_goes, stands_less, free_from, stands-whole}
 use Rattle.factor.proofs.Taken.{each_literal, kept}
 
 -- ---- the number of literals of inputs below n that stand in some cube
@@ -94,7 +94,7 @@ avoids_held t c product there u m same = by u.plain t.plain refl refl
     both p q = false≢true (sym (product t.input p) ∙ q)
 
     gone : u ≡ t → ⊥
-    gone e = false≢true (sym (Rattle.factor.proofs.Standing.itself_goes t c) ∙ ap (λ v. stands v (without_literal t c)) (sym e) ∙ m)
+    gone e = false≢true (sym (itself_goes t c) ∙ ap (λ v. stands v (without_literal t c)) (sym e) ∙ m)
 
     by : (a b : Bool) → u.plain ≡ a → t.plain ≡ b → ⊥
     by true true p q = gone (at true u same p ∙ sym (at true t refl q))
@@ -111,7 +111,7 @@ each_avoids t (c ∷ cs) (h, hs) = elim (cases_Bool (stands t c)) [
 
 pub none_stands : (j : ℕ) (cs : List Product) → AllByRecursion (Avoids j) cs → (u : Literal) → some_stands u cs ≡ true → u.input ≢ j
 none_stands j [] h u m = absurd (false≢true m)
-none_stands j (c ∷ cs) (h, hs) u m = elim (Rattle.std.proofs.lemmas.Bool.or_cases (stands u c) (some_stands u cs) m) [ inl e ↦ h u e | inr e ↦ none_stands j cs hs u e ]
+none_stands j (c ∷ cs) (h, hs) u m = elim (or_cases (stands u c) (some_stands u cs) m) [ inl e ↦ h u e | inr e ↦ none_stands j cs hs u e ]
 
 first_free : (j : ℕ) (s : Summands) → EachLiteral (λ u. u.input ≢ j) s → is_free (first_factors s) j ≡ true
 first_free j (end b) h = free_from _ j (λ u m. absurd (false≢true (sym (stands-whole u) ∙ m)))

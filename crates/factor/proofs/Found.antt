@@ -5,6 +5,7 @@ use Rattle.std.specs.List.{AllByRecursion}
 use Rattle.std.proofs.lemmas.Bool.{cases_Bool, cases_lt, false≢true, ltb-true, ltb-false, or_cases}
 use Rattle.std.proofs.lemmas.List.Elements.{recursion_from_All}
 use Rattle.ae_base.specs.Cube.{Product, IsOver}
+use Rattle.ae_base.specs.Mask.{has}
 use Rattle.ae_base.proofs.Sets.{inside-below}
 use Rattle.factor.specs.declared.literals.Literal.{Literal}
 use Rattle.factor.specs.declared.literals.Counted.{Counted}
@@ -72,7 +73,7 @@ below_more j (Some b) h = omega (arith, h)
 pub over_below : (n : ℕ) (u : Literal) (c : Product) → IsOver n c → stands u c ≡ true → u.input < n
 over_below n u c over h = by u.plain h
   where
-    by : (b : Bool) → cond b (Rattle.ae_base.specs.Mask.has c.pos u.input) (Rattle.ae_base.specs.Mask.has c.neg u.input) ≡ true → u.input < n
+    by : (b : Bool) → cond b (has c.pos u.input) (has c.neg u.input) ≡ true → u.input < n
     by true m = inside-below n c.pos over.1 u.input m
     by false m = inside-below n c.neg over.2 u.input m
 

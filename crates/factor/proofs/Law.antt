@@ -1,10 +1,10 @@
 -- The factored network is valid, shows the values of its ESOP, and has the names of the source.
-use Rattle.std.proofs.Common.{◌≡◌, ◌≢◌, ℕ, zero, suc, ◌+◌, ◌-◌, ◌*◌, ◌<◌, ◌≤◌, ◌^◌, Bool, true, false, not, ◌&&◌, cond, inl, inr, List, [], ◌∷◌, ◌++◌, length, get_or, map, refl, sym, ap, ap₂, ◌∙◌, subst, arith, length-append, eqb}
+use Rattle.std.proofs.Common.{◌≡◌, ◌≢◌, ℕ, zero, suc, ◌+◌, ◌-◌, ◌*◌, ◌<◌, ◌≤◌, ◌^◌, Bool, true, false, not, ◌&&◌, ◌||◌, cond, inl, inr, List, [], ◌∷◌, ◌++◌, length, get_or, map, refl, sym, ap, ap₂, ◌∙◌, subst, arith, length-append, eqb}
 use Rattle.std.specs.Prelude.{Some, None, All, AllPairs, codes, filter, slice_get, slice_index, sum_by}
 use Rattle.std.specs.List.{list_any, AllByRecursion, range_with_len}
 use Rattle.std.specs.Fmt.{decimal}
 use Rattle.std.proofs.lemmas.Bool.{lt-ltb, or_left, or_right}
-use Rattle.std.proofs.lemmas.List.{length-map, get_or-map, ext_get_or}
+use Rattle.std.proofs.lemmas.List.{length-map, get_or-append-add, get_or-map, ext_get_or}
 use Rattle.std.proofs.lemmas.List.Elements.{All-from_recursion, recursion_from_All}
 use Rattle.std.proofs.lemmas.List.FromFn.{length-range_with_len}
 use Rattle.std.proofs.lemmas.List.Sums.{sum_by-cons}
@@ -25,7 +25,7 @@ use Rattle.ae_net.specs.Names.{Names, IsNames}
 use Rattle.ae_net.specs.Network.{Network, gate_at}
 use Rattle.ae_net.specs.Out.{run}
 use Rattle.ae_net.specs.Run.{value_of, IsRun, Shows, ports_of}
-use Rattle.ae_net.specs.Valid.{IsValid}
+use Rattle.ae_net.specs.Valid.{IsGate, IsValid}
 use Rattle.ae_net.proofs.Follow.{EachGate, EachGate-append, Fits as FitsGate, Follows, Follows-run}
 use Rattle.ae_net.proofs.GatesValid.{AreGates, AreGates-append, IsGate-at}
 use Rattle.ae_net.proofs.LeadLemmas.{lead_is_lead, lead_few}
@@ -55,7 +55,7 @@ use Rattle.factor.proofs.Wired.{Ready, ready_all, within_all}
 
 no_distance : (c : Product) → distance c c ≡ 0
 unfolding distance
-no_distance c = len-none _ (λ j. has-either (xor c.pos c.pos) (xor c.neg c.neg) j ∙ ap₂ (λ a b. Rattle.std.proofs.Common.◌||◌ a b) (has-xor c.pos c.pos j ∙ differ-same (has c.pos j)) (has-xor c.neg c.neg j ∙ differ-same (has c.neg j)))
+no_distance c = len-none _ (λ j. has-either (xor c.pos c.pos) (xor c.neg c.neg) j ∙ ap₂ (λ a b. a || b) (has-xor c.pos c.pos j ∙ differ-same (has c.pos j)) (has-xor c.neg c.neg j ∙ differ-same (has c.neg j)))
 
 pub settled_distinct : (cs : List Product) → IsSettled cs → Distinct cs
 settled_distinct cs settled =
@@ -126,7 +126,7 @@ valid names e sums can are =
       few_inputs = omega (arith, named.few_inputs);
       names = AllPairs-from_Distinct _ (names_apart k e.n s (is_turned e.outs) w sums names.inputs names.outputs (lead_is_lead names).free (Distinct-from_AllPairs _ named.distinct) (omega (arith, small)) (omega (arith, most)));
       few_gates = omega (arith, len, few, most, turned, small);
-      gates = λ i gate there. subst (λ m. Rattle.ae_net.specs.Valid.IsGate (m + i) gate) (sym inputs) (IsGate-at e.n (invs ++ outs) gates i gate there);
+      gates = λ i gate there. subst (λ m. IsGate (m + i) gate) (sym inputs) (IsGate-at e.n (invs ++ outs) gates i gate there);
       some_output = omega (arith, ports, same, named.some_output);
       few_outputs = omega (arith, ports, same, named.few_outputs);
       ports = All-from_recursion _ (ends w s sums) (ports_within k w s 0 (length names.inputs) (length names.inputs + length (invs ++ outs)) sums names.outputs same (omega (arith, inputs)) (omega (arith, inputs, len)));
@@ -192,10 +192,6 @@ few_exors names e sums are = all_exors (lead names) (wires e) (first_gate (wires
 
 -- ---- names of ports
 
-after : (a b : List Gate) (i : ℕ) (d : Gate) → get_or (a ++ b) (length a + i) d ≡ get_or b i d
-after [] b i d = let z : 0 + i ≡ i = omega arith in rw z refl
-after (g ∷ a) b i d = let z : suc (length a) + i ≡ suc (length a + i) = omega arith in rw z (after a b i d)
-
 named_end : (k c : ℕ) (out : List ℕ) (cells : List Cell) (more : List Gate) (d : Gate) → 0 < length cells → (get_or (named k c out cells ++ more) (length cells - 1) d).out ≡ out
 named_end k c out [] more d l = absurd (omega (arith, l))
 named_end k c out (cell ∷ []) more d l = refl
@@ -218,7 +214,7 @@ port_of k w s c (sum ∷ sums) (out ∷ outs) same (suc o) name there d =
     let later = port_of k w (s + length cells) (c + (length cells - 1)) sums outs (omega (arith, same)) o name there d in
     let p : ℕ = slice_index (ends w (s + length cells) sums) o in
     let z : p - s ≡ length (named k c out cells) + (p - (s + length cells)) = omega (arith, later.0, length-named k c out cells) in
-    (omega (arith, later.0), rw (z, after (named k c out cells) _ (p - (s + length cells)) d) later.1)
+    (omega (arith, later.0), rw (z, get_or-append-add (named k c out cells) _ (p - (s + length cells)) d) later.1)
 
 port_at : (names : Names) (e : Cubes) (sums : List Summands) → Fits names e → AreSums e.outs sums → (o : ℕ) (name : List ℕ) → slice_get names.outputs o ≡ Some name
     → (gate_at (network_of (lead names) names (wires e) sums) (slice_index (ends (wires e) (first_gate (wires e)) sums) o - length names.inputs)).out ≡ name
@@ -232,7 +228,7 @@ port_at names e sums fits are o name there =
     let found = port_of k w s 0 sums names.outputs (length_sums e.outs sums are ∙ fits.outputs) o name there d in
     let p : ℕ = slice_index (ends w s sums) o in
     let z : p - length names.inputs ≡ length (inverters k w.turned) + (p - s) = omega (arith, found.0, fits.inputs, length-inverters k w.turned) in
-    ap (λ m. (get_or (inverters k w.turned ++ outs) m d).out) z ∙ ap (λ (g : Gate). g.out) (after (inverters k w.turned) outs (p - s) d) ∙ found.1
+    ap (λ m. (get_or (inverters k w.turned ++ outs) m d).out) z ∙ ap (λ (g : Gate). g.out) (get_or-append-add (inverters k w.turned) outs (p - s) d) ∙ found.1
 
 pub port_names_are : (names : Names) (e : Cubes) (sums : List Summands) → Fits names e → AreSums e.outs sums → port_names (network_of (lead names) names (wires e) sums) ≡ names.outputs
 unfolding network_of

@@ -2,6 +2,7 @@
 use Rattle.std.proofs.Common.{◌≡◌, ◌≢◌, ℕ, suc, ◌+◌, ◌%◌, Bool, true, false, not, ◌&&◌, ◌||◌, cond, ◌⊎◌, inl, inr, List, [], ◌∷◌, refl, sym, ap, ap₂, ◌∙◌, subst, arith, eqb, eq-eqb, ne_eqb}
 use Rattle.std.specs.Prelude.{filter, count_by}
 use Rattle.std.specs.List.{list_any, AllByRecursion}
+use Rattle.std.proofs.Math.Bool.{and-true}
 use Rattle.std.proofs.lemmas.Bool.{cases_Bool, cases_eq, false≢true, or_cases, or_left, or_right}
 use Rattle.std.proofs.lemmas.List.Sums.{sum_by-cons}
 use Rattle.ae_base.specs.Cube.{Product, holds, whole}
@@ -30,16 +31,12 @@ and_assoc : (a b c : Bool) → ((a && b) && c) ≡ (a && (b && c))
 and_assoc true b c = refl
 and_assoc false b c = refl
 
-and_true : (a : Bool) → (a && true) ≡ a
-and_true true = refl
-and_true false = refl
-
 joined_value : (t : Literal) (inner rest : Summands) (x : Set) → sum_value (joined t inner rest) x ≡ differ (literal_value t x && sum_value inner x) (sum_value rest x)
 joined_value t inner rest x =
     joined_by (λ s. sum_value s x ≡ sum_value inner x) (λ s. sum_value s x ≡ differ (literal_value t x && sum_value inner x) (sum_value rest x)) t inner rest refl
     (λ ls k. ap (λ b. differ b (sum_value rest x)) (holds-with t ls x ∙ ap (λ b. literal_value t x && b) (sym (differ-false (holds ls x)) ∙ k)))
     (λ ls deeper k. ap (λ b. differ b (sum_value rest x)) (ap (λ b. b && sum_value deeper x) (holds-with t ls x) ∙ and_assoc (literal_value t x) (holds ls x) (sum_value deeper x) ∙ ap (λ b. literal_value t x && b) (sym (differ-false (holds ls x && sum_value deeper x)) ∙ k)))
-    (λ k no. ap (λ b. differ (b && sum_value inner x) (sum_value rest x)) (holds-with t whole x ∙ ap (λ b. literal_value t x && b) (holds-whole x) ∙ and_true (literal_value t x)))
+    (λ k no. ap (λ b. differ (b && sum_value inner x) (sum_value rest x)) (holds-with t whole x ∙ ap (λ b. literal_value t x && b) (holds-whole x) ∙ and-true (literal_value t x)))
 
 and_differ : (a b c : Bool) → differ (a && b) (a && c) ≡ (a && differ b c)
 and_differ true b c = refl

@@ -1,9 +1,9 @@
 -- How the builder names gates, and that they have few pins.
-use Rattle.std.proofs.Common.{◌≡◌, ◌≢◌, ℕ, zero, suc, ◌+◌, ◌*◌, ◌-◌, ◌<◌, ◌≤◌, Bool, true, false, ◌&&◌, cond, inl, inr, List, [], ◌∷◌, ◌++◌, map, length, get_or, drop, refl, sym, ap, ap₂, ◌∙◌, subst, arith, eqb, eq-eqb, ne_eqb, length-append, length-drop, drop-cons}
+use Rattle.std.proofs.Common.{◌≡◌, ◌≢◌, ℕ, zero, suc, ◌+◌, ◌*◌, ◌-◌, ◌<◌, ◌≤◌, Bool, true, false, ◌&&◌, cond, inl, inr, List, [], ◌∷◌, ◌++◌, map, length, get_or, drop, refl, sym, ap, ap₂, ◌∙◌, subst, arith, eqb, eq-eqb, ne_eqb, length-append, length-drop, drop-cons, append_assoc}
 use Rattle.std.specs.Prelude.{codes, Some, slice_get}
 use Rattle.std.specs.Fmt.{decimal}
 use Rattle.std.specs.List.{AllByRecursion, position_or_len}
-use Rattle.std.proofs.lemmas.Bool.{cases_eq, cases_Bool, or_cases}
+use Rattle.std.proofs.lemmas.Bool.{cases_eq, cases_Bool, lt-ltb, or_cases}
 use Rattle.std.proofs.lemmas.List.{length-map}
 use Rattle.ae_base.specs.declared.limits.TheConstants.{NET_LINES, PINS}
 use Rattle.ae_base.specs.Mask.{has, either, first, inside, members}
@@ -18,7 +18,7 @@ use Rattle.factor.specs.declared.cells.Cell.TheVariants.{Zero, One, Inverter, Bu
 use Rattle.factor.specs.declared.cells.Factor.{Factor}
 use Rattle.factor.specs.declared.cells.Wires.{Wires}
 use Rattle.factor.specs.declared.literals.Literal.{Literal}
-use Rattle.factor.specs.Cells.{Part, Parts, pins_of, gate_of, literal_signal, literal_signals, are_excluded, join, joins, chain_of, closing, turned_by, parts, sum_part, with_buffer, output_cells}
+use Rattle.factor.specs.Cells.{Part, Parts, pins_of, gate_of, literal_signal, literal_signals, product_of, are_excluded, join, joins, chain_of, closing, turned_by, parts, sum_part, with_buffer, output_cells}
 use Rattle.factor.specs.Factored.{named, output_gates, ends}
 use Rattle.factor.specs.Literals.{stands}
 use Rattle.factor.specs.Plan.{most_gates}
@@ -55,7 +55,7 @@ named_more k c i out name xs x start now l here name_is e =
     ∙ ap₂ (λ (n : List ℕ) (y : Cell). gate_of n y ∷ named k (suc (c + i)) out (drop (suc i) xs)) (ap (name_of_cell k (c + i) out) (ap (λ n. eqb n 0) len ∙ last_same i (length xs) l) ∙ sym name_is) (sym here) in
     let more : List Gate = named k (suc (c + i)) out (drop (suc i) xs) in
     ap₂ (λ p q. (start ++ gate_of name x ∷ []) ++ named k p out (drop q xs)) s z
-    ∙ Rattle.std.proofs.Common.append_assoc start (gate_of name x ∷ []) more
+    ∙ append_assoc start (gate_of name x ∷ []) more
     ∙ ap (λ (gs : List Gate). start ++ gs) (sym first)
     ∙ e
 
@@ -65,13 +65,13 @@ abbrev pub FewPins : List Cell → Type 0
 FewPins cells = AllByRecursion (λ c. length (pins_of c) ≤ PINS) cells
 
 within_inside : (n : ℕ) (c : Product) → ((t : Literal) → stands t c ≡ true → t.input < n) → inside (either c.pos c.neg) (first n) ≡ true
-within_inside n c h = has-inside (either c.pos c.neg) (first n) (λ j m. has-first n j ∙ Rattle.std.proofs.lemmas.Bool.lt-ltb j n (elim (or_cases (has c.pos j) (has c.neg j) (sym (has-either c.pos c.neg j) ∙ m)) [ inl e ↦ h (lit j true) e | inr e ↦ h (lit j false) e ]))
+within_inside n c h = has-inside (either c.pos c.neg) (first n) (λ j m. has-first n j ∙ lt-ltb j n (elim (or_cases (has c.pos j) (has c.neg j) (sym (has-either c.pos c.neg j) ∙ m)) [ inl e ↦ h (lit j true) e | inr e ↦ h (lit j false) e ]))
 
 pub length-signals : (w : Wires) (n : ℕ) (c : Product) → ((t : Literal) → stands t c ≡ true → t.input < n) → length (literal_signals w c) ≤ n
 unfolding literal_signals
 length-signals w n c h = omega (arith, length-map (members (either c.pos c.neg)) (λ j. literal_signal w (has c.pos j) j), length-members n (either c.pos c.neg) (within_inside n c h))
 
-product_few : (k : ℕ) (signals : List ℕ) → length signals ≤ PINS → FewPins (Rattle.factor.specs.Cells.product_of k signals).cells
+product_few : (k : ℕ) (signals : List ℕ) → length signals ≤ PINS → FewPins (product_of k signals).cells
 product_few k signals l = elim (cases_Bool (eqb (length signals) 1)) [ inl e ↦ rw e tt | inr e ↦ rw e (l, tt) ]
 
 join_few : (earlier : List Factor) (line : ℕ) (f : Factor) → length (pins_of (join earlier line f)) ≤ PINS
@@ -133,7 +133,7 @@ outputs_more k w sums names o c inner s out now next all l m s_is out_is e i h =
     ∙ ap₂ (λ (t : Summands) (n : List ℕ). output_gates k w (w.inputs + length now) c (t ∷ drop (suc o) sums) (n ∷ drop (suc o) names)) (sym s_is) (sym out_is) in
     ap₂ (λ p q. next ++ output_gates k w p (c + q) (drop (suc o) sums) (drop (suc o) names)) len i
     ∙ ap (λ (gs : List Gate). gs ++ more) e
-    ∙ Rattle.std.proofs.Common.append_assoc now (named k c out cells) more
+    ∙ append_assoc now (named k c out cells) more
     ∙ ap (λ (gs : List Gate). now ++ gs) (sym first)
     ∙ h
 
@@ -152,7 +152,7 @@ ends_more k c w sums o inner port s out now next ports all l s_is e i p h =
     ∙ ap (λ (t : Summands). ends w (w.inputs + length now) (t ∷ drop (suc o) sums)) (sym s_is)
     ∙ ap (λ n. n ∷ more) (sym port_is) in
     ap (λ n. (ports ++ port ∷ []) ++ ends w n (drop (suc o) sums)) len
-    ∙ Rattle.std.proofs.Common.append_assoc ports (port ∷ []) more
+    ∙ append_assoc ports (port ∷ []) more
     ∙ ap (λ (ns : List ℕ). ports ++ ns) (sym first)
     ∙ h
 

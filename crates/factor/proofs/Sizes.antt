@@ -78,22 +78,11 @@ close_le zero b = omega arith
 close_le (suc n) true = omega arith
 close_le (suc n) false = omega arith
 
-close_part : (n : ℕ) (b : Bool) → 0 < n → close_count n b ≤ n
-close_part zero b l = absurd (omega (arith, l))
-close_part (suc n) true l = omega arith
-close_part (suc n) false l = omega arith
-
 pub length-sum : (w : Wires) (k : ℕ) (s : Summands) → length (sum_part w k s).cells ≡ length (parts w k s).cells + close_count (width s) (has_constant s)
 length-sum w k s =
     ap (λ (p : Part). length p.cells) (sum_part-is w k s)
     ∙ length-append (parts w k s).cells (closing (k + length (parts w k s).cells) (has_constant s) (parts w k s).factors).cells
     ∙ ap (λ n. length (parts w k s).cells + n) (length-closing (k + length (parts w k s).cells) (has_constant s) (parts w k s).factors ∙ ap (λ n. close_count n (has_constant s)) (length-factors w k s))
-
--- where there is no summand there is no gate of one
-no_parts : (w : Wires) (k : ℕ) (s : Summands) → width s ≡ 0 → length (parts w k s).cells ≡ 0
-no_parts w k (end b) h = ap (λ (p : Parts). length p.cells) (parts-end w k b)
-no_parts w k (literals ls rest) h = absurd (omega (arith, h))
-no_parts w k (factored ls inner rest) h = absurd (omega (arith, h))
 
 pub parts_bound : (w : Wires) (k : ℕ) (s : Summands) → length (parts w k s).cells + width s ≤ 3 * nodes s
 parts_bound w k (end b) = omega (arith, ap (λ (p : Parts). length p.cells) (parts-end w k b))

@@ -1,5 +1,6 @@
 -- Literals of products: with one more, without one, and where a product holds.
 use Rattle.std.proofs.Common.{◌≡◌, ◌≢◌, ℕ, Bool, true, false, not, ◌&&◌, ◌||◌, ◌⊎◌, cond, inl, inr, refl, sym, ap, ap₂, ◌∙◌, eqb, eqb-true, eq-eqb, ne_eqb, arith}
+use Rattle.std.proofs.Math.Bool.{and-true, and-false}
 use Rattle.std.proofs.lemmas.Bool.{cases_Bool, cases_eq, false≢true, and_parts, and_from, or_cases, or_left, or_right, not-true}
 use Rattle.ae_base.specs.Mask.{Set, differ, has, empty}
 use Rattle.ae_base.specs.Cube.{Product, holds, whole, is_free, IsProduct}
@@ -36,51 +37,19 @@ cases_same u t = elim (cases_Bool (is_same u t)) [ inl e ↦ inl (same_is u t e)
 -- ---- one literal more or less
 
 stands_with : (a b : Bool) (j k : ℕ) (c : Product) → stands (lit k b) (cube.with c j a) ≡ (is_same (lit k b) (lit j a) || stands (lit k b) c)
-stands_with true true j k c = has-with c.pos j k ∙ ap (λ v. v || has c.pos k) (sym (kept (eqb k j)))
-  where
-    kept : (v : Bool) → (v && true) ≡ v
-    kept true = refl
-    kept false = refl
-stands_with true false j k c = ap (λ v. v || has c.neg k) (sym (lost (eqb k j)))
-  where
-    lost : (v : Bool) → (v && false) ≡ false
-    lost true = refl
-    lost false = refl
-stands_with false true j k c = ap (λ v. v || has c.pos k) (sym (lost (eqb k j)))
-  where
-    lost : (v : Bool) → (v && false) ≡ false
-    lost true = refl
-    lost false = refl
-stands_with false false j k c = has-with c.neg j k ∙ ap (λ v. v || has c.neg k) (sym (kept (eqb k j)))
-  where
-    kept : (v : Bool) → (v && true) ≡ v
-    kept true = refl
-    kept false = refl
+stands_with true true j k c = has-with c.pos j k ∙ ap (λ v. v || has c.pos k) (sym (and-true (eqb k j)))
+stands_with true false j k c = ap (λ v. v || has c.neg k) (sym (and-false (eqb k j)))
+stands_with false true j k c = ap (λ v. v || has c.pos k) (sym (and-false (eqb k j)))
+stands_with false false j k c = has-with c.neg j k ∙ ap (λ v. v || has c.neg k) (sym (and-true (eqb k j)))
 
 pub stands-with : (u t : Literal) (c : Product) → stands u (with_literal t c) ≡ (is_same u t || stands u c)
 stands-with u t c = stands_with t.plain u.plain t.input u.input c
 
 stands_without : (a b : Bool) (j k : ℕ) (c : Product) → stands (lit k b) (without_literal (lit j a) c) ≡ (not (is_same (lit k b) (lit j a)) && stands (lit k b) c)
-stands_without true true j k c = has-without c.pos j k ∙ ap (λ v. not v && has c.pos k) (sym (kept (eqb k j)))
-  where
-    kept : (v : Bool) → (v && true) ≡ v
-    kept true = refl
-    kept false = refl
-stands_without true false j k c = ap (λ v. not v && has c.neg k) (sym (lost (eqb k j)))
-  where
-    lost : (v : Bool) → (v && false) ≡ false
-    lost true = refl
-    lost false = refl
-stands_without false true j k c = ap (λ v. not v && has c.pos k) (sym (lost (eqb k j)))
-  where
-    lost : (v : Bool) → (v && false) ≡ false
-    lost true = refl
-    lost false = refl
-stands_without false false j k c = has-without c.neg j k ∙ ap (λ v. not v && has c.neg k) (sym (kept (eqb k j)))
-  where
-    kept : (v : Bool) → (v && true) ≡ v
-    kept true = refl
-    kept false = refl
+stands_without true true j k c = has-without c.pos j k ∙ ap (λ v. not v && has c.pos k) (sym (and-true (eqb k j)))
+stands_without true false j k c = ap (λ v. not v && has c.neg k) (sym (and-false (eqb k j)))
+stands_without false true j k c = ap (λ v. not v && has c.pos k) (sym (and-false (eqb k j)))
+stands_without false false j k c = has-without c.neg j k ∙ ap (λ v. not v && has c.neg k) (sym (and-true (eqb k j)))
 
 pub stands-without : (u t : Literal) (c : Product) → stands u (without_literal t c) ≡ (not (is_same u t) && stands u c)
 stands-without u t c = stands_without t.plain u.plain t.input u.input c

@@ -26,7 +26,7 @@ use Rattle.factor.specs.declared.cells.Cell.TheVariants.{Zero, One, Inverter, Bu
 use Rattle.factor.specs.declared.cells.Factor.{Factor}
 use Rattle.factor.specs.declared.cells.Wires.{Wires}
 use Rattle.factor.specs.declared.literals.Literal.{Literal}
-use Rattle.factor.specs.Cells.{Part, Parts, pins_of, rows_of, gate_of, literal_signal, literal_signals, product_of, are_excluded, join, joins, last_of, chain_of, closing, turned_by, parts, sum_part, output_cells}
+use Rattle.factor.specs.Cells.{Part, Parts, before, pins_of, rows_of, gate_of, literal_signal, literal_signals, product_of, are_excluded, join, joins, last_of, chain_of, closing, turned_by, parts, sum_part, output_cells}
 use Rattle.factor.specs.Factored.{inverters, named, output_gates, ends}
 use Rattle.factor.specs.Literals.{stands}
 use Rattle.factor.specs.Plan.{most_gates}
@@ -134,9 +134,6 @@ joins_read : (k line : ℕ) (earlier fs : List Factor) → line < k → Before k
 joins_read k line earlier [] l h = tt
 joins_read k line earlier (f ∷ fs) l (h, hs) = (join_reads k earlier line f l h, joins_read (suc k) k (earlier ++ f ∷ []) fs (omega arith) (later k (suc k) fs (omega arith) hs))
 
-last_below : (k line n : ℕ) → line < k → last_of k line n < k + n + 1
-last_below k line n l = elim (cases_eq n 0) [ inl e ↦ rw (eq-eqb n 0 e) (omega (arith, l)) | inr some ↦ rw (ne_eqb n 0 some) (omega (arith, some)) ]
-
 last_before : (k line n : ℕ) → line < k → last_of k line n < k + n
 last_before k line n l = elim (cases_eq n 0) [ inl e ↦ rw (eq-eqb n 0 e) (omega (arith, l, e)) | inr some ↦ rw (ne_eqb n 0 some) (omega (arith, some)) ]
 
@@ -163,7 +160,7 @@ pub record PartsRead (k : ℕ) (p : Parts) : Type 0 where
   pub factors : Before (k + length p.cells) p.factors
 
 -- one part before others
-part_before : (k : ℕ) (ls : Product) (part : Part) (rest : Parts) → EachReads k part.cells → part.signal < k + length part.cells → PartsRead (k + length part.cells) rest → PartsRead k (Rattle.factor.specs.Cells.before ls part rest)
+part_before : (k : ℕ) (ls : Product) (part : Part) (rest : Parts) → EachReads k part.cells → part.signal < k + length part.cells → PartsRead (k + length part.cells) rest → PartsRead k (before ls part rest)
 part_before k ls part rest h l more =
     let len = length-append part.cells rest.cells in
     record {

@@ -2,6 +2,7 @@
 use Rattle.std.proofs.Common.{◌≡◌, ◌≢◌, ℕ, zero, suc, ◌+◌, ◌-◌, ◌<◌, ◌≤◌, Bool, true, false, not, ◌&&◌, ◌||◌, cond, inl, inr, List, [], ◌∷◌, ◌++◌, length, map, refl, sym, ap, ap₂, ◌∙◌, subst, arith, eqb, eq-eqb, ne_eqb, append-nil, append_assoc, length-append, add-zero}
 use Rattle.std.specs.Prelude.{None, slice_index}
 use Rattle.std.specs.List.{list_any, list_all, AllByRecursion, position_or_len}
+use Rattle.std.proofs.Math.Bool.{and-true}
 use Rattle.std.proofs.lemmas.Bool.{cases_Bool, cases_eq, false≢true, and_parts, and_from, or_cases, or_left, or_right}
 use Rattle.std.proofs.lemmas.List.Folds.{list_all-map}
 use Rattle.ae_base.specs.Mask.{Set, differ, has, either, members}
@@ -175,22 +176,14 @@ sum_shows w v x k s shown cells = ap (λ (p : Part). value_of v p.signal) (sum_p
 
 all_one : (v : List Bool) (signals : List ℕ) → eqb (length signals) 1 ≡ true → value_of v (slice_index signals 0) ≡ list_all (λ s. value_of v s) signals
 all_one v [] h = absurd (false≢true h)
-all_one v (s ∷ []) h = sym (and_true (value_of v s))
-  where
-    and_true : (a : Bool) → (a && true) ≡ a
-    and_true true = refl
-    and_true false = refl
+all_one v (s ∷ []) h = sym (and-true (value_of v s))
 all_one v (s ∷ r ∷ ss) h = absurd (false≢true (sym (ne_eqb (suc (suc (length ss))) 1 (λ e. absurd (omega (arith, e)))) ∙ h))
 
 product_value : (v : List Bool) (k : ℕ) (signals : List ℕ) → EachCell v k (product_of k signals).cells → value_of v (product_of k signals).signal ≡ list_all (λ s. value_of v s) signals
 product_value v k signals = elim (cases_Bool (eqb (length signals) 1)) [ inl e ↦ rw e (λ cells. all_one v signals e) | inr e ↦ rw e (λ cells. cells.0) ]
 
 all_append : (v : List Bool) (a : List ℕ) (s : ℕ) → list_all (λ t. value_of v t) (a ++ s ∷ []) ≡ (list_all (λ t. value_of v t) a && value_of v s)
-all_append v [] s = and_true (value_of v s)
-  where
-    and_true : (a : Bool) → (a && true) ≡ a
-    and_true true = refl
-    and_true false = refl
+all_append v [] s = and-true (value_of v s)
 all_append v (t ∷ a) s = ap (λ b. value_of v t && b) (all_append v a s) ∙ assoc (value_of v t) (list_all (λ r. value_of v r) a) (value_of v s)
   where
     assoc : (a b c : Bool) → (a && (b && c)) ≡ ((a && b) && c)

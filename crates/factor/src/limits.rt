@@ -1,4 +1,4 @@
 //! The limit of the factored form.
 
 /// The most cubes of all outputs of a factored network.
-pub const FACTORED_CUBES: usize = 1_024;
+pub const FACTORED_CUBES: u64 = 1_024;

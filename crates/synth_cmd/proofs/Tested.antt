@@ -10,9 +10,9 @@ use Rattle.synth_cmd.specs.Telling.{WritesMade}
 
 module _ (holds : (held : Option Shelf) (name bytes : List ℕ) → Holds (written held name bytes) name bytes)
     (others : (held : Option Shelf) (name q bytes wanted : List ℕ) → q ≢ name → Holds held q wanted → Holds (written held name bytes) q wanted) where
-  pub tested : (settings : Settings) (source net vectors : List ℕ) (texts : Texts) (old new : Option Shelf) (before after : List Advised) → net ≢ vectors
-      → WritesMade settings (HoldsText old source) before after (net ∷ vectors ∷ []) texts old new → Tested settings (Holds old source) net vectors new before after
-  tested settings source net vectors texts old new before after apart made =
+  pub tested : (settings : Settings) (source net vectors : List ℕ) (texts : Texts) (before after : List Advised) (old new : Option Shelf) → net ≢ vectors
+      → WritesMade settings (HoldsText old source) before after (net ∷ vectors ∷ []) texts old new → Tested settings (Holds old source) net vectors new
+  tested settings source net vectors texts before after old new apart made =
       let of = made.is_made in
       record {
         bytes = of.bytes;
@@ -20,7 +20,6 @@ module _ (holds : (held : Option Shelf) (name bytes : List ℕ) → Holds (writt
         source = of.is_made.within.source;
         says = of.is_made.within.expanded.says;
         polarity = of.is_made.polarity;
-        is_polarity = of.is_made.is_polarity;
         net_bytes = texts.net_text;
         net_holds = subst (λ held. Holds held net texts.net_text) (sym made.whole) (others (written old net texts.net_text) vectors net texts.vec_text texts.net_text apart (holds old net texts.net_text));
         vec_bytes = texts.vec_text;

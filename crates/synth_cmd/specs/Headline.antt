@@ -1,31 +1,26 @@
--- The headline of a call, by what the files hold and what the advisors are before and after it.
+-- The headline of a call, by what the files hold before and after it.
 use Rattle.std.specs.Prelude.{◌≡◌, ℕ, Ok, List, Option, Some, IfSome}
 use Rattle.std.specs.FinMap.{get}
 use Rattle.ae_base.specs.Cube.{Signs}
 use Rattle.ae_base.specs.Source.{Source}
 use Rattle.ae_outside.specs.Files.{Shelf}
-use Rattle.polarity.specs.Search.{Advised}
-use Rattle.synth_core.specs.Asked.{terms_limit}
 use Rattle.synth_core.specs.Headline.{Headline}
 use Rattle.synth_core.specs.Says.{source_says}
-use Rattle.synth_core.specs.Searched.{IsPolarity}
 use Rattle.synth_core.specs.declared.settings.Settings.{Settings}
 use Rattle.synth_cmd.specs.Asked.{Asked}
 use Rattle.synth_cmd.specs.Asked.Asked.{Refused, Synth}
-use Rattle.synth_cmd.specs.Outside.{Outside}
 
 -- The name holds these bytes, where the files tell what they hold.
 abbrev pub Holds : Option Shelf → List ℕ → List ℕ → Type 0
 Holds held name bytes = IfSome held (λ m. get m name ≡ Some bytes)
 
 -- The source was bytes that say a source, and NET and VEC hold bytes of which the headline speaks.
-pub record Tested (settings : Settings) (Was : List ℕ → Type 0) (net vectors : List ℕ) (held : Option Shelf) (before after : List Advised) : Type 0 where
+pub record Tested (settings : Settings) (Was : List ℕ → Type 0) (net vectors : List ℕ) (held : Option Shelf) : Type 0 where
   pub bytes : List ℕ
   pub was : Was bytes
   pub source : Source
   pub says : source_says settings.kind bytes ≡ Ok source
   pub polarity : Signs
-  pub is_polarity : IsPolarity settings.polarity (terms_limit settings.form) source before after polarity
   pub net_bytes : List ℕ
   pub net_holds : Holds held net net_bytes
   pub vec_bytes : List ℕ
@@ -33,6 +28,6 @@ pub record Tested (settings : Settings) (Was : List ℕ → Type 0) (net vectors
   pub headline : Headline settings.form polarity source net_bytes vec_bytes
 
 -- what stands where a command is done, by what was before and is now
-abbrev pub HasHeadline : Asked → (old new : Outside) → Type 0
+abbrev pub HasHeadline : Asked → (old new : Option Shelf) → Type 0
 HasHeadline Refused old new = ⊥
-HasHeadline (Synth settings source net vectors) old new = Tested settings (Holds old.held source) net vectors new.held old.advisors new.advisors
+HasHeadline (Synth settings source net vectors) old new = Tested settings (Holds old source) net vectors new

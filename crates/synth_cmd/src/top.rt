@@ -33,8 +33,7 @@ fn synth_work<F: Files, K: Sink>(
         (outside F.held F.read_faults F.write_faults K.taken K.faults files.new report.new
         (map (λ b. advised (left b) (log b)) advisors.new.items))
         result }
-    ensures headline { result ≡ DONE → Tested settings.now (Holds (F.held files.old) names.now.source.now) names.now.net.now names.now.vectors.now (F.held files.new)
-        (map (λ b. advised (left b) (log b)) advisors.old.items) (map (λ b. advised (left b) (log b)) advisors.new.items) }
+    ensures headline { result ≡ DONE → Tested settings.now (Holds (F.held files.old) names.now.source.now) names.now.net.now names.now.vectors.now (F.held files.new) }
     ensures reads { CountsAmong (names.now.source.now ∷ []) (F.read_faults files.old) (F.read_faults files.new) }
     ensures writes { CountsAmong (names.now.net.now ∷ names.now.vectors.now ∷ []) (F.write_faults files.old) (F.write_faults files.new) }
     ensures faults { K.faults report.old ≤ K.faults report.new }
@@ -66,8 +65,7 @@ fn synth_command<F: Files, K: Sink>(
         (outside F.held F.read_faults F.write_faults K.taken K.faults files.new report.new
         (map (λ b. advised (left b) (log b)) advisors.new.items))
         result }
-    ensures headline { result ≡ DONE → Tested settings.now (Holds (F.held files.old) names.now.source.now) names.now.net.now names.now.vectors.now (F.held files.new)
-        (map (λ b. advised (left b) (log b)) advisors.old.items) (map (λ b. advised (left b) (log b)) advisors.new.items) }
+    ensures headline { result ≡ DONE → Tested settings.now (Holds (F.held files.old) names.now.source.now) names.now.net.now names.now.vectors.now (F.held files.new) }
 {
     one_answer_law();
     synth_work(alloc, files, report, settings, names, advisors)
@@ -103,11 +101,7 @@ pub fn run<F: Files, K: Sink>(
     advisors: &mut Vec<Box<dyn Advisor>>,
 ) -> u8
     // The written network, its vectors, and what they detect.
-    ensures headline { result ≡ DONE → HasHeadline (asked words.now)
-        (outside F.held F.read_faults F.write_faults K.taken K.faults files.old report.old
-        (map (λ b. advised (left b) (log b)) advisors.old.items))
-        (outside F.held F.read_faults F.write_faults K.taken K.faults files.new report.new
-        (map (λ b. advised (left b) (log b)) advisors.new.items)) }
+    ensures headline { result ≡ DONE → HasHeadline (asked words.now) (F.held files.old) (F.held files.new) }
     // What stands after each status, and when it comes.
     ensures ends { Ends (asked words.now)
         (outside F.held F.read_faults F.write_faults K.taken K.faults files.old report.old

@@ -24,9 +24,9 @@ use Rattle.blif_read.specs.Says.{blif_says}
 use Rattle.esop.specs.Esop.{Cubes, HasValueOf, esop_value}
 use Rattle.expansion.specs.Functions.{AreExpansions}
 use Rattle.expansion.specs.Terms.{Terms, cost}
-use Rattle.factor.specs.Shows.{cube_count}
 use Rattle.fn_store.specs.Davio.{IsExpansion}
 use Rattle.vec_text.specs.declared.file.Form.TheVariants.{Factored}
+use Rattle.vec_text.specs.Says.{vec_says}
 use Rattle.vec_text.specs.VectorFile.{VectorFile, IsValidVectorFile, vector_text}
 use Rattle.synth_core.specs.declared.made.Summary.{Summary}
 use Rattle.synth_core.specs.Headline.{IsWritten}
@@ -67,7 +67,7 @@ module _ (s : Source) (e : Terms) (are : AreExpansions s e.polarity e) (cubes : 
   values : (x : Set) → IsPoint (length s.inputs) x → (ys : Set) × Shows n None x ys × AreSpecified s x ys
   values x point = ((net.values x).0, (net.values x).1, λ o within. meets (s.specified o x) (has (net.values x).0 o) (low_is x point o within))
 
-  module _ (file_valid : IsValidVectorFile file) (again : blif_says Written (blif_text n) ≡ Ok n)
+  module _ (file_valid : IsValidVectorFile file) (again : blif_says Written (blif_text n) ≡ Ok n) (said : vec_says (vector_text file) ≡ Ok file)
       (shows : (n : Network) (fault : Option Fault) (x : Set) → IsValid n → Shows n fault x (out n fault x)) where
     abbrev is_written : IsWritten s (blif_text n) (vector_text file)
     is_written = record {
@@ -76,7 +76,7 @@ module _ (s : Source) (e : Terms) (are : AreExpansions s e.polarity e) (cubes : 
       valid = net.valid;
       implements = record { ports = net.names_are.ports; inputs = inl net.names_are.inputs; values = values };
       file = file;
-      is_text = refl;
+      says = said;
       file_valid = file_valid;
       inputs = refl;
       outputs = sym net.names_are.ports;
@@ -88,12 +88,12 @@ module _ (s : Source) (e : Terms) (are : AreExpansions s e.polarity e) (cubes : 
 
     pub is_factored : ((names : Names) → IsLead names (lead names)) → (summary : Summary) → AreNumbers s e n file summary
         → IsSynthesised Factored e.polarity s e (record { net_text = blif_text n; vec_text = vector_text file; summary = summary })
-    unfolding cube_count
     is_factored is_lead summary numbers = record {
       headline = record { written = is_written; has_form = refl; has_polarity = refl; tested = record { no_control = net.names_are.inputs; complete = subst (IsComplete n) (sym points_are) tests.complete } };
       model = net.names_are.model;
       low = low;
       net_text = refl;
+      vec_text = refl;
       of_form = record {
         cubes = cubes;
         rewritten = rewritten.are;

@@ -78,7 +78,6 @@ values_of p (x ∷ xs) (y ∷ ys) (z ∷ zs) a b = ((λ t. b.0 t ∙ a.0 t), val
 
 pub are_rewritten : (e : Terms) (made cubes : Cubes) → made ≡ esop_of e → AllZip (HasValueOf e.polarity) e.outs made.outs → AllZip (λ ts cs. length cs ≡ length ts) e.outs made.outs
     → cubes ≡ rewritten_lists made → AllZip HasSameValue made.outs cubes.outs → AllZip (λ cs ds. length ds ≤ length cs) made.outs cubes.outs → AreSettled cubes → AreRewritten e cubes
-unfolding cube_count
 are_rewritten e made cubes is values count rewritten same fewer settled = record {
   are = rewritten ∙ ap rewritten_lists is;
   settled = settled;

@@ -175,7 +175,7 @@ module _ (only : (n : Network) (fault : Option Fault) (x ys : Set) → IsValid n
       one_net = a.net_text ∙ ap blif_text both.nets ∙ sym b.net_text
 
       one_vec : ta.vec_text ≡ tb.vec_text
-      one_vec = a.headline.written.is_text ∙ ap vector_text files ∙ sym b.headline.written.is_text
+      one_vec = a.vec_text ∙ ap vector_text files ∙ sym b.vec_text
 
       one_summary : ta.summary ≡ tb.summary
       one_summary =

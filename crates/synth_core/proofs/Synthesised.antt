@@ -28,6 +28,7 @@ use Rattle.cascade.specs.Shows.{ShowsFunctions, ShowsComplements, HasInputNames,
 use Rattle.input_tests.specs.Complete.{DetectsAll}
 use Rattle.input_tests.specs.Whole.{cascade_tests, vector_bound}
 use Rattle.vec_text.specs.declared.file.Form.TheVariants.{Reddy}
+use Rattle.vec_text.specs.Says.{vec_says}
 use Rattle.vec_text.specs.VectorFile.{VectorFile, IsValidVectorFile, vector_text}
 use Rattle.synth_core.specs.declared.made.Summary.{Summary}
 use Rattle.synth_core.specs.Headline.{IsWritten, IsReddyTested}
@@ -94,7 +95,7 @@ module _ (s : Source) (e : Terms) (are : AreExpansions s e.polarity e) where
     values : (x : Set) → IsPoint k x → (ys : Set) × Shows net None x ys × AreSpecified s x ys
     values x point = (out net None x, shows net None x valid, λ o within. meets (s.specified o x) (has (out net None x) o) (low_is x point o within))
 
-    module _ (file_valid : IsValidVectorFile file) (again : blif_says Written (blif_text net) ≡ Ok net) where
+    module _ (file_valid : IsValidVectorFile file) (again : blif_says Written (blif_text net) ≡ Ok net) (said : vec_says (vector_text file) ≡ Ok file) where
       abbrev is_written : IsWritten s (blif_text net) (vector_text file)
       is_written = record {
         net = net;
@@ -102,7 +103,7 @@ module _ (s : Source) (e : Terms) (are : AreExpansions s e.polarity e) where
         valid = valid;
         implements = record { ports = ports; inputs = inr inputs; values = values };
         file = file;
-        is_text = refl;
+        says = said;
         file_valid = file_valid;
         inputs = refl;
         outputs = sym ports;
@@ -126,6 +127,7 @@ module _ (s : Source) (e : Terms) (are : AreExpansions s e.polarity e) where
           model = refl;
           low = low;
           net_text = refl;
+          vec_text = refl;
           of_form = record {
             underscores = lead (names_of s);
             is_lead = is_lead (names_of s);

@@ -15,7 +15,8 @@ use Rattle.input_tests.specs.Whole.{vector_bound}
 use Rattle.test_gen.specs.Undetectable.{IsComplete}
 use Rattle.vec_text.specs.declared.file.Form.{Form}
 use Rattle.vec_text.specs.declared.file.Form.TheVariants.{Reddy, Factored}
-use Rattle.vec_text.specs.VectorFile.{VectorFile, IsValidVectorFile, vector_text}
+use Rattle.vec_text.specs.Says.{vec_says}
+use Rattle.vec_text.specs.VectorFile.{VectorFile, IsValidVectorFile}
 
 -- ---- in both forms
 
@@ -27,9 +28,9 @@ pub record IsWritten (s : Source) (net_bytes vec_bytes : List ℕ) : Type 0 wher
   pub valid : IsValid net
   -- which with the control low gives every output value that the source specifies.
   pub implements : Implements net s
-  -- The other bytes are the text of a vector file with the names of the network,
+  -- The other bytes say a vector file with the names of the network,
   pub file : VectorFile
-  pub is_text : vec_bytes ≡ vector_text file
+  pub says : vec_says vec_bytes ≡ Ok file
   pub file_valid : IsValidVectorFile file
   pub inputs : file.inputs ≡ net.inputs
   pub outputs : file.outputs ≡ port_names net

@@ -32,7 +32,7 @@ use Rattle.vec_text.specs.declared.file.Form.{Form}
 use Rattle.test_gen.specs.Tests.{tests_of}
 use Rattle.vec_text.specs.declared.file.EsopLine.{EsopLine}
 use Rattle.vec_text.specs.declared.file.Form.TheVariants.{Reddy, Factored}
-use Rattle.vec_text.specs.VectorFile.{VectorFile}
+use Rattle.vec_text.specs.VectorFile.{VectorFile, vector_text}
 
 -- the texts of a network and of its vectors, and their numbers
 pub record Texts : Type 0 where
@@ -113,6 +113,7 @@ pub record IsSynthesised (form : Form) (p : Signs) (s : Source) (e : Terms) (tex
   pub model : headline.written.net.model ≡ s.model
   pub low : (x : Set) → IsPoint (length s.inputs) x → ShowsAt headline.written.net x (length s.outputs) (λ o. on_set s o x)
   pub net_text : texts.net_text ≡ blif_text headline.written.net
+  pub vec_text : texts.vec_text ≡ vector_text headline.written.file
   pub of_form : IsOfForm form s e headline.written.net headline.written.file
   pub numbers : AreNumbers s e headline.written.net headline.written.file texts.summary
 

@@ -23,6 +23,7 @@ use cascade::reddy_law;
 use expansion::even_law;
 use fn_store::expansion_law;
 use input_tests::input_law;
+use vec_text::said_again as vectors_said_again;
 
 /// Of the names and the expansions of a source, within the limit on terms: the file over the vectors of the cascade keeps the rules of a
 /// vector file, and the texts of the Reddy network and of that file, with their numbers, are what a synthesis makes of the source. Here,
@@ -39,6 +40,7 @@ pub fn synthesis_law()
     lead_law();
     said_law();
     said_again();
+    vectors_said_again();
     reddy_law();
     even_law();
     expansion_law();
@@ -59,6 +61,7 @@ pub fn factored_synthesis_law()
     lead_law();
     said_law();
     said_again();
+    vectors_said_again();
     expansion_law();
     one_run();
 }
