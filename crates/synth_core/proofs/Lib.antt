@@ -1,12 +1,15 @@
 pub mod Exact
 pub mod Factored
 pub mod Filed
+pub mod Graded
 pub mod Limits
 pub mod Lines
 pub mod Meaning
 pub mod OneAnswer
+pub mod Paired
 pub mod Remade
 pub mod Selected
 pub mod Shown
 pub mod Sources
 pub mod Synthesised
+pub mod VectorsFew

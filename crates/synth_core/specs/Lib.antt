@@ -1,8 +1,10 @@
 pub mod Asked
 pub mod Errors
+pub mod Grade
 pub mod Headline
 pub mod Listed
 pub mod Made
+pub mod PairErrors
 pub mod Says
 pub mod Searched
 pub mod Sourced

@@ -88,7 +88,7 @@ fn cover_source(alloc: Global, cover: &Cover, polarity: Polarity) -> Result<Sour
 }
 
 /// The names of the output ports: each has the name of the gate whose signal it shows.
-fn port_names(alloc: Global, net: &Net) -> Result<Seq<Name>, Memory>
+pub fn port_names(alloc: Global, net: &Net) -> Result<Seq<Name>, Memory>
     ensures { IfOk result (λ names. names ≡ port_names net.now) }
 {
     let first = net.inputs().len();
