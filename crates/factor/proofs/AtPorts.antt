@@ -1,11 +1,11 @@
 -- What the factored network shows at its ports.
-use Rattle.std.proofs.Common.{◌≡◌, ◌≢◌, ℕ, zero, suc, ◌+◌, ◌-◌, ◌<◌, ◌≤◌, Bool, true, false, not, ◌&&◌, ◌||◌, cond, inl, inr, List, [], ◌∷◌, ◌++◌, length, map, refl, sym, ap, ap₂, ◌∙◌, subst, arith, eqb, eqb-true, eq-eqb, ne_eqb, append-nil, length-append, add-zero}
-use Rattle.std.specs.Prelude.{Some, None, slice_get, slice_index, codes, Option}
+use Rattle.std.proofs.Common.{◌≡◌, ◌≢◌, ℕ, zero, suc, ◌+◌, ◌-◌, ◌<◌, Bool, true, false, not, ◌||◌, cond, inl, inr, List, [], ◌∷◌, ◌++◌, length, map, refl, sym, ap, ap₂, ◌∙◌, subst, arith, eqb, eq-eqb, ne_eqb, append-nil, length-append, add-zero}
+use Rattle.std.specs.Prelude.{Some, None, slice_get, slice_index, codes}
 use Rattle.std.specs.List.{list_any, AllByRecursion, position_or_len}
 use Rattle.std.specs.Fmt.{decimal}
-use Rattle.std.proofs.lemmas.Bool.{cases_Bool, cases_eq, false≢true, or_cases}
+use Rattle.std.proofs.lemmas.Bool.{cases_Bool, cases_eq, false≢true}
 use Rattle.std.proofs.lemmas.List.{nil_from_length}
-use Rattle.ae_base.specs.Mask.{Set, differ, has, empty}
+use Rattle.ae_base.specs.Mask.{Set, has}
 use Rattle.ae_base.specs.Cube.{Product}
 use Rattle.ae_base.proofs.Truth.{or-false}
 use Rattle.ae_base.proofs.Sets.{has-where_below}
@@ -20,17 +20,16 @@ use Rattle.factor.specs.declared.cells.Cell.{Cell}
 use Rattle.factor.specs.declared.cells.Cell.TheVariants.{Zero, One, Inverter, Buffer, And, Exor, Or}
 use Rattle.factor.specs.declared.cells.Factor.{Factor}
 use Rattle.factor.specs.declared.cells.Wires.{Wires}
-use Rattle.factor.specs.declared.literals.Literal.{Literal}
-use Rattle.factor.specs.Cells.{Part, Parts, gate_of, literal_signal, literal_signals, product_of, before, last_of, chain_of, closing, turned_by, parts, sum_part, with_buffer, output_cells}
+use Rattle.factor.specs.Cells.{Part, Parts, gate_of, literal_signal, literal_signals, product_of, before, chain_of, closing, turned_by, parts, sum_part, output_cells}
 use Rattle.factor.specs.Factored.{inverters, named, output_gates, ends}
 use Rattle.factor.specs.Sums.{Summands, has_constant, sum_value}
 use Rattle.factor.specs.Sums.Summands.{end, literals, factored}
 use Rattle.factor.proofs.Bounds.{width}
 use Rattle.factor.proofs.Naming.{length-named}
-use Rattle.factor.proofs.Sizes.{literals_part, factored_part, parts-end, parts-literals, parts-factored, sum_part-is, closing_some, close_count, length-closing, length-joins, length-turned, length-sum, length-factors, output_some}
-use Rattle.factor.proofs.Standing.{lit, literal_value, holds-whole}
+use Rattle.factor.proofs.Sizes.{literals_part, factored_part, parts-end, parts-literals, parts-factored, sum_part-is, closing_some, close_count, length-closing, length-joins, length-turned, length-factors}
+use Rattle.factor.proofs.Standing.{holds-whole}
 use Rattle.factor.proofs.Values.{EachCell, cell_value, LiteralsShow, part_shows}
-use Rattle.factor.proofs.Wired.{Wired, Ready}
+use Rattle.factor.proofs.Wired.{Ready}
 
 -- ---- the result of a sum is its last gate
 

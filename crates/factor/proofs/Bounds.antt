@@ -1,18 +1,17 @@
 -- How many summands and joining gates a sum has.
-use Rattle.std.proofs.Common.{◌≡◌, ◌≢◌, ℕ, suc, ◌+◌, ◌-◌, ◌*◌, ◌<◌, ◌≤◌, min, Bool, true, false, not, ◌&&◌, ◌||◌, cond, ◌⊎◌, inl, inr, List, [], ◌∷◌, length, refl, sym, ap, ◌∙◌, subst, arith}
-use Rattle.std.specs.Prelude.{filter}
-use Rattle.std.specs.List.{list_any, AllByRecursion}
-use Rattle.std.proofs.lemmas.Bool.{cases_Bool, false≢true, or_cases, or_left, or_right}
-use Rattle.ae_base.specs.Cube.{Product, whole}
+use Rattle.std.proofs.Common.{◌≡◌, ◌≢◌, ℕ, suc, ◌+◌, ◌-◌, ◌*◌, ◌<◌, ◌≤◌, min, Bool, true, false, not, cond, inl, inr, List, [], ◌∷◌, length, refl, sym, ap, ◌∙◌, arith}
+use Rattle.std.specs.List.{list_any}
+use Rattle.std.proofs.lemmas.Bool.{cases_Bool, false≢true}
+use Rattle.ae_base.specs.Cube.{Product}
 use Rattle.ae_base.proofs.Distinct.{Distinct, Distinct-filter}
 use Rattle.factor.specs.declared.literals.Literal.{Literal}
-use Rattle.factor.specs.Literals.{stands, is_empty, with_literal, count, holding, others, IsMost, NoneTwice}
-use Rattle.factor.specs.Sums.{Summands, IsSum, has_constant, plain_sum, flat_sum, joined, is_nothing, is_one, nodes}
+use Rattle.factor.specs.Literals.{stands, is_empty, holding, others}
+use Rattle.factor.specs.Sums.{Summands, IsSum, has_constant, plain_sum, joined, is_nothing, is_one, nodes}
 use Rattle.factor.specs.Sums.Summands.{end, literals, factored}
 use Rattle.factor.specs.Sums.IsSum.{flat, taken}
 use Rattle.factor.proofs.Standing.{empty_whole}
 use Rattle.factor.proofs.Counted.{length-holding, length_parts, Distinct-holding}
-use Rattle.factor.proofs.Joining.{nothing_is, joined_by}
+use Rattle.factor.proofs.Joining.{joined_by}
 use Rattle.factor.proofs.Taken.{kept, constant-plain}
 
 abbrev pub flag : Bool → ℕ

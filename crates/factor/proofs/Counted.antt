@@ -1,11 +1,10 @@
 -- How many cubes of a list a literal stands in.
-use Rattle.std.proofs.Common.{◌≡◌, ◌≢◌, ℕ, suc, ◌+◌, ◌<◌, ◌≤◌, Bool, true, false, not, ◌&&◌, cond, inl, inr, List, [], ◌∷◌, length, map, refl, sym, ap, ◌∙◌, subst, ◌||◌, arith}
-use Rattle.std.specs.Prelude.{filter, count_by}
+use Rattle.std.proofs.Common.{◌≡◌, ◌≢◌, suc, ◌+◌, ◌<◌, ◌≤◌, Bool, true, false, cond, inl, inr, List, [], ◌∷◌, length, refl, sym, ap, ◌∙◌, subst, ◌||◌, arith}
 use Rattle.std.specs.List.{list_any, AllByRecursion}
 use Rattle.std.proofs.lemmas.Bool.{cases_Bool, false≢true, or_cases, or_left, or_right}
 use Rattle.std.proofs.lemmas.List.Sums.{sum_by-cons}
 use Rattle.ae_base.specs.Cube.{Product}
-use Rattle.ae_base.proofs.Distinct.{Distinct, each-map, each-filter}
+use Rattle.ae_base.proofs.Distinct.{Distinct}
 use Rattle.factor.specs.declared.literals.Literal.{Literal}
 use Rattle.factor.specs.Literals.{stands, without_literal, count, holding, others}
 use Rattle.factor.proofs.Standing.{stands_less, itself_goes, without_injective}

@@ -1,15 +1,14 @@
 -- The factored network has no more EXOR gates than the ESOP has cubes.
-use Rattle.std.proofs.Common.{◌≡◌, ◌≢◌, ℕ, zero, suc, ◌+◌, ◌-◌, ◌<◌, ◌≤◌, Bool, true, false, not, ◌&&◌, ◌||◌, cond, inl, inr, List, [], ◌∷◌, ◌++◌, length, map, refl, sym, ap, ap₂, ◌∙◌, arith, eqb, eq-eqb, ne_eqb}
+use Rattle.std.proofs.Common.{◌≡◌, ℕ, suc, ◌+◌, ◌-◌, ◌≤◌, Bool, true, false, ◌&&◌, ◌||◌, cond, inl, inr, List, [], ◌∷◌, ◌++◌, length, refl, sym, ap, ◌∙◌, arith, eqb, eq-eqb, ne_eqb}
 use Rattle.std.specs.Prelude.{codes, count_by, sum_by}
 use Rattle.std.specs.Fmt.{decimal}
 use Rattle.std.proofs.Math.Bool.{and-false}
-use Rattle.std.proofs.lemmas.Bool.{cases_Bool, cases_eq, false≢true}
+use Rattle.std.proofs.lemmas.Bool.{cases_Bool, false≢true}
 use Rattle.std.proofs.lemmas.List.Sums.{sum_by-cons, sum_by-append}
 use Rattle.ae_base.specs.Mask.{has, empty, with}
 use Rattle.ae_base.specs.Cube.{Product}
 use Rattle.ae_base.proofs.Sets.{has-empty, has-with}
 use Rattle.ae_net.specs.declared.net.Gate.{Gate}
-use Rattle.ae_net.specs.Gates.{inverter}
 use Rattle.ae_net.specs.Names.{inner}
 use Rattle.factor.specs.declared.cells.Cell.{Cell}
 use Rattle.factor.specs.declared.cells.Cell.TheVariants.{Zero, One, Inverter, Buffer, And, Exor, Or}
@@ -17,10 +16,10 @@ use Rattle.factor.specs.declared.cells.Factor.{Factor}
 use Rattle.factor.specs.declared.cells.Wires.{Wires}
 use Rattle.factor.specs.Cells.{Part, Parts, gate_of, literal_signals, product_of, are_excluded, join, joins, chain_of, closing, turned_by, parts, sum_part, output_cells}
 use Rattle.factor.specs.Factored.{inverters, named, output_gates, AreSums}
-use Rattle.factor.specs.Shows.{is_row, are_exor_rows, is_exor}
-use Rattle.factor.specs.Sums.{Summands, IsSum, has_constant}
+use Rattle.factor.specs.Shows.{is_exor}
+use Rattle.factor.specs.Sums.{Summands, has_constant}
 use Rattle.factor.specs.Sums.Summands.{end, literals, factored}
-use Rattle.factor.proofs.Bounds.{width, own_joins, inner_joins, weight_bound}
+use Rattle.factor.proofs.Bounds.{own_joins, inner_joins, weight_bound}
 use Rattle.factor.proofs.Sizes.{literals_part, factored_part, parts-end, parts-literals, parts-factored, sum_part-is, closing_some, length-factors}
 
 -- ---- gates

@@ -1,21 +1,20 @@
 -- How the making of sums goes on: the lists of the parts have fewer literals, and cubes over the same inputs.
-use Rattle.std.proofs.Common.{◌≡◌, ◌≢◌, ℕ, zero, suc, ◌+◌, ◌-◌, ◌<◌, ◌≤◌, Bool, true, false, not, cond, ◌⊎◌, inl, inr, List, [], ◌∷◌, length, get_or, drop, refl, sym, ap, ◌∙◌, subst, arith, drop-cons}
-use Rattle.std.specs.Prelude.{All, filter}
-use Rattle.std.specs.List.{list_any, AllByRecursion}
+use Rattle.std.proofs.Common.{◌≡◌, ◌≢◌, ℕ, zero, suc, ◌+◌, ◌<◌, ◌≤◌, Bool, true, false, not, inl, inr, List, [], ◌∷◌, length, get_or, drop, refl, sym, ap, ◌∙◌, arith, drop-cons}
+use Rattle.std.specs.Prelude.{All}
+use Rattle.std.specs.List.{AllByRecursion}
 use Rattle.std.proofs.lemmas.Bool.{cases_Bool, cases_eq, false≢true, or_cases}
 use Rattle.std.proofs.lemmas.List.Elements.{All-from_recursion, recursion_from_All}
-use Rattle.ae_base.specs.Mask.{has, without, first, inside}
+use Rattle.ae_base.specs.Mask.{has, first}
 use Rattle.ae_base.specs.Cube.{Product, IsOver, IsProduct, is_free}
 use Rattle.ae_base.proofs.Distinct.{each-filter}
-use Rattle.ae_base.proofs.Sets.{inside-has, has-inside, inside-below, has-first}
+use Rattle.ae_base.proofs.Sets.{inside-has, has-inside}
 use Rattle.factor.specs.declared.literals.Literal.{Literal}
 use Rattle.factor.specs.Literals.{stands, is_empty, without_literal, holding, others}
 use Rattle.factor.specs.Seen.{EachLiteral, first_factors, with_cube, with_cubes}
-use Rattle.factor.specs.Sums.{Summands, IsSum, plain_sum, flat_sum}
+use Rattle.factor.specs.Sums.{Summands, IsSum, plain_sum}
 use Rattle.factor.specs.Sums.Summands.{end, literals, factored}
 use Rattle.factor.proofs.Bounds.{flag}
 use Rattle.factor.proofs.Counted.{some_stands, holding_yes, holding_no, held_stands, other_stands, not_held, not_in_others}
-use Rattle.factor.proofs.Found.{stands_below}
 use Rattle.factor.proofs.Standing.{lit, itself_goes, stands_less, free_from, stands-whole}
 use Rattle.factor.proofs.Taken.{each_literal, kept}
 

@@ -1,5 +1,5 @@
 -- The search finds the literal that stands in most cubes.
-use Rattle.std.proofs.Common.{◌≡◌, ℕ, suc, ◌+◌, ◌<◌, ◌≤◌, Bool, true, false, cond, ◌⊎◌, inl, inr, List, [], ◌∷◌, refl, sym, ap, ◌∙◌, ltb, arith}
+use Rattle.std.proofs.Common.{◌≡◌, ℕ, ◌+◌, ◌<◌, ◌≤◌, Bool, true, false, cond, ◌⊎◌, inl, inr, List, [], ◌∷◌, refl, sym, ap, ltb, arith}
 use Rattle.std.specs.Prelude.{Option, Some, None, All, IfSome}
 use Rattle.std.specs.List.{AllByRecursion}
 use Rattle.std.proofs.lemmas.Bool.{cases_Bool, cases_lt, false≢true, ltb-true, ltb-false, or_cases}
@@ -10,7 +10,7 @@ use Rattle.ae_base.proofs.Sets.{inside-below}
 use Rattle.factor.specs.declared.literals.Literal.{Literal}
 use Rattle.factor.specs.declared.literals.Counted.{Counted}
 use Rattle.factor.specs.Literals.{stands, count, IsMost, NoneTwice, Precedes}
-use Rattle.factor.specs.Search.{best_count, better, IsFound, IsBest, IsPicked}
+use Rattle.factor.specs.Search.{best_count, better, IsFound, IsBest}
 use Rattle.factor.proofs.Standing.{lit}
 use Rattle.factor.proofs.Counted.{some_stands, counted_stands}
 

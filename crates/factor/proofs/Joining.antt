@@ -1,5 +1,5 @@
 -- What a literal joined to an inner sum gives, case by case.
-use Rattle.std.proofs.Common.{◌≡◌, Bool, true, false, not, ◌&&◌, cond, inl, inr, refl, sym, ap, ◌∙◌}
+use Rattle.std.proofs.Common.{◌≡◌, true, false, inl, inr, refl, ap}
 use Rattle.std.proofs.lemmas.Bool.{cases_Bool, false≢true, not-true}
 use Rattle.ae_base.specs.Cube.{Product, whole}
 use Rattle.factor.specs.declared.literals.Literal.{Literal}

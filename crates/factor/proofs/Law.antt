@@ -1,18 +1,17 @@
 -- The factored network is valid, shows the values of its ESOP, and has the names of the source.
-use Rattle.std.proofs.Common.{◌≡◌, ◌≢◌, ℕ, zero, suc, ◌+◌, ◌-◌, ◌*◌, ◌<◌, ◌≤◌, ◌^◌, Bool, true, false, not, ◌&&◌, ◌||◌, cond, inl, inr, List, [], ◌∷◌, ◌++◌, length, get_or, map, refl, sym, ap, ap₂, ◌∙◌, subst, arith, length-append, eqb}
-use Rattle.std.specs.Prelude.{Some, None, All, AllPairs, codes, filter, slice_get, slice_index, sum_by}
-use Rattle.std.specs.List.{list_any, AllByRecursion, range_with_len}
-use Rattle.std.specs.Fmt.{decimal}
-use Rattle.std.proofs.lemmas.Bool.{lt-ltb, or_left, or_right}
+use Rattle.std.proofs.Common.{◌≡◌, ℕ, zero, suc, ◌+◌, ◌-◌, ◌*◌, ◌<◌, ◌≤◌, Bool, true, ◌&&◌, ◌||◌, List, [], ◌∷◌, ◌++◌, length, get_or, refl, sym, ap, ap₂, ◌∙◌, subst, arith, length-append}
+use Rattle.std.specs.Prelude.{Some, None, All, slice_get, slice_index, sum_by}
+use Rattle.std.specs.List.{AllByRecursion, range_with_len}
+use Rattle.std.proofs.lemmas.Bool.{lt-ltb}
 use Rattle.std.proofs.lemmas.List.{length-map, get_or-append-add, get_or-map, ext_get_or}
 use Rattle.std.proofs.lemmas.List.Elements.{All-from_recursion, recursion_from_All}
 use Rattle.std.proofs.lemmas.List.FromFn.{length-range_with_len}
 use Rattle.std.proofs.lemmas.List.Sums.{sum_by-cons}
 use Rattle.std.proofs.lemmas.Option.{slice_get_within, slice_get-get_or}
 use Rattle.ae_base.specs.Cube.{Product, IsOver, distance}
-use Rattle.ae_base.specs.Mask.{Set, has, len, either, xor}
+use Rattle.ae_base.specs.Mask.{Set, has, xor}
 use Rattle.ae_base.specs.Name.{is_name}
-use Rattle.ae_base.specs.declared.limits.TheConstants.{NET_LINES, SOURCE_NAME_BYTES}
+use Rattle.ae_base.specs.declared.limits.TheConstants.{SOURCE_NAME_BYTES}
 use Rattle.ae_base.proofs.Distinct.{Distinct, Distinct-from_AllPairs, AllPairs-from_Distinct, each_front, each_weaker}
 use Rattle.ae_base.proofs.Elements.{length_filter_le, range_below}
 use Rattle.ae_base.proofs.Members.{len-none}
@@ -24,7 +23,7 @@ use Rattle.ae_net.specs.Lead.{lead}
 use Rattle.ae_net.specs.Names.{Names, IsNames}
 use Rattle.ae_net.specs.Network.{Network, gate_at}
 use Rattle.ae_net.specs.Out.{run}
-use Rattle.ae_net.specs.Run.{value_of, IsRun, Shows, ports_of}
+use Rattle.ae_net.specs.Run.{value_of, IsRun, ports_of}
 use Rattle.ae_net.specs.Valid.{IsGate, IsValid}
 use Rattle.ae_net.proofs.Follow.{EachGate, EachGate-append, Fits as FitsGate, Follows, Follows-run}
 use Rattle.ae_net.proofs.GatesValid.{AreGates, AreGates-append, IsGate-at}
@@ -37,9 +36,8 @@ use Rattle.factor.specs.declared.cells.Wires.{Wires}
 use Rattle.factor.specs.Cells.{output_cells}
 use Rattle.factor.specs.Factored.{is_turned, wires, inverters, named, output_gates, ends, network_of, AreSums, HasFactoredForm}
 use Rattle.factor.specs.Plan.{most_gates}
-use Rattle.factor.specs.Seen.{IsWithin}
 use Rattle.factor.specs.Shows.{Fits, cube_count, CanBuild, AreValues, ShowsEsop, HasNames, exor_count}
-use Rattle.factor.specs.Sums.{Summands, IsSum, sum_value, nodes}
+use Rattle.factor.specs.Sums.{Summands, IsSum, sum_value}
 use Rattle.factor.proofs.AtPorts.{port_shows, literals_show}
 use Rattle.factor.proofs.Bounds.{nodes_bound}
 use Rattle.factor.proofs.Exors.{all_exors}
@@ -49,7 +47,7 @@ use Rattle.factor.proofs.Naming.{length-named}
 use Rattle.factor.proofs.Sizes.{output_some}
 use Rattle.factor.proofs.Unique.{one_sum}
 use Rattle.factor.proofs.Valid.{first_gate, AreGates-inverters, AreGates-outputs, length-outputs, ports_within, ports_apart, length-ends}
-use Rattle.factor.proofs.Wired.{Ready, ready_all, within_all}
+use Rattle.factor.proofs.Wired.{ready_all, within_all}
 
 -- ---- settled lists have no repeats
 

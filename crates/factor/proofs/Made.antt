@@ -1,13 +1,13 @@
 -- The gates that the builder adds part by part are those of the sum.
-use Rattle.std.proofs.Common.{◌≡◌, ℕ, suc, ◌+◌, ◌-◌, ◌<◌, ◌≤◌, List, [], ◌∷◌, ◌++◌, length, refl, sym, ap, ◌∙◌, arith, length-append, append_assoc}
+use Rattle.std.proofs.Common.{◌≡◌, ℕ, ◌+◌, List, [], ◌∷◌, ◌++◌, length, refl, ap, ◌∙◌, arith, length-append, append_assoc}
 use Rattle.ae_base.specs.Cube.{Product}
 use Rattle.factor.specs.declared.cells.Cell.{Cell}
 use Rattle.factor.specs.declared.cells.Cell.TheVariants.{And}
 use Rattle.factor.specs.declared.cells.Factor.{Factor}
 use Rattle.factor.specs.declared.cells.Wires.{Wires}
-use Rattle.factor.specs.Cells.{Part, Parts, literal_signals, closing, parts, sum_part}
+use Rattle.factor.specs.Cells.{literal_signals, closing, parts, sum_part}
 use Rattle.factor.specs.Sums.{Summands, has_constant}
-use Rattle.factor.specs.Sums.Summands.{end, literals, factored}
+use Rattle.factor.specs.Sums.Summands.{literals, factored}
 use Rattle.factor.proofs.Sizes.{literals_part, factored_part, parts-literals, parts-factored, sum_part-is}
 
 -- a part before the rest: the gates of both after those that stand

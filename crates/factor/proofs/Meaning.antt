@@ -1,9 +1,9 @@
 -- The sum of a list of cubes has the value of the list.
-use Rattle.std.proofs.Common.{◌≡◌, ◌≢◌, ℕ, suc, ◌+◌, ◌%◌, Bool, true, false, not, ◌&&◌, ◌||◌, cond, ◌⊎◌, inl, inr, List, [], ◌∷◌, refl, sym, ap, ap₂, ◌∙◌, subst, arith, eqb, eq-eqb, ne_eqb}
-use Rattle.std.specs.Prelude.{filter, count_by}
+use Rattle.std.proofs.Common.{◌≡◌, ◌≢◌, ℕ, ◌+◌, ◌%◌, Bool, true, false, not, ◌&&◌, ◌||◌, cond, inl, inr, List, [], ◌∷◌, refl, sym, ap, ap₂, ◌∙◌, arith, eqb, eq-eqb, ne_eqb}
+use Rattle.std.specs.Prelude.{count_by}
 use Rattle.std.specs.List.{list_any, AllByRecursion}
 use Rattle.std.proofs.Math.Bool.{and-true}
-use Rattle.std.proofs.lemmas.Bool.{cases_Bool, cases_eq, false≢true, or_cases, or_left, or_right}
+use Rattle.std.proofs.lemmas.Bool.{cases_Bool, cases_eq}
 use Rattle.std.proofs.lemmas.List.Sums.{sum_by-cons}
 use Rattle.ae_base.specs.Cube.{Product, holds, whole}
 use Rattle.ae_base.specs.Mask.{Set, differ}
@@ -11,9 +11,8 @@ use Rattle.ae_base.proofs.Distinct.{Distinct, Distinct-filter}
 use Rattle.ae_base.proofs.Truth.{differ-assoc, differ-front, differ-false}
 use Rattle.esop.specs.Esop.{esop_value}
 use Rattle.factor.specs.declared.literals.Literal.{Literal}
-use Rattle.factor.specs.Literals.{stands, is_empty, with_literal, without_literal, holding, others}
-use Rattle.factor.specs.Sums.{Summands, IsSum, sum_value, plain_sum, flat_sum, joined}
-use Rattle.factor.specs.Sums.Summands.{end, literals, factored}
+use Rattle.factor.specs.Literals.{stands, is_empty, without_literal, holding, others}
+use Rattle.factor.specs.Sums.{Summands, IsSum, sum_value, plain_sum, joined}
 use Rattle.factor.specs.Sums.IsSum.{flat, taken}
 use Rattle.factor.proofs.Standing.{literal_value, holds-whole, holds-with, holds-without, empty_whole}
 use Rattle.factor.proofs.Counted.{holding_yes, holding_no, others_yes, others_no, Distinct-holding}

@@ -1,8 +1,8 @@
 -- How the builder names gates, and that they have few pins.
-use Rattle.std.proofs.Common.{◌≡◌, ◌≢◌, ℕ, zero, suc, ◌+◌, ◌*◌, ◌-◌, ◌<◌, ◌≤◌, Bool, true, false, ◌&&◌, cond, inl, inr, List, [], ◌∷◌, ◌++◌, map, length, get_or, drop, refl, sym, ap, ap₂, ◌∙◌, subst, arith, eqb, eq-eqb, ne_eqb, length-append, length-drop, drop-cons, append_assoc}
-use Rattle.std.specs.Prelude.{codes, Some, slice_get}
+use Rattle.std.proofs.Common.{◌≡◌, ℕ, zero, suc, ◌+◌, ◌*◌, ◌-◌, ◌<◌, ◌≤◌, Bool, true, false, cond, inl, inr, List, [], ◌∷◌, ◌++◌, length, get_or, drop, refl, sym, ap, ap₂, ◌∙◌, subst, arith, eqb, eq-eqb, ne_eqb, length-append, length-drop, drop-cons, append_assoc}
+use Rattle.std.specs.Prelude.{codes}
 use Rattle.std.specs.Fmt.{decimal}
-use Rattle.std.specs.List.{AllByRecursion, position_or_len}
+use Rattle.std.specs.List.{AllByRecursion}
 use Rattle.std.proofs.lemmas.Bool.{cases_eq, cases_Bool, lt-ltb, or_cases}
 use Rattle.std.proofs.lemmas.List.{length-map}
 use Rattle.ae_base.specs.declared.limits.TheConstants.{NET_LINES, PINS}
@@ -14,11 +14,11 @@ use Rattle.ae_base.proofs.Sets.{has-inside, has-either, has-first}
 use Rattle.ae_net.specs.declared.net.Gate.{Gate}
 use Rattle.ae_net.specs.Names.{inner}
 use Rattle.factor.specs.declared.cells.Cell.{Cell}
-use Rattle.factor.specs.declared.cells.Cell.TheVariants.{Zero, One, Inverter, Buffer, And, Exor, Or}
+use Rattle.factor.specs.declared.cells.Cell.TheVariants.{Inverter, And}
 use Rattle.factor.specs.declared.cells.Factor.{Factor}
 use Rattle.factor.specs.declared.cells.Wires.{Wires}
 use Rattle.factor.specs.declared.literals.Literal.{Literal}
-use Rattle.factor.specs.Cells.{Part, Parts, pins_of, gate_of, literal_signal, literal_signals, product_of, are_excluded, join, joins, chain_of, closing, turned_by, parts, sum_part, with_buffer, output_cells}
+use Rattle.factor.specs.Cells.{Part, pins_of, gate_of, literal_signal, literal_signals, product_of, are_excluded, join, joins, chain_of, closing, turned_by, parts, sum_part, output_cells}
 use Rattle.factor.specs.Factored.{named, output_gates, ends}
 use Rattle.factor.specs.Literals.{stands}
 use Rattle.factor.specs.Plan.{most_gates}

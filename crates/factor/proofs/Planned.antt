@@ -1,12 +1,11 @@
 -- What the builder works out before it makes the gates, and the network that it puts together.
-use Rattle.std.proofs.Common.{◌≡◌, ℕ, zero, suc, ◌+◌, ◌<◌, ◌≤◌, Bool, true, false, cond, inl, inr, append-nil, List, [], ◌∷◌, ◌++◌, length, map, take, get_or, refl, sym, ap, ap₂, ◌∙◌, subst, arith, length-append}
-use Rattle.std.specs.Prelude.{All, filter}
+use Rattle.std.proofs.Common.{◌≡◌, ℕ, zero, suc, ◌+◌, ◌≤◌, Bool, cond, inl, inr, append-nil, List, [], ◌∷◌, ◌++◌, length, refl, sym, ap, ap₂, ◌∙◌, subst, arith}
+use Rattle.std.specs.Prelude.{filter}
 use Rattle.std.specs.List.{AllByRecursion, range_with_len}
 use Rattle.std.proofs.lemmas.Bool.{cases_Bool}
-use Rattle.std.proofs.lemmas.List.{length-map, map-append}
-use Rattle.std.proofs.lemmas.List.Elements.{recursion_from_All, filter-append}
-use Rattle.ae_base.specs.Cube.{Product, IsOver}
-use Rattle.ae_base.specs.declared.limits.TheConstants.{GATES, NET_LINES, SOURCE_NAME_BYTES}
+use Rattle.std.proofs.lemmas.List.{length-map}
+use Rattle.std.proofs.lemmas.List.Elements.{filter-append}
+use Rattle.ae_base.specs.Cube.{Product}
 use Rattle.ae_net.specs.declared.net.Gate.{Gate}
 use Rattle.ae_net.specs.Lead.{lead}
 use Rattle.ae_net.specs.Names.{Names}
@@ -16,9 +15,9 @@ use Rattle.ae_net.proofs.LeadLemmas.{lead_few}
 use Rattle.esop.specs.Esop.{Cubes}
 use Rattle.factor.specs.declared.cells.Wires.{Wires}
 use Rattle.factor.specs.declared.outputs.Plan.{Plan}
-use Rattle.factor.specs.Factored.{is_turned, wires, inverters, output_gates, ends, network_of, AreSums}
+use Rattle.factor.specs.Factored.{wires, inverters, output_gates, ends, network_of, AreSums}
 use Rattle.factor.specs.Plan.{IsPlan, sums_of}
-use Rattle.factor.specs.Seen.{seen, IsWithin, AreWires}
+use Rattle.factor.specs.Seen.{seen, IsWithin}
 use Rattle.factor.specs.Shows.{CanBuild}
 use Rattle.factor.specs.Sums.{Summands, IsSum}
 use Rattle.factor.proofs.Law.{few_turned, length_sums, length-inverters, most_of_all, over_all, valid}

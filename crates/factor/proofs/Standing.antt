@@ -1,7 +1,7 @@
 -- Literals of products: with one more, without one, and where a product holds.
-use Rattle.std.proofs.Common.{◌≡◌, ◌≢◌, ℕ, Bool, true, false, not, ◌&&◌, ◌||◌, ◌⊎◌, cond, inl, inr, refl, sym, ap, ap₂, ◌∙◌, eqb, eqb-true, eq-eqb, ne_eqb, arith}
+use Rattle.std.proofs.Common.{◌≡◌, ◌≢◌, ℕ, Bool, true, false, not, ◌&&◌, ◌||◌, ◌⊎◌, cond, inl, inr, refl, sym, ap, ap₂, ◌∙◌, eqb, eqb-true, eq-eqb}
 use Rattle.std.proofs.Math.Bool.{and-true, and-false}
-use Rattle.std.proofs.lemmas.Bool.{cases_Bool, cases_eq, false≢true, and_parts, and_from, or_cases, or_left, or_right, not-true}
+use Rattle.std.proofs.lemmas.Bool.{cases_Bool, false≢true, and_parts, and_from, or_cases, or_left, or_right, not-true}
 use Rattle.ae_base.specs.Mask.{Set, differ, has, empty}
 use Rattle.ae_base.specs.Cube.{Product, holds, whole, is_free, IsProduct}
 use Rattle.ae_base.specs.Cube as cube

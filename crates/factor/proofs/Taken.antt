@@ -1,14 +1,13 @@
 -- Facts on the sums of lists of cubes, each by induction on how the sum was made.
-use Rattle.std.proofs.Common.{◌≡◌, ◌≢◌, ℕ, suc, ◌+◌, ◌-◌, ◌*◌, ◌<◌, ◌≤◌, min, Bool, true, false, not, ◌&&◌, ◌||◌, cond, ◌⊎◌, inl, inr, List, [], ◌∷◌, length, refl, sym, ap, ◌∙◌, subst, arith}
+use Rattle.std.proofs.Common.{◌≡◌, ◌≤◌, Bool, true, false, not, ◌⊎◌, inl, inr, List, [], ◌∷◌, refl, sym, ap, ◌∙◌, subst, arith}
 use Rattle.std.specs.Prelude.{filter}
 use Rattle.std.specs.List.{list_any, AllByRecursion}
 use Rattle.std.proofs.lemmas.Bool.{cases_Bool, false≢true, or_cases, or_left, or_right}
-use Rattle.ae_base.specs.Cube.{Product, whole}
-use Rattle.ae_base.proofs.Distinct.{Distinct}
+use Rattle.ae_base.specs.Cube.{Product}
 use Rattle.factor.specs.declared.literals.Literal.{Literal}
 use Rattle.factor.specs.Literals.{stands, is_empty, with_literal, count, holding, others, IsMost, NoneTwice}
 use Rattle.factor.specs.Seen.{EachLiteral}
-use Rattle.factor.specs.Sums.{Summands, IsSum, AreApart, IsApart, FactorsDiffer, has_constant, plain_sum, flat_sum, joined, is_nothing, is_one, nodes}
+use Rattle.factor.specs.Sums.{Summands, IsSum, IsApart, FactorsDiffer, has_constant, plain_sum, flat_sum, joined, is_nothing, is_one}
 use Rattle.factor.specs.Sums.Summands.{end, literals, factored}
 use Rattle.factor.specs.Sums.IsSum.{flat, taken}
 use Rattle.factor.proofs.Standing.{stands-with, stands-one, same_is}

@@ -1,9 +1,9 @@
 -- There is one sum of a list of cubes.
-use Rattle.std.proofs.Common.{◌≡◌, ℕ, ◌<◌, ◌≤◌, Bool, true, false, ◌⊎◌, inl, inr, List, refl, sym, ap₂, ◌∙◌, subst, arith}
-use Rattle.std.proofs.lemmas.Bool.{cases_lt, cases_eq}
+use Rattle.std.proofs.Common.{◌≡◌, Bool, true, false, ◌⊎◌, inl, inr, List, refl, sym, ap₂, ◌∙◌, subst, arith}
+use Rattle.std.proofs.lemmas.Bool.{cases_lt}
 use Rattle.ae_base.specs.Cube.{Product}
 use Rattle.factor.specs.declared.literals.Literal.{Literal}
-use Rattle.factor.specs.Literals.{count, holding, others, IsMost, NoneTwice, Precedes}
+use Rattle.factor.specs.Literals.{holding, others, IsMost, NoneTwice, Precedes}
 use Rattle.factor.specs.Sums.{Summands, IsSum, joined}
 use Rattle.factor.specs.Sums.IsSum.{flat, taken}
 use Rattle.factor.proofs.Standing.{lit}

@@ -1,24 +1,22 @@
 -- The gates of the factored network are gates: their pins are earlier signals, they have few pins, and their rows hold positions of pins.
-use Rattle.std.proofs.Common.{◌≡◌, ◌≢◌, ℕ, zero, suc, ◌+◌, ◌-◌, ◌*◌, ◌<◌, ◌≤◌, ◌^◌, Bool, true, false, cond, inl, inr, List, [], ◌∷◌, ◌++◌, length, map, refl, sym, ap, ap₂, ◌∙◌, subst, arith, eqb, eq-eqb, ne_eqb, length-append}
-use Rattle.std.specs.Prelude.{codes, All, slice_index}
+use Rattle.std.proofs.Common.{◌≡◌, ◌≢◌, ℕ, suc, ◌+◌, ◌-◌, ◌<◌, ◌≤◌, ◌^◌, Bool, true, false, cond, inl, inr, List, [], ◌∷◌, ◌++◌, length, refl, sym, ap, ◌∙◌, subst, arith, eqb, eq-eqb, ne_eqb, length-append}
+use Rattle.std.specs.Prelude.{slice_index}
 use Rattle.std.specs.List.{list_any, AllByRecursion, position_or_len}
 use Rattle.std.specs.Fmt.{decimal}
 use Rattle.std.proofs.lemmas.Bool.{cases_Bool, cases_eq, false≢true, or_cases}
-use Rattle.std.proofs.lemmas.List.Elements.{All-from_recursion, recursion_from_All}
-use Rattle.ae_base.specs.declared.limits.TheConstants.{NET_LINES, PINS, GATES, SOURCE_NAME_BYTES}
-use Rattle.ae_base.specs.Cube.{Product, whole, IsProduct}
+use Rattle.std.proofs.lemmas.List.Elements.{All-from_recursion}
+use Rattle.ae_base.specs.declared.limits.TheConstants.{NET_LINES, PINS, SOURCE_NAME_BYTES}
+use Rattle.ae_base.specs.Cube.{Product, whole}
 use Rattle.ae_base.specs.Mask.{has, either, members}
 use Rattle.ae_base.specs.Name.{is_name}
 use Rattle.ae_base.proofs.Distinct.{Distinct, each_weaker, each-append, each-map}
 use Rattle.ae_base.proofs.Elements.{each_member}
 use Rattle.ae_base.proofs.Members.{members-has}
 use Rattle.ae_base.proofs.Sets.{has-either, has-empty, has-inside}
-use Rattle.ae_net.specs.declared.net.Gate.{Gate}
-use Rattle.ae_net.specs.Gates.{inverter}
 use Rattle.ae_net.specs.Lead.{IsLetter}
 use Rattle.ae_net.specs.Names.{inner}
 use Rattle.ae_net.specs.Valid.{IsGate, IsRowOf}
-use Rattle.ae_net.proofs.GatesValid.{AreGates, AreGates-append, IsGate-inverter, IsGate-buffer, IsGate-exor, IsGate-and}
+use Rattle.ae_net.proofs.GatesValid.{AreGates, AreGates-append, IsGate-inverter}
 use Rattle.ae_net.proofs.InnerAreNames.{numbered_is_name}
 use Rattle.ae_net.proofs.Rows.{IsRowOf-plain, IsRowOf-complemented, IsRowOf-one_of_each, IsRowOf-full}
 use Rattle.factor.specs.declared.cells.Cell.{Cell}

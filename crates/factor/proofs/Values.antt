@@ -1,9 +1,9 @@
 -- What the gates of a sum show in a run without a fault.
-use Rattle.std.proofs.Common.{◌≡◌, ◌≢◌, ℕ, zero, suc, ◌+◌, ◌-◌, ◌<◌, ◌≤◌, Bool, true, false, not, ◌&&◌, ◌||◌, cond, inl, inr, List, [], ◌∷◌, ◌++◌, length, map, refl, sym, ap, ap₂, ◌∙◌, subst, arith, eqb, eq-eqb, ne_eqb, append-nil, append_assoc, length-append, add-zero}
-use Rattle.std.specs.Prelude.{None, slice_index}
-use Rattle.std.specs.List.{list_any, list_all, AllByRecursion, position_or_len}
+use Rattle.std.proofs.Common.{◌≡◌, ℕ, suc, ◌+◌, Bool, true, false, not, ◌&&◌, ◌||◌, cond, inl, inr, List, [], ◌∷◌, ◌++◌, length, refl, sym, ap, ap₂, ◌∙◌, subst, arith, eqb, eq-eqb, ne_eqb, append-nil, append_assoc}
+use Rattle.std.specs.Prelude.{slice_index}
+use Rattle.std.specs.List.{list_all, AllByRecursion}
 use Rattle.std.proofs.Math.Bool.{and-true}
-use Rattle.std.proofs.lemmas.Bool.{cases_Bool, cases_eq, false≢true, and_parts, and_from, or_cases, or_left, or_right}
+use Rattle.std.proofs.lemmas.Bool.{cases_Bool, cases_eq, false≢true, and_parts, or_cases, or_left, or_right}
 use Rattle.std.proofs.lemmas.List.Folds.{list_all-map}
 use Rattle.ae_base.specs.Mask.{Set, differ, has, either, members}
 use Rattle.ae_base.specs.Cube.{Product, IsProduct, holds, meet}
@@ -18,12 +18,12 @@ use Rattle.factor.specs.declared.cells.Cell.TheVariants.{Zero, One, Inverter, Bu
 use Rattle.factor.specs.declared.cells.Factor.{Factor}
 use Rattle.factor.specs.declared.cells.Wires.{Wires}
 use Rattle.factor.specs.declared.literals.Literal.{Literal}
-use Rattle.factor.specs.Cells.{Part, Parts, literal_signal, literal_signals, product_of, are_excluded, join, joins, last_of, chain_of, closing, turned_by, parts, sum_part, output_cells}
+use Rattle.factor.specs.Cells.{Part, Parts, literal_signal, literal_signals, product_of, are_excluded, join, joins, last_of, chain_of, closing, turned_by, parts, sum_part}
 use Rattle.factor.specs.Literals.{stands}
 use Rattle.factor.specs.Seen.{EachLiteral}
 use Rattle.factor.specs.Sums.{Summands, has_constant, sum_value}
 use Rattle.factor.specs.Sums.Summands.{end, literals, factored}
-use Rattle.factor.proofs.Sizes.{literals_part, factored_part, parts-end, parts-literals, parts-factored, sum_part-is, closing_some, length-joins}
+use Rattle.factor.proofs.Sizes.{literals_part, factored_part, parts-end, parts-literals, parts-factored, sum_part-is, closing_some}
 use Rattle.factor.proofs.Standing.{lit, literal_value, literal_holds, holds_literals}
 use Rattle.factor.proofs.Wired.{EachFactor, Wired, Ready}
 

@@ -1,9 +1,7 @@
-use Rattle.std.proofs.Common.{◌≡◌, ◌+◌, ◌∙◌, List, [], ◌∷◌, ◌++◌, map, take, get_or, ap, ap₂, sym, subst}
+use Rattle.std.proofs.Common.{◌≡◌, ◌+◌, ◌∙◌, List, [], ◌∷◌, ◌++◌, map, take, get_or, ap, sym}
 use Rattle.std.proofs.lemmas.List.{take_more, map-append}
 use Rattle.ae_base.specs.Cube.{Product}
-use Rattle.factor.specs.Factored.{AreSums}
 use Rattle.factor.specs.Seen.{seen}
-use Rattle.factor.specs.Sums.{Summands, IsSum}
 use Rattle.factor.proofs.Planned.{sums_push}
 use Rattle.factor.proofs.build.sums.Goals as goal
 

@@ -1,4 +1,4 @@
-use Rattle.std.proofs.Common.{List, ◌++◌, ◌∷◌, [], ◌+◌, length, drop, ap, ◌∙◌}
+use Rattle.std.proofs.Common.{List, ◌++◌, ◌∷◌, [], ◌+◌, drop, ap, ◌∙◌}
 use Rattle.ae_net.specs.declared.net.Gate.{Gate}
 use Rattle.factor.specs.Factored.{named}
 use Rattle.factor.proofs.Naming.{named_more}

@@ -1,7 +1,6 @@
-use Rattle.std.proofs.Common.{◌≡◌, ◌+◌, ◌≤◌, ◌∙◌, List, ap, sym, subst, length, arith}
+use Rattle.std.proofs.Common.{◌≡◌, ◌+◌, ◌≤◌, ◌∙◌, ap, sym, subst, length, arith}
 use Rattle.std.proofs.lemmas.List.Elements.{All-from_recursion}
 use Rattle.ae_base.specs.declared.limits.TheConstants.{PINS}
-use Rattle.factor.specs.declared.cells.Cell.{Cell}
 use Rattle.factor.specs.Cells.{pins_of, output_cells}
 use Rattle.factor.specs.Seen.{seen}
 use Rattle.factor.proofs.Naming.{FewPins, output_few}

@@ -1,10 +1,9 @@
-use Rattle.std.proofs.Common.{◌≡◌, ℕ, ◌+◌, ◌*◌, ◌-◌, ◌<◌, ◌∙◌, suc, List, ◌++◌, drop, get_or, ap, sym, length, length-append, arith}
+use Rattle.std.proofs.Common.{◌≡◌, ℕ, ◌+◌, ◌<◌, ◌∙◌, suc, List, ◌++◌, drop, get_or, ap, sym, length, length-append, arith}
 use Rattle.std.proofs.lemmas.List.{length-map, get_or-map}
 use Rattle.factor.specs.Cells.{output_cells}
 use Rattle.factor.specs.Factored.{named, ends}
-use Rattle.factor.specs.Plan.{sums_of, most_gates}
+use Rattle.factor.specs.Plan.{sums_of}
 use Rattle.factor.specs.Seen.{seen, IsWithin}
-use Rattle.factor.specs.Sums.{Summands, nodes}
 use Rattle.factor.specs.declared.outputs.Plan.{Plan}
 use Rattle.factor.specs.declared.sums.Sum.{Sum}
 use Rattle.factor.proofs.Naming.{outputs_more, ends_more, most_more, each_get, length-named}

@@ -1,14 +1,13 @@
-use Rattle.std.proofs.Common.{◌≡◌, ℕ, ◌+◌, ◌*◌, ◌<◌, ◌∙◌, List, ◌++◌, ap, sym, subst, length, length-append, append-nil, arith, rules}
+use Rattle.std.proofs.Common.{◌≡◌, ℕ, ◌+◌, ◌∙◌, List, ◌++◌, ap, sym, subst, length, length-append, append-nil, arith}
 use Rattle.std.specs.Prelude.{OnOk, IfOk}
 use Rattle.std.proofs.lemmas.Result.{on_ok_weaker}
 use Rattle.factor.specs.declared.cells.Cell.{Cell}
 use Rattle.factor.specs.declared.cells.Factor.{Factor}
-use Rattle.factor.specs.Cells.{Part, Parts, parts, sum_part, closing}
+use Rattle.factor.specs.Cells.{Parts, parts, sum_part, closing}
 use Rattle.factor.specs.Seen.{seen}
-use Rattle.factor.specs.Sums.{Summands, nodes, has_constant}
 use Rattle.factor.specs.Sums.Summands.{end, literals, factored}
 use Rattle.factor.proofs.Made.{literals_cells, literals_factors, factored_cells, factored_signal, more_cells, more_factors, sum_cells, sum_signal}
-use Rattle.factor.proofs.Sizes.{factored_part, parts-end, parts_bound, sum_bound, length-factors}
+use Rattle.factor.proofs.Sizes.{parts-end, parts_bound, sum_bound, length-factors}
 use Rattle.factor.proofs.parts.+parts.Goals as goal
 
 pub push_parts-returns-in-End-clause-cells : goal.push_parts-returns-in-End-clause-cells

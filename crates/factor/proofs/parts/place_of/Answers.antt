@@ -1,4 +1,4 @@
-use Rattle.std.proofs.Common.{◌<◌, ◌+◌, ◌∙◌, ap, sym, inl, inr, eqb, get_or, length, arith, eq-eqb, ne_eqb}
+use Rattle.std.proofs.Common.{◌∙◌, ap, sym, inl, inr, eqb, get_or, length, arith, eq-eqb, ne_eqb}
 use Rattle.std.proofs.lemmas.Bool.{cases_eq}
 use Rattle.std.proofs.lemmas.List.Sums.{position_or_len_is}
 use Rattle.factor.proofs.parts.place_of.Goals as goal

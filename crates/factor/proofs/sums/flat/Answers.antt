@@ -1,7 +1,6 @@
-use Rattle.std.proofs.Common.{◌≡◌, ◌<◌, ◌+◌, ◌-◌, ◌∙◌, suc, List, [], ap, ap₂, refl, sym, drop, length, get_or, arith}
+use Rattle.std.proofs.Common.{◌≡◌, ◌+◌, ◌-◌, ◌∙◌, suc, ap, refl, sym, drop, length, arith}
 use Rattle.std.proofs.Math.Seq.{drop-length}
 use Rattle.std.specs.List.{list_any}
-use Rattle.ae_base.specs.Cube.{Product}
 use Rattle.factor.specs.Literals.{is_empty}
 use Rattle.factor.specs.Seen.{with_cube, with_cubes}
 use Rattle.factor.specs.Sums.Summands.{end}
