@@ -1,32 +1,40 @@
 -- Selections of a list, and what an undetectable fault has as evidence.
-use Rattle.std.proofs.Common.{◌≡◌, ◌<◌, ◌≤◌, ◌+◌, ◌++◌, ◌&&◌, ◌==◌, not, ℕ, suc, take, Bool, true, false, List, [], ◌∷◌, length, leb, get_or, map, refl, sym, ap, ap₂, ◌∙◌, subst, arith, inl, inr, ne_eqb}
+use Rattle.std.proofs.Common.{◌≡◌, ◌<◌, ◌≤◌, ◌+◌, ◌-◌, ◌++◌, ◌&&◌, ◌==◌, not, ℕ, suc, take, Bool, true, false, List, [], ◌∷◌, length, leb, get_or, map, refl, sym, ap, ap₂, ◌∙◌, subst, arith, inl, inr, ne_eqb}
 use Rattle.std.specs.Prelude.{All, Contains, None, Option, Some, ◌↔◌}
 use Rattle.std.specs.List.{AllByRecursion, AllZip}
-use Rattle.std.proofs.lemmas.List.Elements.{All-from_recursion, All-from_get_or, Contains-get_or, recursion_from_All}
+use Rattle.std.proofs.lemmas.List.Elements.{All-append, All-drop, All-from_recursion, All-get_or, All-map, Contains-get_or, recursion_from_All}
+use Rattle.std.proofs.lemmas.List.{length-append, length-map}
+use Rattle.std.proofs.Math.Seq.{drop-append_seam}
 use Rattle.ae_base.specs.Mask.{Set, both, first, has, inside}
 use Rattle.ae_base.specs.Terms.{IsPoint}
 use Rattle.ae_base.specs.declared.limits.TheConstants.{PINS}
 use Rattle.ae_base.specs.Name.{is_name}
 use Rattle.ae_base.proofs.Sets.{has-both, has-first, has-inside}
 use Rattle.std.proofs.lemmas.Bool.{and_parts, le-leb, lt-ltb}
-use Rattle.std.proofs.lemmas.Option.{slice_get_within}
+use Rattle.std.proofs.lemmas.Option.{slice_get-get_or}
 use Rattle.std.proofs.lemmas.Slice.Zip.{all_zipped_more}
 use Rattle.std.proofs.Math.Seq.{take-suc}
 use Rattle.ae_net.specs.declared.net.Fault.{Fault}
 use Rattle.ae_net.specs.Detects.{Detects}
 use Rattle.ae_net.specs.Faults.{IsPlace, fault_list}
-use Rattle.ae_net.specs.Network.{Network}
+use Rattle.ae_net.specs.Blif.{signal_names}
+use Rattle.ae_net.specs.Implements.{port_names}
+use Rattle.ae_net.specs.Network.{Network, gate_at}
 use Rattle.ae_net.specs.Run.{IsRun, Shows, seen}
-use Rattle.ae_net.specs.declared.net.Place.TheVariants.{Stem, Pin}
-use Rattle.ae_net.specs.declared.net.Gate.{Gate}
+use Rattle.ae_net.specs.declared.net.Place.{Place}
+use Rattle.ae_net.specs.declared.net.Place.TheVariants.{Stem, Pin, Port}
 use Rattle.ae_net.specs.Valid.{IsValid}
 use Rattle.redundancy.specs.Evidence.{Tree, written}
 use Rattle.redundancy.specs.Evidence.Tree.{leaf, split}
-use Rattle.vec_text.specs.VectorFile.{is_shown}
+use Rattle.vec_text.specs.VectorFile.{is_place, is_shown}
 use Rattle.vec_text.specs.declared.file.Shown.{Shown}
 use Rattle.vec_text.specs.declared.file.Shown.TheVariants as shown
 use Rattle.vec_text.specs.declared.file.Step.{Step}
 use Rattle.synth_core.specs.Listed.{IsShown, step_of}
+use Rattle.synth_core.specs.PairErrors.{IsWithin}
+use Rattle.synth_core.specs.Sites.{place_name}
+use Rattle.synth_core.proofs.Graded.{fault_within}
+use Rattle.synth_core.proofs.Shown.{all_listed}
 use Rattle.test_gen.specs.Selection.{IsSelection}
 use Rattle.test_gen.specs.Selection.IsSelection.{none, taken, left}
 use Rattle.test_gen.specs.Undetectable.{IsUndetectable}
@@ -66,6 +74,12 @@ all_places n faults places is =
     (selected_from (IsUndetectable n) (λ fault. IsPlace n fault.place) (fault_list n) faults is
     (recursion_from_All _ (fault_list n) (λ i d l. places (get_or (fault_list n) i d) (Contains-get_or (fault_list n) i d l))))
 
+pub all_within : (n : Network) (faults : List Fault) → IsValid n → IsSelection (IsUndetectable n) (fault_list n) faults → All (λ fault. IsWithin n fault.place) faults
+all_within n faults valid is =
+    All-from_recursion _ faults
+    (selected_from (IsUndetectable n) (λ fault. IsWithin n fault.place) (fault_list n) faults is
+    (recursion_from_All _ (fault_list n) (λ i d l. fault_within n valid (get_or (fault_list n) i d) (Contains-get_or (fault_list n) i d l))))
+
 -- ---- points of the inputs are all that counts
 
 -- the inputs that are 1
@@ -103,16 +117,25 @@ detects_there n fault x d = record {
 pub nowhere : (n : Network) (fault : Fault) → IsUndetectable n fault → (x : Set) → ¬ Detects n fault x
 nowhere n fault un x d = un (inputs_of n x) (inputs_point n x) (detects_there n fault x d)
 
--- ---- pins
+-- ---- names
 
-pub pin_within : (n : Network) (i k : ℕ) → IsPlace n (Pin i k) → i < length n.gates
-pin_within n i k place = slice_get_within n.gates i place.0 place.1
+all_named : (n : Network) → IsValid n → All (λ name. is_name name ≡ true) (signal_names n)
+all_named n valid =
+    All-append (λ name. is_name name ≡ true) n.inputs (map (λ gate. gate.out) n.gates) valid.inputs_named
+    (All-map (λ name. is_name name ≡ true) (λ gate. gate.out) n.gates (λ i d l. (valid.gates i (get_or n.gates i d) (slice_get-get_or n.gates i d l)).named))
 
-pub pin_few : (n : Network) (i k : ℕ) → IsValid n → IsPlace n (Pin i k) → k < PINS
-pin_few n i k valid place = omega (arith, place.2, (valid.gates i place.0 place.1).few_pins)
+ports_named : (n : Network) → IsValid n → All (λ name. is_name name ≡ true) (port_names n)
+ports_named n valid =
+    subst (All (λ name. is_name name ≡ true)) (drop-append_seam n.inputs (port_names n))
+    (All-drop (λ name. is_name name ≡ true) (length n.inputs) (n.inputs ++ port_names n) (all_listed n valid (λ name. is_name name ≡ true) (all_named n valid)))
 
-pub pin_named : (name : List ℕ) (k : ℕ) → is_name name ≡ true → k < PINS → (is_name name && leb 1 (k + 1) && leb (k + 1) PINS) ≡ true
-pin_named name k named few = rw (named, le-leb 1 (k + 1) (omega arith), le-leb (k + 1) PINS (omega (arith, few))) refl
+pub placed_valid : (n : Network) (p : Place) → IsValid n → IsWithin n p → is_place (place_name n p) ≡ true
+placed_valid n (Stem s) valid within =
+    All-get_or (λ name. is_name name ≡ true) (signal_names n) s [] (omega (arith, within, length-append n.inputs (map (λ gate. gate.out) n.gates), length-map n.gates (λ gate. gate.out))) (all_named n valid)
+placed_valid n (Pin i k) valid within =
+    rw ((valid.gates i (gate_at n i) (slice_get-get_or n.gates i _ within.0)).named, le-leb 1 (suc k) (omega arith), le-leb (suc k) PINS (omega (arith, within.1))) refl
+placed_valid n (Port o) valid within =
+    All-get_or (λ name. is_name name ≡ true) (port_names n) o [] (omega (arith, within, length-map n.outputs (λ s. (gate_at n (s - length n.inputs)).out))) (ports_named n valid)
 
 -- ---- lines
 

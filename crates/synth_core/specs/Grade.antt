@@ -1,25 +1,21 @@
 -- What a grading finds of a netlist and a vector file with the same names, and which pairs of texts are none.
-use Rattle.std.specs.Prelude.{◌≡◌, ℕ, suc, ◌==◌, Bool, not, Some, None, Ok, Err, List, length, map, filter}
+use Rattle.std.specs.Prelude.{◌≡◌, ℕ, ◌==◌, Bool, not, Some, None, Ok, Err, List, length, map, filter}
 use Rattle.std.specs.List.{count_by, list_any}
 use Rattle.ae_base.specs.Mask.{Set}
-use Rattle.ae_net.specs.Blif.{name_of, signal_names}
 use Rattle.ae_net.specs.Faults.{fault_list}
 use Rattle.ae_net.specs.Implements.{port_names}
-use Rattle.ae_net.specs.Network.{Network, gate_at}
+use Rattle.ae_net.specs.Network.{Network}
 use Rattle.ae_net.specs.Out.{out}
 use Rattle.ae_net.specs.declared.net.Fault.{Fault}
-use Rattle.ae_net.specs.declared.net.Place.{Place}
-use Rattle.ae_net.specs.declared.net.Place.TheVariants as place
 use Rattle.blif_read.specs.Says.{blif_says}
 use Rattle.blif_read.specs.declared.fault.BlifFault.{BlifFault}
 use Rattle.blif_read.specs.declared.fault.NetLimits.TheVariants.{Written}
+use Rattle.synth_core.specs.Sites.{place_name}
 use Rattle.synth_core.specs.declared.grading.GradeReport.{GradeReport}
 use Rattle.synth_core.specs.declared.named.NamedFault.{NamedFault}
 use Rattle.vec_text.specs.Says.{vec_says}
 use Rattle.vec_text.specs.VectorFile.{VectorFile}
 use Rattle.vec_text.specs.declared.fault.VecFault.{VecFault}
-use Rattle.vec_text.specs.declared.file.PlaceName.{PlaceName}
-use Rattle.vec_text.specs.declared.file.PlaceName.TheVariants.{Stem, Pin, Port}
 use Rattle.vec_text.specs.declared.file.Vector.{Vector}
 
 -- ---- what the vectors detect
@@ -52,12 +48,6 @@ unfoldable pub missed_faults : Network → List Set → List Fault
 missed_faults n points = filter (λ fault. not (is_detected n points fault)) (fault_list n)
 
 -- ---- the names of faults
-
--- a fault site by names: a stem by its signal's, a pin by its gate's and its number from 1 on, a port by its own
-abbrev pub place_name : Network → Place → PlaceName
-place_name n (place.Stem s) = Stem (name_of (signal_names n) s)
-place_name n (place.Pin i k) = Pin (gate_at n i).out (suc k)
-place_name n (place.Port o) = Port (name_of (port_names n) o)
 
 unfoldable pub named : Network → Fault → NamedFault
 named n fault = record { place = place_name n fault.place; value = fault.value }

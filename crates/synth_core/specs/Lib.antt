@@ -7,5 +7,6 @@ pub mod Made
 pub mod PairErrors
 pub mod Says
 pub mod Searched
+pub mod Sites
 pub mod Sourced
 pub mod Steps

@@ -1,31 +1,21 @@
 -- Undetectable faults as a vector file lists them: by the names of a network, each with its evidence tree.
-use Rattle.std.specs.Prelude.{◌≡◌, ℕ, suc, ◌<◌, ◌≤◌, List, map, slice_index}
+use Rattle.std.specs.Prelude.{◌≡◌, ◌<◌, ◌≤◌, List, map}
 use Rattle.std.specs.List.{AllZip}
 use Rattle.ae_net.specs.declared.net.Fault.{Fault}
-use Rattle.ae_net.specs.declared.net.Place.{Place}
-use Rattle.ae_net.specs.declared.net.Place.TheVariants as place
-use Rattle.ae_net.specs.Blif.{name_of, signal_names}
 use Rattle.ae_net.specs.Faults.{fault_list}
-use Rattle.ae_net.specs.Network.{Network, gate_at}
+use Rattle.ae_net.specs.Network.{Network}
 use Rattle.redundancy.specs.declared.TheConstants.{LEAVES}
 use Rattle.redundancy.specs.declared.words.Step.{Step as Letter}
 use Rattle.redundancy.specs.declared.words.Step.TheVariants as letter
 use Rattle.redundancy.specs.Evidence.{IsEvidenceTree, Tree, leaf_count, written}
+use Rattle.synth_core.specs.Sites.{place_name}
 use Rattle.test_gen.specs.Selection.{IsSelection}
 use Rattle.test_gen.specs.Undetectable.{IsUndetectable}
 use Rattle.vec_text.specs.declared.file.Idle.{Idle}
-use Rattle.vec_text.specs.declared.file.PlaceName.{PlaceName}
-use Rattle.vec_text.specs.declared.file.PlaceName.TheVariants as named
 use Rattle.vec_text.specs.declared.file.Shown.{Shown}
 use Rattle.vec_text.specs.declared.file.Shown.TheVariants as shown
 use Rattle.vec_text.specs.declared.file.Step.{Step}
 use Rattle.vec_text.specs.declared.file.Step.TheVariants as step
-
--- a fault site by the names of its network; pins are counted from 1
-abbrev pub place_name : Network → Place → PlaceName
-place_name n (place.Stem s) = named.Stem (name_of (signal_names n) s)
-place_name n (place.Pin i k) = named.Pin (gate_at n i).out (suc k)
-place_name n (place.Port o) = named.Port (name_of (signal_names n) (slice_index n.outputs o))
 
 -- a letter of a word, as the file has it
 abbrev pub step_of : Letter → Step

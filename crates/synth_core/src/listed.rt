@@ -1,56 +1,22 @@
 //! The undetectable faults of a network, as a vector file lists them.
-ghost use Rattle.std.specs.Prelude.{◌≡◌, ◌<◌, true, All, IfOk, length, map};
+ghost use Rattle.std.specs.Prelude.{◌≡◌, All, IfOk, length, map};
 ghost use Rattle.std.specs.List.{AllZip};
-ghost use Rattle.ae_net.specs.Blif.{name_of, signal_names};
 ghost use Rattle.ae_net.specs.Faults.{IsPlace};
-ghost use Rattle.ae_net.specs.Network.{signals};
 ghost use Rattle.synth_core.specs.Listed as spec;
 ghost use Rattle.synth_core.specs.Listed.{IsLineOf, IsShown};
+ghost use Rattle.synth_core.specs.PairErrors.{IsWithin};
 ghost use Rattle.synth_core.specs.Steps.{AreTests};
 ghost use Rattle.test_gen.specs.Undetectable.{IsUndetectable};
-ghost use Rattle.vec_text.specs.VectorFile.{IsIdle, is_place};
+ghost use Rattle.vec_text.specs.VectorFile.{IsIdle};
 
+use crate::named::place_name;
 use crate::read::Store;
-use ae_base::{Memory, Name, Point, Polarity, Seq};
-use ae_net::{Fault, Net, Place, Sig, fault_laws};
+use ae_base::{Memory, Point, Polarity, Seq};
+use ae_net::{Fault, Net, fault_laws};
 use redundancy::{Found, Step as Letter, evidence, evidence_law, found_law};
 use std::alloc::Global;
 use test_gen::{Tests, generate};
-use vec_text::{Idle, PlaceName, Shown, Step};
-
-/// The name of a signal.
-fn signal_name(alloc: Global, net: &Net, s: Sig) -> Result<Name, Memory>
-    requires { s < signals net.now }
-    ensures { IfOk result (λ name. name ≡ name_of (signal_names net.now) s) }
-{
-    let at = s as usize;
-    let inputs = net.inputs();
-    if at < inputs.len() {
-        inputs[at].copy(alloc)
-    } else {
-        net.gate(at - inputs.len()).out.copy(alloc)
-    }
-}
-
-/// A fault site by the names of its network.
-pub fn place_name(alloc: Global, net: &Net, place: Place) -> Result<PlaceName, Memory>
-    requires { IsPlace net.now place }
-    ensures name { IfOk result (λ name. name ≡ spec.place_name net.now place) }
-    ensures valid { IfOk result (λ name. is_place name ≡ true) }
-{
-    let _ = net.inputs(); // opened here, since its rules bound the place
-    match place {
-        Place::Stem(s) => Ok(PlaceName::Stem(signal_name(alloc, net, s)?)),
-        Place::Pin(i, k) => {
-            let gate = net.gate(i as usize);
-            Ok(PlaceName::Pin(gate.out.copy(alloc)?, k + 1))
-        }
-        Place::Port(o) => {
-            let s = net.outputs()[o as usize];
-            Ok(PlaceName::Port(signal_name(alloc, net, s)?))
-        }
-    }
-}
+use vec_text::{Idle, Shown, Step};
 
 /// A letter as the vector file has it.
 fn step_of(letter: Letter) -> Step
@@ -91,10 +57,12 @@ fn shown_of(alloc: Global, net: &Net, fault: Fault) -> Result<Shown, Memory>
 /// The line of an undetectable fault.
 fn line_of(alloc: Global, net: &Net, fault: Fault) -> Result<Idle, Memory>
     requires place { IsPlace net.now fault.place }
+    requires within { IsWithin net.now fault.place }
     requires undetectable { IsUndetectable net.now fault }
     ensures line { IfOk result (IsLineOf net.now fault) }
     ensures valid { IfOk result IsIdle }
 {
+    let _ = net.inputs(); // opened here, since its names are those of the line
     let shown = shown_of(alloc, net, fault)?;
     let place = place_name(alloc, net, fault.place)?;
     Ok(Idle {
@@ -107,6 +75,7 @@ fn line_of(alloc: Global, net: &Net, fault: Fault) -> Result<Idle, Memory>
 /// The lines of undetectable faults, in order.
 pub fn lines_of(alloc: Global, net: &Net, faults: &[Fault]) -> Result<Seq<Idle>, Memory>
     requires places { All (λ fault. IsPlace net.now fault.place) faults.now }
+    requires within { All (λ fault. IsWithin net.now fault.place) faults.now }
     requires undetectable { All (IsUndetectable net.now) faults.now }
     ensures lines { IfOk result (AllZip (IsLineOf net.now) faults.now) }
     ensures valid { IfOk result (All IsIdle) }

@@ -5,6 +5,7 @@ ghost use Rattle.ae_net.specs.Implements.{port_names};
 ghost use Rattle.ae_net.specs.Network.{signals};
 ghost use Rattle.synth_core.specs.Grade as spec;
 ghost use Rattle.synth_core.specs.PairErrors.{IsWithin};
+ghost use Rattle.synth_core.specs.Sites as sites;
 
 use ae_base::{Memory, Name};
 use ae_net::{Fault, Net, Place, Sig};
@@ -42,9 +43,9 @@ fn port_name(net: &Net, o: u32) -> &Name
 }
 
 /// The name of a fault site.
-fn place_name(alloc: Global, net: &Net, place: Place) -> Result<PlaceName, Memory>
+pub fn place_name(alloc: Global, net: &Net, place: Place) -> Result<PlaceName, Memory>
     requires { IsWithin net.now place }
-    ensures { IfOk result (λ name. name ≡ spec.place_name net.now place) }
+    ensures { IfOk result (λ name. name ≡ sites.place_name net.now place) }
 {
     match place {
         Place::Stem(s) => Ok(PlaceName::Stem(signal_name(net, s).copy(alloc)?)),
