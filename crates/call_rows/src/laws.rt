@@ -5,7 +5,8 @@ use ae_cover::{clash_laws, on_law};
 use ae_lex::{words_law, written_lines};
 use ae_net::{fault_laws, lead_law, one_run};
 use ae_outside::file_laws;
-use blif_read::{said_again, said_law};
+use fault_sim::detects_law;
+use redundancy::{evidence_law, found_law};
 use vec_text::line_law;
 
 #[test]
@@ -23,9 +24,11 @@ fn laws_of_texts(_rt: HostRuntime) {
     words_law();
     written_lines();
     line_law();
+    vec_text::said_law();
+    vec_text::said_again();
     file_laws();
-    said_law();
-    said_again();
+    blif_read::said_law();
+    blif_read::said_again();
 }
 
 #[test]
@@ -33,4 +36,7 @@ fn laws_of_networks(_rt: HostRuntime) {
     fault_laws();
     lead_law();
     one_run();
+    detects_law();
+    evidence_law();
+    found_law();
 }

@@ -5,6 +5,8 @@
 #[cfg(test)]
 mod covers;
 #[cfg(test)]
+mod evidence_trees;
+#[cfg(test)]
 mod held_files;
 #[cfg(test)]
 mod laws;
@@ -16,6 +18,8 @@ mod networks;
 mod placing;
 #[cfg(test)]
 mod sets;
+#[cfg(test)]
+mod simulations;
 #[cfg(test)]
 mod tables;
 #[cfg(test)]

@@ -60,7 +60,7 @@ fn product(n: u32, literals: &Literals) -> Cube
 }
 
 /// The products of literals of `n` inputs.
-fn products(alloc: Global, n: u32, rows: &[Literals]) -> Result<Vec<Cube>, Memory>
+pub fn products(alloc: Global, n: u32, rows: &[Literals]) -> Result<Vec<Cube>, Memory>
     requires { n ≤ FEW }
     ensures { IfOk result (λ cubes. All (λ c. IsOver n c) cubes.items) }
 {

@@ -29,7 +29,8 @@ pub fn are_names(found: &[Name], wanted: &[&'static [u8]]) -> bool {
     found.len() == wanted.len()
 }
 
-fn are_rows(found: &[Cube], wanted: &[Literals]) -> bool {
+/// Whether the products are those of these literals, in order.
+pub fn are_rows(found: &[Cube], wanted: &[Literals]) -> bool {
     for (cube, row) in found.iter().zip(wanted.iter()) {
         if cube.pos != set(row.0) || cube.neg != set(row.1) {
             return false;

@@ -9,5 +9,5 @@ pub static AND_NET: &[u8] =
     b".model andexor\n.inputs x1 x2 _c\n.outputs f1\n.names x1 x2 _t1\n11 1\n.names _c _t1 f1\n10 1\n01 1\n.end\n";
 
 /// The vectors that are written for it.
-pub static AND_VECTORS: &[u8] =
+pub const AND_VECTORS: &[u8] =
     b"andexor-vectors 1\nform reddy\ninputs x1 x2 _c\noutputs f1\npolarity 11\nvector 000 0\nvector 110 1\nvector 001 1\nvector 111 0\nvector 010 0\nvector 100 0\nend\n";
