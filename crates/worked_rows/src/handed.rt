@@ -114,11 +114,16 @@ fn two_input_and_with_one_literal_complemented(rt: HostRuntime) -> Result<(), Fa
     assert_same(&rt, gives_handed(rt.alloc(), &MIXED_AND))
 }
 
-static ALL_PLAIN: [&str; 4] = [
+/// Words that say what would stand without them too.
+static ALL_PLAIN: [&str; 8] = [
     "synth in.pla n.blif v.vec --polarity positive",
     "synth in.pla n.blif v.vec --polarity 11",
     "synth in.pla n.blif v.vec --kind pla --polarity positive",
     "synth in.pla n.blif v.vec --kind pla --polarity 11",
+    "synth in.pla n.blif v.vec --form reddy",
+    "synth in.pla n.blif v.vec --kind pla --form reddy",
+    "synth in.pla n.blif v.vec --form reddy --polarity positive",
+    "synth in.pla n.blif v.vec --kind pla --form reddy --polarity 11",
 ];
 
 /// The first of the words by which the AND of two inputs is not written with both literals plain, where there are some.
@@ -137,7 +142,7 @@ fn first_not_plain(alloc: Global, texts: &[&'static str]) -> Result<Option<Other
 }
 
 #[test]
-fn each_literal_may_be_said_to_be_plain(rt: HostRuntime) -> Result<(), Fail> {
+fn the_plain_literals_and_the_reddy_form_may_be_said(rt: HostRuntime) -> Result<(), Fail> {
     assert_all(&rt, first_not_plain(rt.alloc(), &ALL_PLAIN))
 }
 

@@ -10,6 +10,8 @@ mod cut_texts;
 #[cfg(test)]
 mod differs;
 #[cfg(test)]
+mod factored;
+#[cfg(test)]
 mod files;
 #[cfg(test)]
 mod handed;

@@ -165,6 +165,30 @@ fn searches_end_as_their_advisors_say(rt: HostRuntime) -> Result<(), Fail> {
     assert_all(&rt, first_other(rt.alloc(), &OTHERS))
 }
 
+/// The words of a search that writes the factored form.
+const FACTORED_SEARCH: &str = "synth in.pla n.blif v.vec --form factored --polarity search";
+
+/// The product of three complements; and a proposal of 2,048 terms, which is past the limit of this form alone.
+static FACTORED: [Search; 2] = [
+    Search {
+        words: FACTORED_SEARCH,
+        report: b"form factored\ninputs 3 outputs 1\npolarity 000\nterms 1\ncubes 1\ngates 4\nfaults 28\nvectors 4\nunchanged 0\n",
+        ..COMPLEMENTS
+    },
+    Search {
+        words: FACTORED_SEARCH,
+        source: b".i 11\n.o 1\n11111111111 1\n.e\n",
+        report: b"form factored\ninputs 11 outputs 1\npolarity 11111111111\nterms 1\ncubes 1\ngates 1\nfaults 48\nvectors 12\nunchanged 0\n",
+        asked: &[(0, &[Told::Over])],
+        ..COMPLEMENTS
+    },
+];
+
+#[test]
+fn the_factored_form_is_searched_with_its_own_limit(rt: HostRuntime) -> Result<(), Fail> {
+    assert_all(&rt, first_other(rt.alloc(), &FACTORED))
+}
+
 /// BCD to seven segments with the program's own advisors: the digits from 10 on are specified as nothing.
 static SEVEN_SEGMENTS: [Search; 1] = [Search {
     words: SEARCH,

@@ -108,6 +108,34 @@ static OTHER_POLARITIES: [&str; 19] = [
     "grade in.pla n.blif v.vec --polarity 11",
 ];
 
+/// A form stands after the kind and before the polarity, and but once.
+static OTHER_FORMS: [&str; 19] = [
+    "synth in.pla n.blif v.vec --form",
+    "synth in.pla n.blif v.vec --form ",
+    "synth in.pla n.blif v.vec --form Reddy",
+    "synth in.pla n.blif v.vec --form FACTORED",
+    "synth in.pla n.blif v.vec --form esop",
+    "synth in.pla n.blif v.vec --form reddy factored",
+    "synth in.pla n.blif v.vec --form=factored",
+    "synth in.pla n.blif v.vec form factored",
+    "synth in.pla n.blif v.vec factored --form",
+    "synth in.pla n.blif v.vec --form factored more",
+    "synth in.pla n.blif v.vec --form reddy --form reddy",
+    "synth in.pla n.blif v.vec --form factored --form reddy",
+    "synth in.pla n.blif v.vec --form factored --kind pla",
+    "synth in.pla n.blif v.vec --polarity 11 --form factored",
+    "synth in.pla n.blif v.vec --polarity 11 --kind pla --form reddy",
+    "synth in.pla n.blif v.vec --form factored --polarity",
+    "synth in.pla n.blif v.vec --form --polarity 11",
+    "synth --form factored in.pla n.blif v.vec",
+    "grade in.pla n.blif v.vec --form factored",
+];
+
+#[test]
+fn forms_that_are_none(rt: HostRuntime) -> Result<(), Fail> {
+    assert_all(&rt, first_taken(rt.alloc(), &OTHER_FORMS))
+}
+
 #[test]
 fn polarities_that_are_none(rt: HostRuntime) -> Result<(), Fail> {
     assert_all(&rt, first_taken(rt.alloc(), &OTHER_POLARITIES))
@@ -183,7 +211,7 @@ fn tells_cut_create(alloc: Global, files: &mut MemFiles) -> Result<Differs, Memo
 fn vectors_are_cut(alloc: Global) -> Result<Differs, Memory> {
     let mut files = with_source(alloc, PLA, AND)?;
     let told = tells_cut_create(alloc, &mut files)?;
-    let net = net_text(alloc, PLA.model, &written::AND)?;
+    let net = net_text(alloc, PLA.model, written::AND.net)?;
     let left = Held {
         source: Some(AND),
         net: Some(net.as_bytes()),
@@ -218,7 +246,7 @@ fn tells_nothing(alloc: Global, files: &mut MemFiles) -> Result<Differs, Memory>
 fn report_is_cut(alloc: Global) -> Result<Differs, Memory> {
     let mut files = with_source(alloc, PLA, AND)?;
     let told = tells_nothing(alloc, &mut files)?;
-    let net = net_text(alloc, PLA.model, &written::AND)?;
+    let net = net_text(alloc, PLA.model, written::AND.net)?;
     let left = Held {
         source: Some(AND),
         net: Some(net.as_bytes()),

@@ -88,7 +88,7 @@ fn report_of(alloc: Global, polarity: &str, counts: &Counts) -> Result<String, M
 }
 
 /// Whether a text of BLIF is accepted as a written netlist, and the network that it says has so many faults.
-fn reads_back(alloc: Global, text: &[u8], count: usize) -> bool {
+pub fn reads_back(alloc: Global, text: &[u8], count: usize) -> bool {
     if text.len() > TEXT_BYTES {
         return false;
     }
@@ -101,9 +101,9 @@ fn reads_back(alloc: Global, text: &[u8], count: usize) -> bool {
     }
 }
 
-/// The text of the row's network, with its model.
-pub fn net_text(alloc: Global, model: &str, row: &Row) -> Result<String, Memory> {
-    Ok(format!(in alloc; ".model {model}\n{}", row.net)?)
+/// The text of a network, of which this is the part after its model's line.
+pub fn net_text(alloc: Global, model: &str, net: &str) -> Result<String, Memory> {
+    Ok(format!(in alloc; ".model {model}\n{net}")?)
 }
 
 /// Compares the files with what the row says, and reads its netlist back.
@@ -114,7 +114,7 @@ fn are_as_said(
     source: &[u8],
     row: &Row,
 ) -> Result<Differs, Memory> {
-    let net = net_text(alloc, given.model, row)?;
+    let net = net_text(alloc, given.model, row.net)?;
     if !reads_back(alloc, net.as_bytes(), row.counts.faults) {
         return Ok(Differs::Net);
     }
