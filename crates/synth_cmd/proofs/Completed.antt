@@ -26,7 +26,7 @@ use Rattle.synth_cmd.proofs.Names.{is_only}
 pub held_at : (held : Option Shelf) (m : Shelf) (name bytes : List ℕ) → held ≡ Some m → HoldsText held name bytes → get m name ≡ Some bytes
 held_at held m name bytes tells was = let h = subst (λ x. Holds x name bytes) tells was.is_held in h
 
-short_at : (held : Option Shelf) (m : Shelf) (name bytes : List ℕ) → held ≡ Some m → HoldsText held name bytes → length (bytes_of m name) ≤ TEXT_BYTES
+pub short_at : (held : Option Shelf) (m : Shelf) (name bytes : List ℕ) → held ≡ Some m → HoldsText held name bytes → length (bytes_of m name) ≤ TEXT_BYTES
 short_at held m name bytes tells was = rw (held_at held m name bytes tells was) was.short
 
 -- files that do not tell could have held anything short
@@ -38,10 +38,10 @@ tells_of None name bytes was =
     absurd (cc (none, one))
 
 -- a name that is too long
-long_at : (held : Option Shelf) (m : Shelf) (name : List ℕ) → held ≡ Some m → IfSome held (λ m. TEXT_BYTES < length (bytes_of m name)) → TEXT_BYTES < length (bytes_of m name)
+pub long_at : (held : Option Shelf) (m : Shelf) (name : List ℕ) → held ≡ Some m → IfSome held (λ m. TEXT_BYTES < length (bytes_of m name)) → TEXT_BYTES < length (bytes_of m name)
 long_at held m name tells long = let h = subst (λ x. IfSome x (λ m. TEXT_BYTES < length (bytes_of m name))) tells long in h
 
-none_short : (m : Shelf) (name : List ℕ) → get m name ≡ None → TEXT_BYTES < length (bytes_of m name) → ⊥
+pub none_short : (m : Shelf) (name : List ℕ) → get m name ≡ None → TEXT_BYTES < length (bytes_of m name) → ⊥
 none_short m name none long = let h = rw none at long in omega (arith, h)
 
 module _ (apart : (settings : Settings) (bytes : List ℕ) (output : ℕ) → IsWithin settings bytes → HasTooMany settings bytes output → ⊥)

@@ -12,12 +12,12 @@ use Rattle.synth_cmd.specs.Outcome.Stage.{Refuses, Fails, Writes}
 use Rattle.synth_cmd.specs.Outside.{Outside}
 use Rattle.synth_cmd.specs.Telling.{Tells, Reports, StopsMade, WritesMade}
 use Rattle.synth_cmd.specs.declared.tell.Refusal.{Refusal}
-use Rattle.synth_cmd.specs.declared.TheConstants.{WRITE_FAULT, MEMORY}
+use Rattle.synth_cmd.specs.declared.TheConstants.{DONE, WRITE_FAULT, MEMORY}
 
 module _ (settings : Settings) (Was : List ℕ → Type 0) (reads writes : List (List ℕ)) (old new : Outside) (status : ℕ) where
   -- after all texts are written
   pub ends_written : (texts : Texts) → WritesMade settings Was old.advisors new.advisors writes texts old.held new.held
-      → Reports (report_lines texts.summary) old.taken new.taken old.faults new.faults status → Ending settings Was reads writes old new status
+      → Reports (report_lines texts.summary) DONE old.taken new.taken old.faults new.faults status → Ending settings Was reads writes old new status
   ends_written texts made (inl whole) = at_stage (Writes texts) (made.is_made, made.whole) (inl whole)
   ends_written texts made (inr (inl fault)) = at_stage (Writes texts) (made.is_made, made.whole) (inr fault)
   ends_written texts made (inr (inr memory)) = half_told (Writes texts) memory.0 (made.is_made, made.whole) memory.1

@@ -3,6 +3,8 @@ pub mod Ends
 pub mod Jobs
 pub mod Names
 pub mod OneEnd
+pub mod PairCompleted
+pub mod PairEnds
 pub mod Stopped
 pub mod Telling
 pub mod Tested

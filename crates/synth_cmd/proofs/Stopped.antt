@@ -10,6 +10,18 @@ use Rattle.synth_core.specs.declared.error.SynthErr.TheVariants as synth_err
 use Rattle.synth_core.specs.declared.fault.TextFault.{TextFault}
 use Rattle.synth_core.specs.declared.fault.TextFault.TheVariants as text
 use Rattle.synth_core.specs.declared.settings.Settings.{Settings}
+use Rattle.synth_core.specs.declared.pair_error.PairErr.{PairErr}
+use Rattle.synth_core.specs.declared.pair_error.PairErr.TheVariants as pair_err
+use Rattle.synth_core.specs.Grade.{HasOtherNames, HasVectorFault}
+use Rattle.blif_read.specs.Says.{blif_says}
+use Rattle.blif_read.specs.declared.fault.BlifFault.{BlifFault}
+use Rattle.blif_read.specs.declared.fault.NetLimits.TheVariants.{Written}
+use Rattle.vec_text.specs.declared.fault.VecFault.{VecFault}
+use Rattle.synth_cmd.specs.PairStops.{of_pair}
+use Rattle.synth_cmd.specs.Pairs.{HoldPair, PairCause}
+use Rattle.synth_cmd.specs.declared.pair.PairRefusal.{PairRefusal}
+use Rattle.synth_cmd.specs.declared.pair.PairRefusal.TheVariants.{NetText, VectorText, NamesDiffer}
+use Rattle.synth_cmd.specs.declared.pair.PairStop.TheVariants as pair_stop
 use Rattle.synth_cmd.specs.Outcome.{Cause}
 use Rattle.synth_cmd.specs.Stops.{of_synth, of_texts}
 use Rattle.synth_cmd.specs.declared.stop.SourceErr.TheVariants as source_err
@@ -52,3 +64,19 @@ pub memory : (e : TextsErr) → of_texts e ≡ stop.Memory → e ≡ texts.Memor
 memory texts.NetFault is = absurd (cc is)
 memory texts.VectorsFault is = absurd (cc is)
 memory texts.Memory is = refl
+
+-- texts that are no pair have the cause that the error tells
+pub pair_cause : (held : Option Shelf) (before now : Tally) (net vectors net_bytes vec_bytes : List ℕ) (e : PairErr) (r : PairRefusal) → HoldPair held net vectors net_bytes vec_bytes
+    → ((line : ℕ) (what : BlifFault) → e ≡ pair_err.Blif line what → blif_says Written net_bytes ≡ Err (line, what))
+    → ((line : ℕ) (what : VecFault) → e ≡ pair_err.Vector line what → HasVectorFault net_bytes vec_bytes line what) → (e ≡ pair_err.NamesDiffer → HasOtherNames net_bytes vec_bytes)
+    → of_pair e ≡ pair_stop.Refused r → PairCause held before now net vectors r
+pair_cause held before now net vectors net_bytes vec_bytes (pair_err.Blif line what) r hold says fault names is =
+    let same : NetText line what ≡ r = cc in
+    subst (PairCause held before now net vectors) same (record { net_bytes = net_bytes; vec_bytes = vec_bytes; hold = hold; holds = says line what refl })
+pair_cause held before now net vectors net_bytes vec_bytes (pair_err.Vector line what) r hold says fault names is =
+    let same : VectorText line what ≡ r = cc in
+    subst (PairCause held before now net vectors) same (record { net_bytes = net_bytes; vec_bytes = vec_bytes; hold = hold; holds = fault line what refl })
+pair_cause held before now net vectors net_bytes vec_bytes pair_err.NamesDiffer r hold says fault names is =
+    let same : NamesDiffer ≡ r = cc in
+    subst (PairCause held before now net vectors) same (record { net_bytes = net_bytes; vec_bytes = vec_bytes; hold = hold; holds = names refl })
+pair_cause held before now net vectors net_bytes vec_bytes pair_err.Memory r hold says fault names is = absurd (cc is)

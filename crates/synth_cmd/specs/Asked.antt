@@ -17,6 +17,7 @@ use Rattle.vec_text.specs.declared.file.Form.TheVariants.{Reddy, Factored}
 pub data Asked : Type 0 where
   Refused : Asked
   Synth : Settings → (source net vectors : List ℕ) → Asked
+  Grade : (net vectors : List ℕ) → Asked
 
 -- the kind of a source's text that a word names
 abbrev pub kind_of : List ℕ → Option SourceKind
@@ -61,11 +62,20 @@ abbrev pub settings_of : List (List ℕ) → Option Settings
 settings_of words = option_and_then (λ kind. settings_after kind.0 (option_at (codes "--form") form_of Reddy kind.1)) (option_at (codes "--kind") kind_of Pla words)
 
 -- `synth` and the names of three files, which differ as texts, and then the words that say how
-abbrev pub asked_by : List (List ℕ) → Asked
-asked_by (mode ∷ source ∷ net ∷ vectors ∷ options) =
+abbrev pub synth_by : (mode source net vectors : List ℕ) → List (List ℕ) → Asked
+synth_by mode source net vectors options =
     if bytes_eq mode (codes "synth") && (not (bytes_eq source net) && (not (bytes_eq source vectors) && not (bytes_eq net vectors)))
     then option_map_or (λ settings. Synth settings source net vectors) (settings_of options) Refused
     else Refused
+
+-- `grade` and the names of two files, which differ as texts
+abbrev pub grade_by : (mode net vectors : List ℕ) → Asked
+grade_by mode net vectors = if bytes_eq mode (codes "grade") && not (bytes_eq net vectors) then Grade net vectors else Refused
+
+-- one of these, by the number of words; nothing else is asked for
+abbrev pub asked_by : List (List ℕ) → Asked
+asked_by (mode ∷ source ∷ net ∷ vectors ∷ options) = synth_by mode source net vectors options
+asked_by (mode ∷ net ∷ vectors ∷ []) = grade_by mode net vectors
 asked_by words = Refused
 
 abbrev pub asked : List (String Global) → Asked

@@ -8,7 +8,7 @@ use Rattle.synth_core.specs.Headline.{Headline}
 use Rattle.synth_core.specs.Says.{source_says}
 use Rattle.synth_core.specs.declared.settings.Settings.{Settings}
 use Rattle.synth_cmd.specs.Asked.{Asked}
-use Rattle.synth_cmd.specs.Asked.Asked.{Refused, Synth}
+use Rattle.synth_cmd.specs.Asked.Asked.{Refused, Synth, Grade}
 
 -- The name holds these bytes, where the files tell what they hold.
 abbrev pub Holds : Option Shelf → List ℕ → List ℕ → Type 0
@@ -27,7 +27,8 @@ pub record Tested (settings : Settings) (Was : List ℕ → Type 0) (net vectors
   pub vec_holds : Holds held vectors vec_bytes
   pub headline : Headline settings.form polarity source net_bytes vec_bytes
 
--- what stands where a command is done, by what was before and is now
+-- what stands where a command is done, by what was before and is now: of a grading the headline promises nothing
 abbrev pub HasHeadline : Asked → (old new : Option Shelf) → Type 0
 HasHeadline Refused old new = ⊥
 HasHeadline (Synth settings source net vectors) old new = Tested settings (Holds old source) net vectors new
+HasHeadline (Grade net vectors) old new = Unit {0}

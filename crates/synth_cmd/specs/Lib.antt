@@ -1,9 +1,12 @@
 pub mod Asked
 pub mod Complete
+pub mod Ends
 pub mod Headline
 pub mod Lines
 pub mod Outcome
 pub mod Outside
+pub mod PairStops
+pub mod Pairs
 pub mod Stops
 pub mod Telling
 pub mod Words

@@ -1,14 +1,21 @@
 -- The lines of the report. Each ends with byte 10.
-use Rattle.std.specs.Prelude.{ℕ, suc, List, [], ◌∷◌, ◌++◌, codes}
+use Rattle.std.specs.Prelude.{ℕ, suc, ◌==◌, nat_lt, Bool, not, ◌||◌, if◌then◌else◌, List, [], ◌∷◌, ◌++◌, length, map, codes}
 use Rattle.std.specs.Fmt.{decimal}
 use Rattle.ae_base.specs.Text.{text_of}
 use Rattle.vec_text.specs.declared.file.Form.{Form}
 use Rattle.vec_text.specs.declared.file.Form.TheVariants.{Reddy, Factored}
-use Rattle.vec_text.specs.VectorFile.{form_line, polarity_line}
-use Rattle.synth_cmd.specs.declared.TheConstants.{WORDS, READ_FAULT, REFUSED, TOO_LONG, TOO_MANY_TERMS}
+use Rattle.vec_text.specs.VectorFile.{form_line, place_words, polarity_line, value_word}
+use Rattle.vec_text.specs.Faults as vec
+use Rattle.blif_read.specs.Names as blif
+use Rattle.synth_cmd.specs.declared.TheConstants.{DONE, SHORTFALL, WORDS, READ_FAULT, REFUSED, TOO_LONG, TOO_MANY_TERMS}
 use Rattle.synth_cmd.specs.declared.tell.Refusal.{Refusal}
 use Rattle.synth_cmd.specs.declared.tell.Refusal.TheVariants.{ReadFault, TooLong, Text, BitCount, TooManyTerms}
-use Rattle.synth_core.specs.declared.fault.TextFault.{TextFault}
+use Rattle.synth_cmd.specs.declared.pair.FileRefusal.{FileRefusal}
+use Rattle.synth_cmd.specs.declared.pair.FileRefusal.TheVariants as file
+use Rattle.synth_cmd.specs.declared.pair.PairRefusal.{PairRefusal}
+use Rattle.synth_cmd.specs.declared.pair.PairRefusal.TheVariants as pair
+use Rattle.synth_core.specs.declared.grading.GradeReport.{GradeReport}
+use Rattle.synth_core.specs.declared.named.NamedFault.{NamedFault}
 use Rattle.synth_core.specs.Says.{text_fault_name}
 use Rattle.synth_core.specs.declared.made.Summary.{Summary}
 
@@ -21,8 +28,13 @@ read_fault_line name = codes "read fault: " ++ (name ++ codes "\n")
 abbrev pub write_fault_line : List ℕ → List ℕ
 write_fault_line name = codes "write fault: " ++ (name ++ codes "\n")
 
-abbrev pub refused_line : List ℕ → ℕ → TextFault → List ℕ
-refused_line name line what = codes "refused: " ++ (name ++ (codes ": line " ++ (decimal line ++ (codes ": " ++ (text_fault_name what ++ codes "\n")))))
+-- with the name of the fault
+abbrev pub refused_line : List ℕ → ℕ → List ℕ → List ℕ
+refused_line name line fault = codes "refused: " ++ (name ++ (codes ": line " ++ (decimal line ++ (codes ": " ++ (fault ++ codes "\n")))))
+
+-- the names of a vector file are not those of the netlist
+abbrev pub names_line : List ℕ → List ℕ
+names_line name = codes "refused: " ++ (name ++ codes ": names differ\n")
 
 abbrev pub too_long_line : List ℕ → List ℕ
 too_long_line name = codes "too long: " ++ (name ++ codes "\n")
@@ -74,6 +86,60 @@ status_of (TooManyTerms output) = TOO_MANY_TERMS
 abbrev pub line_of : Refusal → List ℕ → List ℕ
 line_of ReadFault name = read_fault_line name
 line_of TooLong name = too_long_line name
-line_of (Text line what) name = refused_line name line what
+line_of (Text line what) name = refused_line name line (text_fault_name what)
 line_of (BitCount given wanted) name = bit_count_line given wanted
 line_of (TooManyTerms output) name = too_many_line output
+
+-- ---- gradings
+
+-- a fault by its names
+abbrev pub miss_line : NamedFault → List (List ℕ)
+miss_line fault = codes "miss" ∷ place_words fault.place ++ (value_word fault.value ∷ [])
+
+-- the numbers of stuck-at faults, of those that are detected and of those that are missed
+abbrev pub fault_counts : GradeReport → List (List (List ℕ))
+fault_counts r =
+    (codes "faults" ∷ decimal r.faults ∷ []) ∷
+    (codes "told" ∷ decimal r.told ∷ []) ∷
+    (codes "missed" ∷ decimal (length r.missed) ∷ []) ∷
+    []
+
+-- the numbers of vectors and of wrong responses, and those
+abbrev pub grade_counts : GradeReport → List (List (List ℕ))
+grade_counts r = (codes "vectors" ∷ decimal r.vectors ∷ []) ∷ (codes "wrong" ∷ decimal r.wrong ∷ []) ∷ fault_counts r
+
+-- the report of a grading: the numbers, and a line for each missed fault
+abbrev pub grade_lines : GradeReport → List ℕ
+grade_lines r = text_of (grade_counts r ++ map miss_line r.missed)
+
+-- some response is wrong, or some fault is missed
+abbrev pub falls_short : GradeReport → Bool
+falls_short r = nat_lt 0 r.wrong || not (length r.missed == 0)
+
+-- the status of a report that is written
+abbrev pub grade_status : GradeReport → ℕ
+grade_status r = if falls_short r then SHORTFALL else DONE
+
+-- the status of a file that is not read, and the line that tells it
+abbrev pub file_status : FileRefusal → ℕ
+file_status file.ReadFault = READ_FAULT
+file_status file.TooLong = TOO_LONG
+
+abbrev pub file_line : FileRefusal → List ℕ → List ℕ
+file_line file.ReadFault name = read_fault_line name
+file_line file.TooLong name = too_long_line name
+
+-- those of a pair that is refused, by the names of its files
+abbrev pub pair_status : PairRefusal → ℕ
+pair_status (pair.Net refusal) = file_status refusal
+pair_status (pair.Vectors refusal) = file_status refusal
+pair_status (pair.NetText line what) = REFUSED
+pair_status (pair.VectorText line what) = REFUSED
+pair_status pair.NamesDiffer = REFUSED
+
+abbrev pub pair_line : PairRefusal → (net vectors : List ℕ) → List ℕ
+pair_line (pair.Net refusal) net vectors = file_line refusal net
+pair_line (pair.Vectors refusal) net vectors = file_line refusal vectors
+pair_line (pair.NetText line what) net vectors = refused_line net line (blif.fault_name what)
+pair_line (pair.VectorText line what) net vectors = refused_line vectors line (vec.fault_name what)
+pair_line pair.NamesDiffer net vectors = names_line vectors

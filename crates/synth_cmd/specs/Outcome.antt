@@ -1,4 +1,4 @@
--- How a call ends: what the files hold, what the report took, and the counts of faults.
+-- How a synthesis ends: what the files hold, what the report took, and the counts of faults.
 use Rattle.std.specs.Prelude.{◌≡◌, ◌⊎◌, ◌≤◌, ◌<◌, ◌++◌, ℕ, List, [], ◌∷◌, Option, Err, IfSome, length, take, Contains}
 use Rattle.std.specs.List.{zip}
 use Rattle.ae_base.specs.declared.limits.TheConstants.{TEXT_BYTES}
@@ -10,8 +10,6 @@ use Rattle.synth_core.specs.Made.{IsMade, Texts}
 use Rattle.synth_core.specs.Says.{source_says}
 use Rattle.synth_core.specs.Searched.{AdvisorsStand}
 use Rattle.synth_core.specs.declared.settings.Settings.{Settings}
-use Rattle.synth_cmd.specs.Asked.{Asked}
-use Rattle.synth_cmd.specs.Asked.Asked.{Refused, Synth}
 use Rattle.synth_cmd.specs.Complete.{IsComplete}
 use Rattle.synth_cmd.specs.Headline.{Holds}
 use Rattle.synth_cmd.specs.Outside.{Outside, CountsAmong}
@@ -135,8 +133,3 @@ pub record WordsEnd (old new : Outside) (status : ℕ) : Type 0 where
   pub writes : new.writes ≡ old.writes
   pub faults : old.faults ≤ new.faults
   pub advisors : new.advisors ≡ old.advisors
-
--- how each command ends
-abbrev pub Ends : Asked → (old new : Outside) → (status : ℕ) → Type 0
-Ends Refused old new status = WordsEnd old new status
-Ends (Synth settings source net vectors) old new status = SynthEnds settings (HoldsText old.held source) (source ∷ []) (net ∷ vectors ∷ []) old new status

@@ -6,16 +6,16 @@ use Rattle.polarity.specs.Search.{Advised}
 use Rattle.synth_core.specs.Made.{Texts}
 use Rattle.synth_core.specs.declared.settings.Settings.{Settings}
 use Rattle.synth_cmd.specs.Outcome.{Told, TellsMemory, IsMadeOf, StopsAt, all_written, files_of}
-use Rattle.synth_cmd.specs.declared.TheConstants.{DONE, WRITE_FAULT, MEMORY}
+use Rattle.synth_cmd.specs.declared.TheConstants.{WRITE_FAULT, MEMORY}
 
 -- A line is told and the status answered, or that of memory.
 abbrev pub Tells : (line : List ℕ) (status : ℕ) → (old new : Option (List ℕ)) → (before now answer : ℕ) → Type 0
 Tells line status old new before now answer = ((answer ≡ status) × Told line old new before now) ⊎ ((answer ≡ MEMORY) × TellsMemory line old new)
 
--- The lines of the report are written whole, or a write of them failed, or memory is wanting.
-abbrev pub Reports : (lines : List ℕ) → (old new : Option (List ℕ)) → (before now answer : ℕ) → Type 0
-Reports lines old new before now answer =
-    ((answer ≡ DONE) × (new ≡ added old lines))
+-- The lines of the report are written whole and the status answered, or a write of them failed, or memory is wanting.
+abbrev pub Reports : (lines : List ℕ) (status : ℕ) → (old new : Option (List ℕ)) → (before now answer : ℕ) → Type 0
+Reports lines status old new before now answer =
+    ((answer ≡ status) × (new ≡ added old lines))
     ⊎ (((answer ≡ WRITE_FAULT) × Rose before now × TookFront lines old new) ⊎ ((answer ≡ MEMORY) × TellsMemory lines old new))
 
 -- Texts were made, and their writing stopped at a name.

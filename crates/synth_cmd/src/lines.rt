@@ -1,9 +1,12 @@
 //! The lines that tell a refusal or a fault.
 ghost use Rattle.std.specs.Prelude.{◌≡◌, IfOk, string_bytes};
+ghost use Rattle.synth_core.specs.Says.{text_fault_name};
 ghost use Rattle.synth_cmd.specs.Lines as spec;
+ghost use Rattle.vec_text.specs.Faults.{fault_name};
 
 use std::alloc::{AllocError, Global};
 use synth_core::TextFault;
+use vec_text::VecFault;
 
 /// Tells that a read of the file failed.
 pub fn read_fault(alloc: Global, name: &str) -> Result<String, AllocError>
@@ -21,9 +24,28 @@ pub fn write_fault(alloc: Global, name: &str) -> Result<String, AllocError>
 
 /// Tells the first fault of the file's text, with its line.
 pub fn refused(alloc: Global, name: &str, line: u32, what: TextFault) -> Result<String, AllocError>
-    ensures { IfOk result (λ text. string_bytes text ≡ spec.refused_line name.now line what) }
+    ensures { IfOk result (λ text. string_bytes text ≡ spec.refused_line name.now line (text_fault_name what)) }
 {
     format!(in alloc; "refused: {name}: line {line}: {what}\n")
+}
+
+/// Tells the first fault of a vector text, with its line.
+pub fn refused_vectors(
+    alloc: Global,
+    name: &str,
+    line: u32,
+    what: VecFault,
+) -> Result<String, AllocError>
+    ensures { IfOk result (λ text. string_bytes text ≡ spec.refused_line name.now line (fault_name what)) }
+{
+    format!(in alloc; "refused: {name}: line {line}: {what}\n")
+}
+
+/// Tells that the names of the vector file are not those of the netlist.
+pub fn names_differ(alloc: Global, name: &str) -> Result<String, AllocError>
+    ensures { IfOk result (λ line. string_bytes line ≡ spec.names_line name.now) }
+{
+    format!(in alloc; "refused: {name}: names differ\n")
 }
 
 /// Tells that the file is too long.

@@ -10,7 +10,7 @@ use synth_core::Summary;
 use vec_text::{Form, line_law, push_form, push_polarity};
 
 /// Writes a blank and a number.
-fn push_number(alloc: Global, out: &mut Vec<u8>, number: u64) -> Result<(), Memory>
+pub fn push_number(alloc: Global, out: &mut Vec<u8>, number: u64) -> Result<(), Memory>
     ensures { OnOk result (out.new.items ≡ out.old.items ++ 32 ∷ decimal number) }
 {
     let digits = format!(in alloc; "{number}")?;
@@ -30,7 +30,7 @@ fn push_sizes(alloc: Global, out: &mut Vec<u8>, inputs: u32, outputs: u32) -> Re
 }
 
 /// Writes a line of a word and a number.
-fn push_count(alloc: Global, out: &mut Vec<u8>, word: &[u8], number: u64) -> Result<(), Memory>
+pub fn push_count(alloc: Global, out: &mut Vec<u8>, word: &[u8], number: u64) -> Result<(), Memory>
     ensures { OnOk result (out.new.items ≡ out.old.items ++ text_of ((word.now ∷ decimal number ∷ []) ∷ [])) }
 {
     line_law();

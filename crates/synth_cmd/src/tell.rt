@@ -96,18 +96,26 @@ pub fn tell_write_fault<K: Sink>(alloc: Global, report: &mut K, name: &str) -> u
     }
 }
 
-/// Reports a synthesis.
-pub fn finish<K: Sink>(alloc: Global, report: &mut K, summary: Summary) -> u8
-    ensures told { Reports (report_lines summary) (K.taken report.old) (K.taken report.new) (K.faults report.old) (K.faults report.new) result }
+/// Writes a report, and answers the status, or that of a write fault or of memory.
+pub fn put_report<K: Sink>(report: &mut K, text: &[u8], status: u8) -> u8
+    ensures told { Reports text.now status (K.taken report.old) (K.taken report.new) (K.faults report.old) (K.faults report.new) result }
     ensures counts { K.faults report.old ≤ K.faults report.new }
 {
     file_laws();
+    match put_all(report, text) {
+        Ok(()) => status,
+        Err(WriteErr::Fault) => WRITE_FAULT,
+        Err(WriteErr::Memory) => want_memory(report),
+    }
+}
+
+/// Reports a synthesis.
+pub fn finish<K: Sink>(alloc: Global, report: &mut K, summary: Summary) -> u8
+    ensures told { Reports (report_lines summary) DONE (K.taken report.old) (K.taken report.new) (K.faults report.old) (K.faults report.new) result }
+    ensures counts { K.faults report.old ≤ K.faults report.new }
+{
     match report_of(alloc, summary) {
-        Ok(text) => match put_all(report, &text) {
-            Ok(()) => DONE,
-            Err(WriteErr::Fault) => WRITE_FAULT,
-            Err(WriteErr::Memory) => want_memory(report),
-        },
+        Ok(text) => put_report(report, &text, DONE),
         Err(_) => want_memory(report),
     }
 }

@@ -22,6 +22,13 @@ pub struct FileNames<'a> {
     pub vectors: &'a str,
 }
 
+/// The names of the files of a pair: a netlist and its vectors.
+#[derive(Clone, Copy)]
+pub struct PairNames<'a> {
+    pub net: &'a str,
+    pub vectors: &'a str,
+}
+
 /// A command with what it asks for and the names of its files.
 #[derive(Clone, Copy)]
 pub enum Command<'a> {
@@ -29,6 +36,9 @@ pub enum Command<'a> {
     Synth {
         settings: Settings,
         names: FileNames<'a>,
+    },
+    Grade {
+        names: PairNames<'a>,
     },
 }
 
@@ -189,29 +199,61 @@ fn settings_of(words: &[String]) -> Option<Settings>
     }
 }
 
+/// `synth` and its three names, with the words after them.
+fn synth_of<'a>(
+    mode: &str,
+    source: &'a str,
+    net: &'a str,
+    vectors: &'a str,
+    options: &[String],
+) -> Command<'a>
+    ensures asked { command_of result ≡ spec.synth_by mode.now source.now net.now vectors.now (map string_bytes options.now) }
+    ensures apart { AreApart (command_of result) }
+{
+    if mode != "synth" || source == net || source == vectors || net == vectors {
+        return Command::Refused;
+    }
+    match settings_of(options) {
+        Some(settings) => Command::Synth {
+            settings,
+            names: FileNames {
+                source,
+                net,
+                vectors,
+            },
+        },
+        None => Command::Refused,
+    }
+}
+
+/// `grade` and its two names.
+fn grade_of<'a>(mode: &str, net: &'a str, vectors: &'a str) -> Command<'a>
+    ensures asked { command_of result ≡ spec.grade_by mode.now net.now vectors.now }
+    ensures apart { AreApart (command_of result) }
+{
+    if mode == "grade" && net != vectors {
+        Command::Grade {
+            names: PairNames { net, vectors },
+        }
+    } else {
+        Command::Refused
+    }
+}
+
 /// What the words ask for, the program's own name left out.
 pub fn read_command(words: &[String]) -> Command<'_>
     ensures asked { command_of result ≡ asked words.now }
     ensures apart { AreApart (command_of result) }
 {
     match words {
-        [mode, source, net, vectors, options @ ..]
-            if mode.as_str() == "synth"
-                && source.as_str() != net.as_str()
-                && source.as_str() != vectors.as_str()
-                && net.as_str() != vectors.as_str() => {
-            match settings_of(options) {
-                Some(settings) => Command::Synth {
-                    settings,
-                    names: FileNames {
-                        source: source.as_str(),
-                        net: net.as_str(),
-                        vectors: vectors.as_str(),
-                    },
-                },
-                None => Command::Refused,
-            }
-        }
+        [mode, net, vectors] => grade_of(mode.as_str(), net.as_str(), vectors.as_str()),
+        [mode, source, net, vectors, options @ ..] => synth_of(
+            mode.as_str(),
+            source.as_str(),
+            net.as_str(),
+            vectors.as_str(),
+            options,
+        ),
         _ => Command::Refused,
     }
 }
