@@ -14,6 +14,8 @@ mod factored;
 #[cfg(test)]
 mod files;
 #[cfg(test)]
+mod graded;
+#[cfg(test)]
 mod handed;
 #[cfg(test)]
 mod header_faults;

@@ -53,10 +53,15 @@ fn first_taken(alloc: Global, texts: &[&'static str]) -> Result<Option<Other>, M
     Ok(None)
 }
 
-static OTHER_WORDS: [&str; 7] = [
+static OTHER_WORDS: [&str; 12] = [
     "synth in.pla n.blif",
     "synth in.pla n.blif v.vec more",
-    "grade n.blif v.vec",
+    "check n.blif v.vec",
+    "grade",
+    "grade in.pla",
+    "grade in.pla in.pla",
+    "grade in.pla v.vec more",
+    "Grade in.pla v.vec",
     "Synth in.pla n.blif v.vec",
     "synth in.pla in.pla v.vec",
     "synth in.pla n.blif in.pla",
