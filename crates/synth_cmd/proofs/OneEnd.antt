@@ -6,19 +6,21 @@ use Rattle.polarity.specs.Search.{Advised}
 use Rattle.synth_core.specs.Made.{IsMade, Texts}
 use Rattle.synth_core.specs.declared.settings.Settings.{Settings}
 use Rattle.synth_cmd.specs.Asked.{Asked}
-use Rattle.synth_cmd.specs.Asked.Asked.{Refused, Synth, Grade}
+use Rattle.synth_cmd.specs.Asked.Asked.{Refused, Synth, Grade, Check}
 use Rattle.synth_cmd.specs.Lines.{pair_status, report_lines, status_of}
-use Rattle.synth_cmd.specs.Ends.{Ends, GradeFinds, IsReported, finding_of}
-use Rattle.synth_cmd.specs.Pairs.{Finding, PairAnswers, PairEnding, PairStage, PairStands, WerePair}
+use Rattle.synth_cmd.specs.Ends.{CheckFinds, Ends, GradeFinds, IsReported}
+use Rattle.synth_cmd.specs.Pairs.{Finding, PairAnswers, PairEnding, PairEnds, PairStage, PairStands, WerePair}
 use Rattle.synth_cmd.specs.Pairs.PairEnding.{at_stage as at_pair_stage, untold, half_told as half_found}
 use Rattle.synth_cmd.specs.Pairs.PairStage.{Refuses as RefusesPair, Finds}
 use Rattle.synth_cmd.specs.declared.pair.FileRefusal.{FileRefusal}
 use Rattle.synth_cmd.specs.declared.pair.FileRefusal.TheVariants as file
 use Rattle.synth_cmd.specs.declared.pair.PairRefusal.{PairRefusal}
 use Rattle.synth_cmd.specs.declared.pair.PairRefusal.TheVariants as refusal
+use Rattle.synth_core.specs.Check.{IsChecked}
 use Rattle.synth_core.specs.Grade.{IsGraded}
+use Rattle.synth_core.specs.declared.checking.CheckReport.{CheckReport}
 use Rattle.synth_core.specs.declared.grading.GradeReport.{GradeReport}
-use Rattle.synth_cmd.proofs.PairCompleted.{one_finding, one_found}
+use Rattle.synth_cmd.proofs.PairCompleted.{one_check_found, one_finding, one_found}
 use Rattle.synth_cmd.specs.Outcome.{Ending, HoldsText, IsMadeOf, Stage, Stands, Answers, WordsEnd, all_written, files_of}
 use Rattle.synth_cmd.specs.Outcome.Ending.{at_stage, untouched, in_part, half_told}
 use Rattle.synth_cmd.specs.Outcome.Stage.{Refuses, Fails, Writes}
@@ -87,6 +89,16 @@ module _ (Found : (net_bytes vec_bytes : List ℕ) → Finding → Type 0) (net 
   is_told (untold is front) = absurd (other_status s MEMORY reported is (omega arith))
   is_told (half_found stage is stands front) = absurd (other_status s MEMORY reported is (omega arith))
 
+-- two such calls tell one thing
+told_once : (Found : (net_bytes vec_bytes : List ℕ) → Finding → Type 0) (net vectors : List ℕ) (m : Shelf) → ((net_bytes vec_bytes : List ℕ) (f g : Finding) → Found net_bytes vec_bytes f → Found net_bytes vec_bytes g → f ≡ g)
+    → (old a b : Outside) (s t : ℕ) → old.held ≡ Some m → IsReported s → IsReported t → PairEnds Found net vectors old a s → PairEnds Found net vectors old b t
+    → (s ≡ t) × (a.held ≡ b.held) × (a.taken ≡ b.taken)
+told_once Found net vectors m one old a b s t tells first second x y =
+    let p = is_told Found net vectors old a s first x.ending in
+    let q = is_told Found net vectors old b t second y.ending in
+    let same : p.finding ≡ q.finding = one_found one old.held m net vectors p.finding q.finding tells p.were q.were in
+    (p.status ∙ ap (λ f. f.status) same ∙ sym q.status, x.held ∙ sym y.held, p.taken ∙ ap (λ f. added old.taken f.lines) same ∙ sym q.taken)
+
 module _ (one : (settings : Settings) (bytes : List ℕ) (before after : List Advised) (a b : Texts) → IsMade settings bytes before after a → IsMade settings bytes before after b → a ≡ b) where
   one_texts : (settings : Settings) (source : List ℕ) (m : Shelf) (held : Option Shelf) (before after : List Advised) (a b : Texts) → held ≡ Some m
       → IsMadeOf settings (HoldsText held source) before after a → IsMadeOf settings (HoldsText held source) before after b → a ≡ b
@@ -108,7 +120,8 @@ module _ (one : (settings : Settings) (bytes : List ℕ) (before after : List Ad
   no_words : (old new : Outside) (s : ℕ) → IsReported s → WordsEnd old new s → ⊥
   no_words old new s reported end = elim (end.known) [ inl k ↦ other_status s WORDS reported k.0 (omega arith) | inr k ↦ other_status s MEMORY reported k.0 (omega arith) ]
 
-  module _ (one_grade : (net_bytes vec_bytes : List ℕ) (a b : GradeReport) → IsGraded net_bytes vec_bytes a → IsGraded net_bytes vec_bytes b → a ≡ b) where
+  module _ (one_grade : (net_bytes vec_bytes : List ℕ) (a b : GradeReport) → IsGraded net_bytes vec_bytes a → IsGraded net_bytes vec_bytes b → a ≡ b)
+      (one_check : (net_bytes vec_bytes : List ℕ) (a b : CheckReport) → IsChecked net_bytes vec_bytes a → IsChecked net_bytes vec_bytes b → a ≡ b) where
     pub one_end : (words : Asked) (m : Shelf) (old a b : Outside) (s t : ℕ) → old.held ≡ Some m → a.advisors ≡ b.advisors → IsReported s → IsReported t → Ends words old a s → Ends words old b t
         → (s ≡ t) × (a.held ≡ b.held) × (a.taken ≡ b.taken)
     one_end Refused m old a b s t tells advised first second x y = absurd (no_words old a s first x)
@@ -117,8 +130,5 @@ module _ (one : (settings : Settings) (bytes : List ℕ) (before after : List Ad
         let q = is_done settings (HoldsText old.held source) (source ∷ []) (net ∷ vectors ∷ []) old b t second y.ending in
         let same = done_once settings source (net ∷ vectors ∷ []) m old a b tells advised p.1 q.1 in
         (p.0 ∙ sym q.0, same.0, same.1)
-    one_end (Grade net vectors) m old a b s t tells advised first second x y =
-        let p = is_told GradeFinds net vectors old a s first x.ending in
-        let q = is_told GradeFinds net vectors old b t second y.ending in
-        let same : p.finding ≡ q.finding = one_found (one_finding one_grade) old.held m net vectors p.finding q.finding tells p.were q.were in
-        (p.status ∙ ap (λ f. f.status) same ∙ sym q.status, x.held ∙ sym y.held, p.taken ∙ ap (λ f. added old.taken f.lines) same ∙ sym q.taken)
+    one_end (Grade net vectors) m old a b s t tells advised first second x y = told_once GradeFinds net vectors m (one_finding one_grade) old a b s t tells first second x y
+    one_end (Check net vectors) m old a b s t tells advised first second x y = told_once CheckFinds net vectors m (one_check_found one_check) old a b s t tells first second x y

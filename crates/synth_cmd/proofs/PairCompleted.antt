@@ -5,10 +5,12 @@ use Rattle.std.specs.FinMap.{get}
 use Rattle.ae_base.proofs.Contained.{Contains-first}
 use Rattle.ae_base.specs.declared.limits.TheConstants.{TEXT_BYTES}
 use Rattle.ae_outside.specs.Files.{Shelf, bytes_of}
+use Rattle.synth_core.specs.Check.{IsChecked}
 use Rattle.synth_core.specs.Grade.{AreGradable, HasOtherNames, IsGraded}
+use Rattle.synth_core.specs.declared.checking.CheckReport.{CheckReport}
 use Rattle.synth_core.specs.declared.grading.GradeReport.{GradeReport}
 use Rattle.synth_cmd.specs.Complete.{NoFault, NoRead, OrMemory}
-use Rattle.synth_cmd.specs.Ends.{GradeFinds, finding_of}
+use Rattle.synth_cmd.specs.Ends.{CheckFinds, GradeFinds, checked_finding, finding_of}
 use Rattle.synth_cmd.specs.Outcome.{HoldsText}
 use Rattle.synth_cmd.specs.Outside.{Outside}
 use Rattle.synth_cmd.specs.Pairs.{Finding, HoldOnly, HoldPair, IsPairComplete, PairAnswers, PairEnding, PairStage, PairStands, WerePair}
@@ -28,6 +30,13 @@ one_text held m name a b tells x y = let both = sym (held_at held m name a tells
 pub one_finding : ((net_bytes vec_bytes : List ℕ) (a b : GradeReport) → IsGraded net_bytes vec_bytes a → IsGraded net_bytes vec_bytes b → a ≡ b)
     → (net_bytes vec_bytes : List ℕ) (f g : Finding) → GradeFinds net_bytes vec_bytes f → GradeFinds net_bytes vec_bytes g → f ≡ g
 one_finding one net_bytes vec_bytes f g x y = x.is ∙ ap finding_of (one net_bytes vec_bytes x.report y.report x.graded y.graded) ∙ sym y.is
+
+pub one_check_found : ((net_bytes vec_bytes : List ℕ) (a b : CheckReport) → IsChecked net_bytes vec_bytes a → IsChecked net_bytes vec_bytes b → a ≡ b)
+    → (net_bytes vec_bytes : List ℕ) (f g : Finding) → CheckFinds net_bytes vec_bytes f → CheckFinds net_bytes vec_bytes g → f ≡ g
+one_check_found one net_bytes vec_bytes f g x y = x.is ∙ ap checked_finding (one net_bytes vec_bytes x.report y.report x.checked y.checked) ∙ sym y.is
+
+pub are_checkable : (net_bytes vec_bytes : List ℕ) (f : Finding) → CheckFinds net_bytes vec_bytes f → AreGradable net_bytes vec_bytes
+are_checkable net_bytes vec_bytes f found = record { net = found.checked.net; file = found.checked.file; pair = found.checked.pair }
 
 pub are_gradable : (net_bytes vec_bytes : List ℕ) (f : Finding) → GradeFinds net_bytes vec_bytes f → AreGradable net_bytes vec_bytes
 are_gradable net_bytes vec_bytes f found = record { net = found.graded.net; file = found.graded.file; pair = found.graded.pair }

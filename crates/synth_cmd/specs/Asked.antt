@@ -18,6 +18,7 @@ pub data Asked : Type 0 where
   Refused : Asked
   Synth : Settings → (source net vectors : List ℕ) → Asked
   Grade : (net vectors : List ℕ) → Asked
+  Check : (net vectors : List ℕ) → Asked
 
 -- the kind of a source's text that a word names
 abbrev pub kind_of : List ℕ → Option SourceKind
@@ -68,14 +69,18 @@ synth_by mode source net vectors options =
     then option_map_or (λ settings. Synth settings source net vectors) (settings_of options) Refused
     else Refused
 
--- `grade` and the names of two files, which differ as texts
-abbrev pub grade_by : (mode net vectors : List ℕ) → Asked
-grade_by mode net vectors = if bytes_eq mode (codes "grade") && not (bytes_eq net vectors) then Grade net vectors else Refused
+-- `grade` or `check`
+abbrev pub pair_mode : (mode net vectors : List ℕ) → Asked
+pair_mode mode net vectors = if bytes_eq mode (codes "grade") then Grade net vectors else if bytes_eq mode (codes "check") then Check net vectors else Refused
+
+-- one of these and the names of two files, which differ as texts
+abbrev pub pair_by : (mode net vectors : List ℕ) → Asked
+pair_by mode net vectors = if bytes_eq net vectors then Refused else pair_mode mode net vectors
 
 -- one of these, by the number of words; nothing else is asked for
 abbrev pub asked_by : List (List ℕ) → Asked
 asked_by (mode ∷ source ∷ net ∷ vectors ∷ options) = synth_by mode source net vectors options
-asked_by (mode ∷ net ∷ vectors ∷ []) = grade_by mode net vectors
+asked_by (mode ∷ net ∷ vectors ∷ []) = pair_by mode net vectors
 asked_by words = Refused
 
 abbrev pub asked : List (String Global) → Asked

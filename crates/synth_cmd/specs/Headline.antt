@@ -8,7 +8,7 @@ use Rattle.synth_core.specs.Headline.{Headline}
 use Rattle.synth_core.specs.Says.{source_says}
 use Rattle.synth_core.specs.declared.settings.Settings.{Settings}
 use Rattle.synth_cmd.specs.Asked.{Asked}
-use Rattle.synth_cmd.specs.Asked.Asked.{Refused, Synth, Grade}
+use Rattle.synth_cmd.specs.Asked.Asked.{Refused, Synth, Grade, Check}
 
 -- The name holds these bytes, where the files tell what they hold.
 abbrev pub Holds : Option Shelf → List ℕ → List ℕ → Type 0
@@ -32,3 +32,4 @@ abbrev pub HasHeadline : Asked → (old new : Option Shelf) → Type 0
 HasHeadline Refused old new = ⊥
 HasHeadline (Synth settings source net vectors) old new = Tested settings (Holds old source) net vectors new
 HasHeadline (Grade net vectors) old new = Unit {0}
+HasHeadline (Check net vectors) old new = Unit {0}

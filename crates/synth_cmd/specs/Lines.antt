@@ -14,6 +14,7 @@ use Rattle.synth_cmd.specs.declared.pair.FileRefusal.{FileRefusal}
 use Rattle.synth_cmd.specs.declared.pair.FileRefusal.TheVariants as file
 use Rattle.synth_cmd.specs.declared.pair.PairRefusal.{PairRefusal}
 use Rattle.synth_cmd.specs.declared.pair.PairRefusal.TheVariants as pair
+use Rattle.synth_core.specs.declared.checking.CheckReport.{CheckReport}
 use Rattle.synth_core.specs.declared.grading.GradeReport.{GradeReport}
 use Rattle.synth_core.specs.declared.named.NamedFault.{NamedFault}
 use Rattle.synth_core.specs.Says.{text_fault_name}
@@ -112,13 +113,33 @@ grade_counts r = (codes "vectors" ∷ decimal r.vectors ∷ []) ∷ (codes "wron
 abbrev pub grade_lines : GradeReport → List ℕ
 grade_lines r = text_of (grade_counts r ++ map miss_line r.missed)
 
--- some response is wrong, or some fault is missed
-abbrev pub falls_short : GradeReport → Bool
-falls_short r = nat_lt 0 r.wrong || not (length r.missed == 0)
+-- some response is wrong, or some fault is left
+abbrev pub falls_short : (wrong : ℕ) (left : List NamedFault) → Bool
+falls_short wrong left = nat_lt 0 wrong || not (length left == 0)
 
 -- the status of a report that is written
-abbrev pub grade_status : GradeReport → ℕ
-grade_status r = if falls_short r then SHORTFALL else DONE
+abbrev pub finding_status : (wrong : ℕ) (left : List NamedFault) → ℕ
+finding_status wrong left = if falls_short wrong left then SHORTFALL else DONE
+
+-- ---- checks
+
+-- the numbers of faults that are detected, of the others that the file proves undetectable, and of the rest
+abbrev pub proof_counts : CheckReport → List (List (List ℕ))
+proof_counts r =
+    (codes "told" ∷ decimal r.told ∷ []) ∷
+    (codes "proved" ∷ decimal r.proved ∷ []) ∷
+    (codes "unproved" ∷ decimal (length r.unproved) ∷ []) ∷
+    []
+
+-- the numbers of vectors, of wrong responses and of stuck-at faults, and those
+abbrev pub check_counts : CheckReport → List (List (List ℕ))
+check_counts r = (codes "vectors" ∷ decimal r.vectors ∷ []) ∷ (codes "wrong" ∷ decimal r.wrong ∷ []) ∷ (codes "faults" ∷ decimal r.faults ∷ []) ∷ proof_counts r
+
+-- the report of a check: the numbers, and a line for each fault of the rest
+abbrev pub check_lines : CheckReport → List ℕ
+check_lines r = text_of (check_counts r ++ map miss_line r.unproved)
+
+-- ---- refusals of a pair
 
 -- the status of a file that is not read, and the line that tells it
 abbrev pub file_status : FileRefusal → ℕ

@@ -51,7 +51,7 @@ fn push_miss(alloc: Global, out: &mut Vec<u8>, fault: &NamedFault) -> Result<(),
 }
 
 /// Writes the lines of missed faults.
-fn push_misses(alloc: Global, out: &mut Vec<u8>, missed: &[NamedFault]) -> Result<(), Memory>
+pub fn push_misses(alloc: Global, out: &mut Vec<u8>, missed: &[NamedFault]) -> Result<(), Memory>
     ensures { OnOk result (out.new.items ≡ out.old.items ++ text_of (map spec.miss_line missed.now)) }
 {
     for fault in missed {
@@ -91,11 +91,11 @@ pub fn grade_report(alloc: Global, found: &GradeReport) -> Result<Vec<u8>, Memor
     Ok(out)
 }
 
-/// The status of a grading whose report is written: that of a shortfall where some response is wrong or some fault is missed.
-pub fn grade_status(found: &GradeReport) -> u8
-    ensures { result ≡ spec.grade_status found.now }
+/// The status of a report that is written: that of a shortfall where some response is wrong or some fault is left.
+pub fn finding_status(wrong: u64, left: &[NamedFault]) -> u8
+    ensures { result ≡ spec.finding_status wrong left.now }
 {
-    if 0 < found.wrong || !found.missed.is_empty() {
+    if 0 < wrong || !left.is_empty() {
         SHORTFALL
     } else {
         DONE

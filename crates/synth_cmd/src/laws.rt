@@ -5,7 +5,7 @@ ghost use Rattle.synth_cmd.specs.Asked.{Asked};
 ghost use Rattle.synth_cmd.specs.Ends.{Ends, IsReported};
 ghost use Rattle.synth_cmd.specs.Outside.{Outside};
 
-use synth_core::{grade_law, one_answer_law};
+use synth_core::{check_law, grade_law, one_answer_law};
 
 /// Where the files tell what they hold, two calls of the same words over the same outside that both write their report, and leave the same
 /// of the advisors, as they do unless a search is asked for, end with the same status and leave the same files and the same report.
@@ -15,4 +15,5 @@ pub fn one_end_law()
 {
     one_answer_law();
     grade_law();
+    check_law();
 }

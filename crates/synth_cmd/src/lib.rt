@@ -1,6 +1,7 @@
 //! The command line over any files and any sink: a source read, its network and vectors written, and a report.
 #![tactic(auto)]
 
+mod check_report;
 mod grade_report;
 mod job;
 mod laws;

@@ -1,7 +1,7 @@
 //! A pair of files, a netlist and its vectors: reading it, and why it is refused.
 ghost use Rattle.std.specs.Prelude.{◌≡◌, ◌≢◌, ℕ, [], ◌∷◌, IfOk, IsErrOf};
 ghost use Rattle.ae_outside.specs.Counts.{CountsAt};
-ghost use Rattle.synth_cmd.specs.Ends.{GradeFinds, finding_of};
+ghost use Rattle.synth_cmd.specs.Ends.{CheckFinds, GradeFinds, checked_finding, finding_of};
 ghost use Rattle.synth_cmd.specs.Outcome.{HoldsText};
 ghost use Rattle.synth_cmd.specs.Outside.{CountsAmong};
 ghost use Rattle.synth_cmd.specs.PairStops.{of_file, of_pair};
@@ -14,7 +14,7 @@ use ae_base::TEXT_BYTES;
 use ae_outside::{Files, ReadErr, read_whole};
 use blif_read::BlifFault;
 use std::alloc::Global;
-use synth_core::{GradeReport, PairErr, grade};
+use synth_core::{CheckReport, GradeReport, PairErr, check, grade};
 use vec_text::VecFault;
 
 /// Why a file is not read.
@@ -138,4 +138,20 @@ pub fn grade_files<F: Files>(
 {
     let texts = read_pair(alloc, files, names)?;
     Ok(grade(alloc, &texts.net, &texts.vectors)?)
+}
+
+/// Reads a pair and checks it.
+pub fn check_files<F: Files>(
+    alloc: Global,
+    files: &mut F,
+    names: &PairNames<'_>,
+) -> Result<CheckReport, PairStop>
+    ensures found { IfOk result (λ report. WerePair (F.held files.old) names.now.net.now names.now.vectors.now (λ net_bytes vec_bytes. CheckFinds net_bytes vec_bytes (checked_finding report))) }
+    ensures refused { (r : PairRefusal) → IsErrOf result (pair_stop.Refused r) → PairCause (F.held files.old) (F.read_faults files.old) (F.read_faults files.new) names.now.net.now names.now.vectors.now r }
+    ensures stays { F.held files.new ≡ F.held files.old }
+    ensures reads { CountsAmong (names.now.net.now ∷ names.now.vectors.now ∷ []) (F.read_faults files.old) (F.read_faults files.new) }
+    ensures writes { F.write_faults files.new ≡ F.write_faults files.old }
+{
+    let texts = read_pair(alloc, files, names)?;
+    Ok(check(alloc, &texts.net, &texts.vectors)?)
 }

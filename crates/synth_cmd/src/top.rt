@@ -5,21 +5,21 @@ ghost use Rattle.synth_core.specs.Searched.{AdvisorsStand};
 ghost use Rattle.synth_cmd.specs.Asked.{asked};
 ghost use Rattle.synth_cmd.specs.Headline.{HasHeadline, Holds, Tested};
 ghost use Rattle.synth_cmd.specs.Outcome.{Ending, HoldsText, SynthEnds, WordsEnd};
-ghost use Rattle.synth_cmd.specs.Ends.{Ends, GradeFinds};
+ghost use Rattle.synth_cmd.specs.Ends.{CheckFinds, Ends, GradeFinds};
 ghost use Rattle.synth_cmd.specs.Pairs.{PairEnding, PairEnds};
 ghost use Rattle.synth_cmd.specs.Outside.{CountsAmong, outside};
 
 use crate::job::synthesise_files;
-use crate::pair::{PairStop, grade_files};
+use crate::pair::{PairStop, check_files, grade_files};
 use crate::stop::Stop;
 use crate::tell::{finish, refuse, tell, tell_write_fault, want_memory};
-use crate::tell_pair::{finish_grade, refuse_pair};
+use crate::tell_pair::{finish_check, finish_grade, refuse_pair};
 use crate::words::{Command, FileNames, PairNames, read_command};
 use crate::{DONE, WORDS};
 use ae_outside::{Files, Sink, file_laws};
 use polarity::Advisor;
 use std::alloc::Global;
-use synth_core::{Settings, grade_law, one_answer_law};
+use synth_core::{Settings, check_law, grade_law, one_answer_law};
 
 /// Does the work of `synth`, and tells how it ended.
 fn synth_work<F: Files, K: Sink>(
@@ -116,6 +116,48 @@ fn grade_command<F: Files, K: Sink>(
     grade_work(alloc, files, report, names, _advisors)
 }
 
+/// Does the work of `check`, and tells how it ended.
+fn check_work<F: Files, K: Sink>(
+    alloc: Global,
+    files: &mut F,
+    report: &mut K,
+    names: &PairNames<'_>,
+    _advisors: &Vec<Box<dyn Advisor>>,
+) -> u8
+    ensures ending { PairEnding CheckFinds names.now.net.now names.now.vectors.now
+        (outside F.held F.read_faults F.write_faults K.taken K.faults files.old report.old (map (λ b. advised (left b) (log b)) _advisors.now.items))
+        (outside F.held F.read_faults F.write_faults K.taken K.faults files.new report.new (map (λ b. advised (left b) (log b)) _advisors.now.items))
+        result }
+    ensures held { F.held files.new ≡ F.held files.old }
+    ensures reads { CountsAmong (names.now.net.now ∷ names.now.vectors.now ∷ []) (F.read_faults files.old) (F.read_faults files.new) }
+    ensures writes { F.write_faults files.new ≡ F.write_faults files.old }
+    ensures faults { K.faults report.old ≤ K.faults report.new }
+{
+    match check_files(alloc, files, names) {
+        Ok(found) => finish_check(alloc, report, &found),
+        Err(PairStop::Refused(refusal)) => refuse_pair(alloc, report, refusal, names),
+        Err(PairStop::Memory) => want_memory(report),
+    }
+}
+
+/// `check NET VEC`.
+fn check_command<F: Files, K: Sink>(
+    alloc: Global,
+    files: &mut F,
+    report: &mut K,
+    names: &PairNames<'_>,
+    _advisors: &Vec<Box<dyn Advisor>>,
+) -> u8
+    ensures { PairEnds CheckFinds names.now.net.now names.now.vectors.now
+        (outside F.held F.read_faults F.write_faults K.taken K.faults files.old report.old (map (λ b. advised (left b) (log b)) _advisors.now.items))
+        (outside F.held F.read_faults F.write_faults K.taken K.faults files.new report.new (map (λ b. advised (left b) (log b)) _advisors.now.items))
+        result }
+{
+    grade_law();
+    check_law();
+    check_work(alloc, files, report, names, _advisors)
+}
+
 /// Words that ask for nothing.
 fn refuse_words<F: Files, K: Sink>(
     _files: &F,
@@ -138,7 +180,7 @@ fn refuse_words<F: Files, K: Sink>(
 ///
 /// `synth IN NET VEC` reads the file IN, and writes the network that implements it to NET and its vectors with their responses to VEC. The
 /// advisors are asked for `--polarity search` alone, and stay in the list. `grade NET VEC` reads both, and tells which responses are wrong
-/// and which stuck-at faults the vectors miss.
+/// and which stuck-at faults the vectors miss; `check NET VEC` also which of those the vector file proves undetectable.
 pub fn run<F: Files, K: Sink>(
     alloc: Global,
     words: &[String],
@@ -162,5 +204,6 @@ pub fn run<F: Files, K: Sink>(
             synth_command(alloc, files, report, &settings, &names, advisors)
         }
         Command::Grade { names } => grade_command(alloc, files, report, &names, advisors),
+        Command::Check { names } => check_command(alloc, files, report, &names, advisors),
     }
 }

@@ -40,6 +40,9 @@ pub enum Command<'a> {
     Grade {
         names: PairNames<'a>,
     },
+    Check {
+        names: PairNames<'a>,
+    },
 }
 
 /// The kind of a source's text that a word names.
@@ -226,17 +229,19 @@ fn synth_of<'a>(
     }
 }
 
-/// `grade` and its two names.
-fn grade_of<'a>(mode: &str, net: &'a str, vectors: &'a str) -> Command<'a>
-    ensures asked { command_of result ≡ spec.grade_by mode.now net.now vectors.now }
+/// `grade` or `check` and its two names.
+fn pair_of<'a>(mode: &str, net: &'a str, vectors: &'a str) -> Command<'a>
+    ensures asked { command_of result ≡ spec.pair_by mode.now net.now vectors.now }
     ensures apart { AreApart (command_of result) }
 {
-    if mode == "grade" && net != vectors {
-        Command::Grade {
-            names: PairNames { net, vectors },
-        }
-    } else {
-        Command::Refused
+    if net == vectors {
+        return Command::Refused;
+    }
+    let names = PairNames { net, vectors };
+    match mode {
+        "grade" => Command::Grade { names },
+        "check" => Command::Check { names },
+        _ => Command::Refused,
     }
 }
 
@@ -246,7 +251,7 @@ pub fn read_command(words: &[String]) -> Command<'_>
     ensures apart { AreApart (command_of result) }
 {
     match words {
-        [mode, net, vectors] => grade_of(mode.as_str(), net.as_str(), vectors.as_str()),
+        [mode, net, vectors] => pair_of(mode.as_str(), net.as_str(), vectors.as_str()),
         [mode, source, net, vectors, options @ ..] => synth_of(
             mode.as_str(),
             source.as_str(),

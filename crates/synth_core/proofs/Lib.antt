@@ -1,3 +1,4 @@
+pub mod Checked
 pub mod Exact
 pub mod Factored
 pub mod Filed
@@ -10,6 +11,7 @@ pub mod Paired
 pub mod Remade
 pub mod Selected
 pub mod Shown
+pub mod Sound
 pub mod Sources
 pub mod Synthesised
 pub mod VectorsFew

@@ -25,10 +25,10 @@ one_blif said a b x y = let both = sym x ∙ y in cc both
 one_vector : (said : Result VectorFile (ℕ × VecFault)) (a b : ℕ × VecFault) → said ≡ Err a → said ≡ Err b → a ≡ b
 one_vector said a b x y = let both = sym x ∙ y in cc both
 
-one_net : (bytes : List ℕ) (a b : Network) → blif_says Written bytes ≡ Ok a → blif_says Written bytes ≡ Ok b → a ≡ b
+pub one_net : (bytes : List ℕ) (a b : Network) → blif_says Written bytes ≡ Ok a → blif_says Written bytes ≡ Ok b → a ≡ b
 one_net bytes a b x y = let both = sym x ∙ y in cc both
 
-one_file : (bytes : List ℕ) (a b : VectorFile) → vec_says bytes ≡ Ok a → vec_says bytes ≡ Ok b → a ≡ b
+pub one_file : (bytes : List ℕ) (a b : VectorFile) → vec_says bytes ≡ Ok a → vec_says bytes ≡ Ok b → a ≡ b
 one_file bytes a b x y = let both = sym x ∙ y in cc both
 
 module _ (net_bytes vec_bytes : List ℕ) where

@@ -1,10 +1,12 @@
 pub mod Asked
+pub mod Check
 pub mod Errors
 pub mod Grade
 pub mod Headline
 pub mod Listed
 pub mod Made
 pub mod PairErrors
+pub mod Parts
 pub mod Says
 pub mod Searched
 pub mod Sites

@@ -36,7 +36,7 @@ pub struct GradeReport {
 }
 
 /// The points of vectors.
-fn points_of(alloc: Global, vectors: &[Vector]) -> Result<Vec<Point>, Memory>
+pub fn points_of(alloc: Global, vectors: &[Vector]) -> Result<Vec<Point>, Memory>
     ensures { IfOk result (λ points. points.items ≡ map (λ v. v.point) vectors.now) }
 {
     let mut points = Vec::new(alloc);
@@ -48,7 +48,7 @@ fn points_of(alloc: Global, vectors: &[Vector]) -> Result<Vec<Point>, Memory>
 
 /// The number of vectors, at these points, whose response is not the network's.
 #[tactic(auto, unfolding(crate::specs::Grade::wrong_count))]
-fn wrong_count(
+pub fn wrong_count(
     alloc: Global,
     net: &Net,
     vectors: &[Vector],

@@ -1,6 +1,8 @@
 //! The whole job over bytes: a source's text in, the texts of its network and of the network's vectors out.
 #![tactic(auto)]
 
+mod check_laws;
+mod checking;
 mod error;
 mod fault;
 mod forms;
@@ -20,6 +22,8 @@ mod settings;
 mod synthesis;
 mod vector_files;
 
+pub use check_laws::check_law;
+pub use checking::{CheckReport, check};
 pub use error::SynthErr;
 pub use fault::TextFault;
 pub use grade_laws::grade_law;

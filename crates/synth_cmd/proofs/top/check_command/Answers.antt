@@ -1,0 +1,17 @@
+use Rattle.std.proofs.Common.{refl}
+use Rattle.synth_cmd.specs.Ends.{CheckFinds}
+use Rattle.synth_cmd.proofs.PairCompleted.{are_checkable, is_pair_complete, one_check_found}
+use Rattle.synth_cmd.proofs.top.check_command.Goals as goal
+
+pub returns : goal.returns
+returns g c =
+    let e = c.check_work.ensures in
+    record {
+      ending = e.ending;
+      complete = is_pair_complete CheckFinds (one_check_found c.check_law.ensures.one) are_checkable c.grade_law.ensures.names _ _ _ _ _ e.ending;
+      held = e.held;
+      reads = e.reads;
+      writes = e.writes;
+      faults = e.faults;
+      advisors = refl;
+    }
