@@ -5,6 +5,7 @@ pub mod Names
 pub mod OneEnd
 pub mod PairCompleted
 pub mod PairEnds
+pub mod PairSound
 pub mod Stopped
 pub mod Telling
 pub mod Tested

@@ -12,7 +12,6 @@ use Rattle.synth_cmd.specs.Ends.{CheckFinds, Ends, GradeFinds, IsReported}
 use Rattle.synth_cmd.specs.Pairs.{Finding, PairAnswers, PairEnding, PairEnds, PairStage, PairStands, WerePair}
 use Rattle.synth_cmd.specs.Pairs.PairEnding.{at_stage as at_pair_stage, untold, half_told as half_found}
 use Rattle.synth_cmd.specs.Pairs.PairStage.{Refuses as RefusesPair, Finds}
-use Rattle.synth_cmd.specs.declared.pair.FileRefusal.{FileRefusal}
 use Rattle.synth_cmd.specs.declared.pair.FileRefusal.TheVariants as file
 use Rattle.synth_cmd.specs.declared.pair.PairRefusal.{PairRefusal}
 use Rattle.synth_cmd.specs.declared.pair.PairRefusal.TheVariants as refusal
@@ -63,11 +62,11 @@ module _ (settings : Settings) (Was : List ℕ → Type 0) (reads writes : List 
   is_done (half_told stage is stands front) = absurd (other_status s MEMORY reported is (omega arith))
 
 -- what is told of a pair: something was found, and the report took it
-record IsTold (Found : (net_bytes vec_bytes : List ℕ) → Finding → Type 0) (net vectors : List ℕ) (old new : Outside) (s : ℕ) : Type 0 where
-  finding : Finding
-  were : WerePair old.held net vectors (λ net_bytes vec_bytes. Found net_bytes vec_bytes finding)
-  status : s ≡ finding.status
-  taken : new.taken ≡ added old.taken finding.lines
+pub record IsTold (Found : (net_bytes vec_bytes : List ℕ) → Finding → Type 0) (net vectors : List ℕ) (old new : Outside) (s : ℕ) : Type 0 where
+  pub finding : Finding
+  pub were : WerePair old.held net vectors (λ net_bytes vec_bytes. Found net_bytes vec_bytes finding)
+  pub status : s ≡ finding.status
+  pub taken : new.taken ≡ added old.taken finding.lines
 
 no_pair_refusal : (r : PairRefusal) → 1 < pair_status r
 no_pair_refusal (refusal.Net file.ReadFault) = omega arith
@@ -84,7 +83,7 @@ module _ (Found : (net_bytes vec_bytes : List ℕ) → Finding → Type 0) (net 
   stage_told (Finds finding) stands (inl told) = record { finding = finding; were = stands; status = told.0; taken = told.1 }
   stage_told (Finds finding) stands (inr fault) = absurd (other_status s WRITE_FAULT reported fault.0 (omega arith))
 
-  is_told : PairEnding Found net vectors old new s → IsTold Found net vectors old new s
+  pub is_told : PairEnding Found net vectors old new s → IsTold Found net vectors old new s
   is_told (at_pair_stage stage stands answers) = stage_told stage stands answers
   is_told (untold is front) = absurd (other_status s MEMORY reported is (omega arith))
   is_told (half_found stage is stands front) = absurd (other_status s MEMORY reported is (omega arith))

@@ -1,6 +1,6 @@
 -- Which status a command on a pair ends with, by what the two files held.
 use Rattle.std.proofs.Common.{◌≡◌, ◌<◌, ◌≤◌, ◌∷◌, [], inl, inr, ℕ, List, Option, Some, None, length, sym, ap, ◌∙◌, subst, arith}
-use Rattle.std.specs.Prelude.{Contains, Ok, Err, IfSome}
+use Rattle.std.specs.Prelude.{Contains, IfSome}
 use Rattle.std.specs.FinMap.{get}
 use Rattle.ae_base.proofs.Contained.{Contains-first}
 use Rattle.ae_base.specs.declared.limits.TheConstants.{TEXT_BYTES}
@@ -13,7 +13,7 @@ use Rattle.synth_cmd.specs.Complete.{NoFault, NoRead, OrMemory}
 use Rattle.synth_cmd.specs.Ends.{CheckFinds, GradeFinds, checked_finding, finding_of}
 use Rattle.synth_cmd.specs.Outcome.{HoldsText}
 use Rattle.synth_cmd.specs.Outside.{Outside}
-use Rattle.synth_cmd.specs.Pairs.{Finding, HoldOnly, HoldPair, IsPairComplete, PairAnswers, PairEnding, PairStage, PairStands, WerePair}
+use Rattle.synth_cmd.specs.Pairs.{Finding, HoldOnly, IsPairComplete, PairAnswers, PairEnding, PairStage, PairStands, WerePair}
 use Rattle.synth_cmd.specs.Pairs.PairEnding.{at_stage, untold, half_told}
 use Rattle.synth_cmd.specs.Pairs.PairStage.{Refuses, Finds}
 use Rattle.synth_cmd.specs.declared.pair.FileRefusal.TheVariants.{ReadFault, TooLong}

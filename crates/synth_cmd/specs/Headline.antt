@@ -4,6 +4,7 @@ use Rattle.std.specs.FinMap.{get}
 use Rattle.ae_base.specs.Cube.{Signs}
 use Rattle.ae_base.specs.Source.{Source}
 use Rattle.ae_outside.specs.Files.{Shelf}
+use Rattle.synth_core.specs.Check.{IsSound}
 use Rattle.synth_core.specs.Headline.{Headline}
 use Rattle.synth_core.specs.Says.{source_says}
 use Rattle.synth_core.specs.declared.settings.Settings.{Settings}
@@ -27,9 +28,17 @@ pub record Tested (settings : Settings) (Was : List ℕ → Type 0) (net vectors
   pub vec_holds : Holds held vectors vec_bytes
   pub headline : Headline settings.form polarity source net_bytes vec_bytes
 
+-- NET and VEC held bytes of a pair whose responses are right, and whose vectors detect each fault that any point detects.
+pub record Checked (net vectors : List ℕ) (held : Option Shelf) : Type 0 where
+  pub net_bytes : List ℕ
+  pub net_was : Holds held net net_bytes
+  pub vec_bytes : List ℕ
+  pub vectors_was : Holds held vectors vec_bytes
+  pub sound : IsSound net_bytes vec_bytes
+
 -- what stands where a command is done, by what was before and is now: of a grading the headline promises nothing
 abbrev pub HasHeadline : Asked → (old new : Option Shelf) → Type 0
 HasHeadline Refused old new = ⊥
 HasHeadline (Synth settings source net vectors) old new = Tested settings (Holds old source) net vectors new
 HasHeadline (Grade net vectors) old new = Unit {0}
-HasHeadline (Check net vectors) old new = Unit {0}
+HasHeadline (Check net vectors) old new = Checked net vectors old

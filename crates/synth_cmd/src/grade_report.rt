@@ -1,5 +1,5 @@
 //! The report of a grading.
-ghost use Rattle.std.specs.Prelude.{◌≡◌, ◌++◌, ◌∷◌, [], IfOk, OnOk, length, map};
+ghost use Rattle.std.specs.Prelude.{◌≡◌, ◌++◌, ◌∷◌, [], IfOk, OnOk, map};
 ghost use Rattle.std.specs.List.{flat_map};
 ghost use Rattle.ae_base.specs.Text.{text_of};
 ghost use Rattle.synth_cmd.specs.Lines as spec;

@@ -1,5 +1,5 @@
 //! A pair of files, a netlist and its vectors: reading it, and why it is refused.
-ghost use Rattle.std.specs.Prelude.{◌≡◌, ◌≢◌, ℕ, [], ◌∷◌, IfOk, IsErrOf};
+ghost use Rattle.std.specs.Prelude.{◌≡◌, [], ◌∷◌, IfOk, IsErrOf};
 ghost use Rattle.ae_outside.specs.Counts.{CountsAt};
 ghost use Rattle.synth_cmd.specs.Ends.{CheckFinds, GradeFinds, checked_finding, finding_of};
 ghost use Rattle.synth_cmd.specs.Outcome.{HoldsText};

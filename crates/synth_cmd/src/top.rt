@@ -3,7 +3,7 @@ ghost use Rattle.std.specs.Prelude.{◌≡◌, ◌≢◌, ◌≤◌, [], ◌∷�
 ghost use Rattle.polarity.specs.Search.{advised};
 ghost use Rattle.synth_core.specs.Searched.{AdvisorsStand};
 ghost use Rattle.synth_cmd.specs.Asked.{asked};
-ghost use Rattle.synth_cmd.specs.Headline.{HasHeadline, Holds, Tested};
+ghost use Rattle.synth_cmd.specs.Headline.{Checked, HasHeadline, Holds, Tested};
 ghost use Rattle.synth_cmd.specs.Outcome.{Ending, HoldsText, SynthEnds, WordsEnd};
 ghost use Rattle.synth_cmd.specs.Ends.{CheckFinds, Ends, GradeFinds};
 ghost use Rattle.synth_cmd.specs.Pairs.{PairEnding, PairEnds};
@@ -148,10 +148,11 @@ fn check_command<F: Files, K: Sink>(
     names: &PairNames<'_>,
     _advisors: &Vec<Box<dyn Advisor>>,
 ) -> u8
-    ensures { PairEnds CheckFinds names.now.net.now names.now.vectors.now
+    ensures ends { PairEnds CheckFinds names.now.net.now names.now.vectors.now
         (outside F.held F.read_faults F.write_faults K.taken K.faults files.old report.old (map (λ b. advised (left b) (log b)) _advisors.now.items))
         (outside F.held F.read_faults F.write_faults K.taken K.faults files.new report.new (map (λ b. advised (left b) (log b)) _advisors.now.items))
         result }
+    ensures headline { result ≡ DONE → Checked names.now.net.now names.now.vectors.now (F.held files.old) }
 {
     grade_law();
     check_law();
@@ -188,7 +189,7 @@ pub fn run<F: Files, K: Sink>(
     report: &mut K,
     advisors: &mut Vec<Box<dyn Advisor>>,
 ) -> u8
-    // The written network, its vectors, and what they detect.
+    // The written network, its vectors, and what they detect; of a check that the pair is sound.
     ensures headline { result ≡ DONE → HasHeadline (asked words.now) (F.held files.old) (F.held files.new) }
     // What stands after each status, and when it comes.
     ensures ends { Ends (asked words.now)

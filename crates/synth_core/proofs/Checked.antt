@@ -1,9 +1,9 @@
 -- How a check parts the missed faults.
-use Rattle.std.proofs.Common.{◌≡◌, ◌<◌, ◌≤◌, ◌+◌, ◌-◌, ℕ, zero, suc, Bool, true, false, not, List, [], ◌∷◌, ◌++◌, length, map, take, get_or, cond, inl, inr, refl, sym, ap, ap₂, ◌∙◌, subst, arith}
+use Rattle.std.proofs.Common.{◌≡◌, ◌<◌, ◌≤◌, ◌+◌, ◌-◌, ℕ, suc, Bool, true, false, not, List, [], ◌∷◌, ◌++◌, length, map, take, get_or, cond, inl, inr, refl, sym, ap, ap₂, ◌∙◌, subst, arith}
 use Rattle.std.specs.Prelude.{◌↔◌, Contains, IsTrue, None, Option, Some, filter, is_none}
 use Rattle.std.specs.Option.{is_some}
 use Rattle.std.proofs.lemmas.List.{append-nil, length-append, length-map, map-append, take_all}
-use Rattle.std.proofs.lemmas.List.Elements.{Contains-append_left, Contains-push_cases, filter_more}
+use Rattle.std.proofs.lemmas.List.Elements.{Contains-push_cases, filter_more}
 use Rattle.std.proofs.lemmas.Bool.{false≢true}
 use Rattle.std.proofs.Math.Bool.{beq}
 use Rattle.std.proofs.Math.Seq.{take-suc}
@@ -26,7 +26,6 @@ use Rattle.synth_core.specs.declared.named.NamedFault.{NamedFault}
 use Rattle.synth_core.proofs.Graded.{all_counted}
 use Rattle.vec_text.specs.VectorFile.{VectorFile}
 use Rattle.vec_text.specs.declared.file.Idle.{Idle}
-use Rattle.vec_text.specs.declared.file.Shown.{Shown}
 use Rattle.vec_text.specs.declared.file.Shown.TheVariants.{Tree}
 use Rattle.vec_text.specs.declared.file.Step.{Step}
 
@@ -84,7 +83,6 @@ value_same false false e = refl
 value_same true false e = absurd (false≢true (sym e))
 value_same false true e = absurd (false≢true e)
 
-
 module _ (n : Network) (fault : Fault) (lines : List Idle) (i : ℕ) (d : Idle) (lt : i < length lines) where
   -- no line so far is a proof, nor is this one
   pub none_more : ((line : Idle) → Contains (take i lines) line → ¬ IsProofOf n fault line) → ¬ IsProofOf n fault (get_or lines i d) → (line : Idle) → Contains (take (i + 1) lines) line → ¬ IsProofOf n fault line
@@ -100,6 +98,12 @@ pub none_at_all : (n : Network) (fault : Fault) (lines : List Idle) (i : ℕ) �
 none_at_all n fault lines i end before proved = before proved.0 (subst (λ t. Contains t proved.0) (sym (take_all i lines end)) proved.1) proved.2
 
 -- ---- parts
+
+pub none_is : (o : Option ℕ) (r : Bool) → is_some o ≡ not r → is_none o ≡ r
+none_is None true e = refl
+none_is None false e = absurd (false≢true e)
+none_is (Some x) true e = absurd (false≢true (sym e))
+none_is (Some x) false e = refl
 
 pub none_is : (o : Option ℕ) (r : Bool) → is_some o ≡ not r → is_none o ≡ r
 none_is None true e = refl
@@ -159,7 +163,7 @@ module _ (n : Network) (lines : List Idle) (points : List Set) (list : List Faul
       let p : Fault → Bool = λ fault. not (is_detected n points fault) in
       let fault = get_or list i d in
       let same : filter p (take (i + 1) list) ≡ filter p (take i list) =
-          filter_more p list i d lt ∙ ap (λ b. filter p (take i list) ++ cond b (fault ∷ []) []) (ap not detected) ∙ append-nil (filter p (take i list)) in
+      filter_more p list i d lt ∙ ap (λ b. filter p (take i list) ++ cond b (fault ∷ []) []) (ap not detected) ∙ append-nil (filter p (take i list)) in
       record { proved = so.proved; unproved = so.unproved; parted = subst (λ xs. AreParted (IsProved n lines) xs so.proved so.unproved) (sym same) so.parted; count = so.count; names = so.names }
 
 -- so far no more are proved than there are faults

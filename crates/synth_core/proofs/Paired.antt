@@ -1,6 +1,6 @@
 -- Which error a pair of texts has: each cause excludes the others.
 use Rattle.std.proofs.Common.{◌≡◌, ◌⊎◌, inl, inr, ℕ, List, refl, sym, ap, ◌∙◌, subst}
-use Rattle.std.specs.Prelude.{Result, Ok, Err, IsErrOf}
+use Rattle.std.specs.Prelude.{Result, Ok, Err}
 use Rattle.ae_net.specs.Network.{Network}
 use Rattle.blif_read.specs.Says.{blif_says}
 use Rattle.blif_read.specs.declared.fault.BlifFault.{BlifFault}

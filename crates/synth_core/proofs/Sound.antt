@@ -1,6 +1,6 @@
 -- What a check proves, and that it finds one thing.
-use Rattle.std.proofs.Common.{◌≡◌, ◌<◌, ◌∙◌, ℕ, Bool, true, false, not, List, [], ◌∷◌, length, map, get_or, inl, inr, refl, sym, ap, subst, arith}
-use Rattle.std.specs.Prelude.{◌↔◌, All, Contains, None, filter}
+use Rattle.std.proofs.Common.{◌≡◌, ◌∙◌, ℕ, Bool, false, not, List, [], ◌∷◌, length, map, get_or, inl, inr, refl, sym, ap, subst, arith}
+use Rattle.std.specs.Prelude.{◌↔◌, All, Contains, None}
 use Rattle.std.specs.List.{count_by}
 use Rattle.std.proofs.lemmas.Bool.{cases_Bool}
 use Rattle.std.proofs.lemmas.List.Elements.{Contains-get_or}
@@ -20,7 +20,6 @@ use Rattle.synth_core.specs.Check.{AreParted, IsCheckOf, IsChecked, IsProved}
 use Rattle.synth_core.specs.Check.AreParted.{none, one, other}
 use Rattle.synth_core.specs.Grade.{detected_count, is_detected, is_wrong, missed_faults, named, points_of, wrong_count}
 use Rattle.synth_core.specs.declared.checking.CheckReport.{CheckReport}
-use Rattle.synth_core.specs.declared.named.NamedFault.{NamedFault}
 use Rattle.synth_core.proofs.Checked.{report_with}
 use Rattle.synth_core.proofs.Graded.{detected_is, wrong_is}
 use Rattle.synth_core.proofs.Paired.{one_file, one_net}

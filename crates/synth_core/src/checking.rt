@@ -8,7 +8,7 @@ ghost use Rattle.blif_read.specs.declared.fault.BlifFault.{BlifFault};
 ghost use Rattle.blif_read.specs.declared.fault.NetLimits.TheVariants.{Written};
 ghost use Rattle.synth_core.specs.Check.{IsCheckOf, IsChecked, IsEvidence, IsProofOf, IsProved};
 ghost use Rattle.synth_core.specs.Grade as spec;
-ghost use Rattle.synth_core.specs.Grade.{AreGradable, HasOtherNames, HasVectorFault, points_of as spec_points_of};
+ghost use Rattle.synth_core.specs.Grade.{AreGradable, HasOtherNames, HasVectorFault};
 ghost use Rattle.synth_core.specs.Listed as listed;
 ghost use Rattle.synth_core.specs.PairErrors.{IsWithin};
 ghost use Rattle.synth_core.specs.Parts.{ArePartedSoFar, IsSorted};

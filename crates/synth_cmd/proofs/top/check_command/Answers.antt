@@ -1,10 +1,11 @@
 use Rattle.std.proofs.Common.{refl}
 use Rattle.synth_cmd.specs.Ends.{CheckFinds}
 use Rattle.synth_cmd.proofs.PairCompleted.{are_checkable, is_pair_complete, one_check_found}
+use Rattle.synth_cmd.proofs.PairSound.{sound_pair}
 use Rattle.synth_cmd.proofs.top.check_command.Goals as goal
 
-pub returns : goal.returns
-returns g c =
+pub returns-clause-ends : goal.returns-clause-ends
+returns-clause-ends g c =
     let e = c.check_work.ensures in
     record {
       ending = e.ending;
@@ -15,3 +16,6 @@ returns g c =
       faults = e.faults;
       advisors = refl;
     }
+
+pub returns-clause-headline : goal.returns-clause-headline
+returns-clause-headline g c done = sound_pair c.check_law.ensures.sound _ _ _ _ _ c.check_work.ensures.ending done

@@ -8,7 +8,7 @@ pub loop-line-preserved : goal.loop-line-preserved
 loop-line-preserved c = (
   c.in_ok-is_proof_of.ensures.room ∙ c.loop-line.invariant.0,
   none_more c.args.net.now c.args.fault c.args.lines.now c.loop-line.line-index c.line-item.result c.loop-line-test.true c.loop-line.invariant.1
-  (λ proof. false≢true (sym c.if-branch.false ∙ c.in_ok-is_proof_of.ensures.holds.1 (subst (IsProofOf c.args.net.now c.args.fault) (sym c.line-item.is) proof))),
+      (λ proof. false≢true (sym c.if-branch.false ∙ c.in_ok-is_proof_of.ensures.holds.1 (subst (IsProofOf c.args.net.now c.args.fault) (sym c.line-item.is) proof))),
 )
 
 pub returns-clause-holds : goal.returns-clause-holds

@@ -1,16 +1,15 @@
-use Rattle.std.proofs.Common.{◌≡◌, ◌<◌, ◌≤◌, ◌∙◌, ◌+◌, ℕ, List, [], true, false, length, take, get_or, refl, subst, sym, ap, arith}
-use Rattle.std.specs.Prelude.{not, is_none, Contains}
+use Rattle.std.proofs.Common.{◌≡◌, ◌∙◌, ◌+◌, [], true, false, length, take, get_or, refl, subst, sym, ap, arith}
+use Rattle.std.specs.Prelude.{is_none, Contains}
+use Rattle.std.proofs.lemmas.Bool.{not-false, not-true}
 use Rattle.std.proofs.lemmas.List.{length-take-le}
 use Rattle.std.proofs.lemmas.List.Elements.{Contains-get_or}
-use Rattle.ae_net.specs.Faults.{fault_list}
-use Rattle.ae_net.specs.Network.{signals}
 use Rattle.ae_net.specs.declared.net.Fault.{Fault}
 use Rattle.ae_net.specs.declared.net.Place.TheVariants.{Stem}
 use Rattle.fault_sim.specs.Answers.{IsFirstTelling}
 use Rattle.synth_core.specs.Check.AreParted.{none}
 use Rattle.synth_core.specs.Grade.{is_detected}
 use Rattle.synth_core.specs.Parts.{ArePartedSoFar}
-use Rattle.synth_core.proofs.Checked.{few_proved, none_is, none_sorted, not_false, not_true, one_sorted}
+use Rattle.synth_core.proofs.Checked.{few_proved, none_is, none_sorted, one_sorted}
 use Rattle.synth_core.proofs.Graded.{fault_within, missed_is, zip_at, zip_length}
 use Rattle.synth_core.proofs.checking.parts_of.Goals as goal
 use Rattle.synth_core.proofs.checking.parts_of.Goals.{then-is_none+in_ok-sort, else-is_none}
@@ -39,8 +38,7 @@ loop-i-preserved c =
     let size : length (take (i + 1) list) ≡ i + 1 = length-take-le (i + 1) list (omega (arith, c.loop-i-test.true)) in
     elim c.if-is_none.branch [
       | then-is_none+in_ok-sort w ↦
-          let so = one_sorted n lines points list i d c.loop-i-test.true c.loop-i.parts c.loop-i.invariant.1 w.sort.new.parts (not_true (is_detected n points (get_or list i d)) (sym missed ∙ none_is c.index.result.now c.is_none.result c.is_none.ensures ∙ w.if-is_none.true)) w.in_ok-sort.ensures.sorted in
-          (
+          let so = one_sorted n lines points list i d c.loop-i-test.true c.loop-i.parts c.loop-i.invariant.1 w.sort.new.parts (not-true (is_detected n points (get_or list i d)) (sym missed ∙ none_is c.index.result.now c.is_none.result c.is_none.ensures ∙ w.if-is_none.true)) w.in_ok-sort.ensures.sorted in (
             omega (arith, c.loop-i.invariant.0, w.scratch-is, w.in_ok-sort.ensures.room),
             subst (ArePartedSoFar n lines points (take (i + 1) list)) (sym w.parts-is) so,
             omega (arith, few_proved n lines points (take (i + 1) list) w.sort.new.parts so, size, ap (λ p. p.proved) w.parts-is),
@@ -48,7 +46,7 @@ loop-i-preserved c =
       | else-is_none w ↦ (
         omega (arith, c.loop-i.invariant.0, w.scratch-is),
         subst (ArePartedSoFar n lines points (take (i + 1) list)) (sym w.parts-is)
-        (none_sorted n lines points list i d c.loop-i-test.true c.loop-i.parts c.loop-i.invariant.1 (not_false (is_detected n points (get_or list i d)) (sym missed ∙ none_is c.index.result.now c.is_none.result c.is_none.ensures ∙ w.if-is_none.false))),
+            (none_sorted n lines points list i d c.loop-i-test.true c.loop-i.parts c.loop-i.invariant.1 (not-false (is_detected n points (get_or list i d)) (sym missed ∙ none_is c.index.result.now c.is_none.result c.is_none.ensures ∙ w.if-is_none.false))),
         omega (arith, c.loop-i.invariant.2, ap (λ p. p.proved) w.parts-is),
       )
     ]
