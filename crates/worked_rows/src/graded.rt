@@ -37,7 +37,7 @@ fn with_pair(
 }
 
 /// Compares the files with a pair.
-fn compare_pair(files: &MemFiles, net: Option<&[u8]>, vectors: Option<&[u8]>) -> Differs {
+fn compare_pair<'a>(files: &MemFiles, net: Option<&'a [u8]>, vectors: Option<&'a [u8]>) -> Differs {
     let left = Held {
         source: None,
         net,
