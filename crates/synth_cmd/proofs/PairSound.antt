@@ -1,5 +1,5 @@
 -- What a check that is done proves of its pair.
-use Rattle.std.proofs.Common.{◌≡◌, ◌∙◌, ℕ, List, [], ◌∷◌, Option, inl, inr, length, ltb, eqb, refl, sym, ap, subst, cond, arith}
+use Rattle.std.proofs.Common.{◌≡◌, ◌∙◌, ℕ, List, [], ◌∷◌, inl, inr, length, ltb, eqb, refl, sym, ap, cond, arith}
 use Rattle.std.specs.Prelude.{not}
 use Rattle.std.proofs.lemmas.Bool.{cases_Bool, ltb-false, not-false, or_parts, eqb-true}
 use Rattle.synth_core.specs.Check.{IsChecked, IsSound}

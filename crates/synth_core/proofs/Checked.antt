@@ -105,20 +105,6 @@ none_is None false e = absurd (false≢true e)
 none_is (Some x) true e = absurd (false≢true (sym e))
 none_is (Some x) false e = refl
 
-pub none_is : (o : Option ℕ) (r : Bool) → is_some o ≡ not r → is_none o ≡ r
-none_is None true e = refl
-none_is None false e = absurd (false≢true e)
-none_is (Some x) true e = absurd (false≢true (sym e))
-none_is (Some x) false e = refl
-
-pub not_true : (b : Bool) → not b ≡ true → b ≡ false
-not_true true e = absurd (false≢true e)
-not_true false e = refl
-
-pub not_false : (b : Bool) → not b ≡ false → b ≡ true
-not_false true e = refl
-not_false false e = absurd (false≢true (sym e))
-
 parted_one : {X : Type 0} (P : X → Type 0) (xs ones others : List X) (x : X) → P x → AreParted P xs ones others → AreParted P (xs ++ x ∷ []) (ones ++ x ∷ []) others
 parted_one P xs ones others x holds none = one holds none
 parted_one P xs ones others x holds (one h rest) = one h (parted_one P _ _ _ x holds rest)

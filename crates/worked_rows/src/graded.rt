@@ -46,24 +46,26 @@ fn compare_pair<'a>(files: &MemFiles, net: Option<&'a [u8]>, vectors: Option<&'a
     compare_files(files, PLA, &left)
 }
 
-/// Grades a pair, and compares the status, the report, and the files, which are as before.
-fn grades(
+/// Carries out the words on a pair, and compares the status, the report, and the files, which are as before.
+pub fn tells_pair(
     alloc: Global,
+    words: &str,
     net: Option<&[u8]>,
     vectors: Option<&[u8]>,
     status: u8,
     report: &[u8],
 ) -> Result<Differs, Memory> {
     let mut files = with_pair(alloc, net, vectors)?;
-    let told = tells_for(alloc, GRADE, &mut files, status, report)?;
+    let told = tells_for(alloc, words, &mut files, status, report)?;
     Ok(told.or(compare_pair(&files, net, vectors)))
 }
 
 /// The first row that is not as it says, where there is one.
 fn first_other(alloc: Global, rows: &[Graded]) -> Result<Option<Other>, Memory> {
     for (row, graded) in rows.iter().enumerate() {
-        let differs = grades(
+        let differs = tells_pair(
             alloc,
+            GRADE,
             graded.net,
             graded.vectors,
             graded.status,
@@ -79,15 +81,15 @@ fn first_other(alloc: Global, rows: &[Graded]) -> Result<Option<Other>, Memory> 
 // ---- the two-input AND
 
 /// The network that is written for the AND.
-const NET: &[u8] =
+pub const NET: &[u8] =
     b".model andexor\n.inputs x1 x2 _c\n.outputs f1\n.names x1 x2 _t1\n11 1\n.names _c _t1 f1\n10 1\n01 1\n.end\n";
 
 /// The vectors that are written for it.
-const SIX: &[u8] =
+pub const SIX: &[u8] =
     b"andexor-vectors 1\nform reddy\ninputs x1 x2 _c\noutputs f1\npolarity 11\nvector 000 0\nvector 110 1\nvector 001 1\nvector 111 0\nvector 010 0\nvector 100 0\nend\n";
 
 /// Without the last two.
-const FOUR: &[u8] =
+pub const FOUR: &[u8] =
     b"andexor-vectors 1\nform reddy\ninputs x1 x2 _c\noutputs f1\npolarity 11\nvector 000 0\nvector 110 1\nvector 001 1\nvector 111 0\nend\n";
 
 /// Without those at which the control is 1.
@@ -95,7 +97,7 @@ const CONTROL_LOW: &[u8] =
     b"andexor-vectors 1\nform reddy\ninputs x1 x2 _c\noutputs f1\npolarity 11\nvector 000 0\nvector 110 1\nvector 010 0\nvector 100 0\nend\n";
 
 /// With the response that the control 0 has, where it is 1.
-const WRONG_CONTROL: &[u8] =
+pub const WRONG_CONTROL: &[u8] =
     b"andexor-vectors 1\nform reddy\ninputs x1 x2 _c\noutputs f1\npolarity 11\nvector 000 0\nvector 110 1\nvector 001 0\nvector 111 1\nvector 010 0\nvector 100 0\nend\n";
 
 /// With its last vector alone, whose response is wrong.
@@ -165,7 +167,7 @@ fn many_vectors(alloc: Global, last: &[u8]) -> Result<Vec<u8>, Memory> {
 /// Compares the grading of so many vectors.
 fn grades_many(alloc: Global, last: &[u8], status: u8, report: &[u8]) -> Result<Differs, Memory> {
     let text = many_vectors(alloc, last)?;
-    grades(alloc, Some(NET), Some(&text), status, report)
+    tells_pair(alloc, GRADE, Some(NET), Some(&text), status, report)
 }
 
 #[test]

@@ -6,6 +6,8 @@ mod blif_faults;
 #[cfg(test)]
 mod blif_profile;
 #[cfg(test)]
+mod checked;
+#[cfg(test)]
 mod cut_texts;
 #[cfg(test)]
 mod differs;

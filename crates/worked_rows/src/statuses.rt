@@ -56,7 +56,7 @@ fn first_taken(alloc: Global, texts: &[&'static str]) -> Result<Option<Other>, M
 static OTHER_WORDS: [&str; 12] = [
     "synth in.pla n.blif",
     "synth in.pla n.blif v.vec more",
-    "check n.blif v.vec",
+    "check in.pla in.pla",
     "grade",
     "grade in.pla",
     "grade in.pla in.pla",
