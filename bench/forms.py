@@ -4,12 +4,14 @@
   bench/forms.py [SECONDS]
 
 For each source of bench/sources it prints four lines, one for each form (Reddy, factored) and polarity (positive, search): the numbers of
-terms, cubes, gates, faults, vectors and faults that no vector detects, as the report tells them, and the wall seconds of the run. Cubes
-stand in factored form alone. A source with too many terms for a form (status 7) is told as such.
+terms, cubes, gates, faults, vectors and faults that no vector detects, as the report tells them, and the wall seconds of the run and of
+`check` on the pair that it wrote. Cubes stand in factored form alone. A source with too many terms for a form (status 7) is told as such,
+and the number of faults whose tree is too wide to be written, where there are some.
 
 The program is the one that `rt run` or `rt ci` left in crates/andexor/out, or that the variable ANDEXOR names. The status is 0 where each
-run ends with status 0, or in factored form with 7, within SECONDS (by default 60), no factored form has more cubes than terms, and no
-Reddy form has a fault that no vector detects; 1 where one does not; and 2 where the program is missing.
+run ends with status 0, or in factored form with 7, within SECONDS (by default 60), no factored form has more cubes than terms, no Reddy
+form has a fault that no vector detects, and each check leaves no fault but those of trees that are too wide; 1 where one does not; and 2
+where the program is missing.
 """
 import os
 import subprocess
@@ -32,6 +34,37 @@ class Run(NamedTuple):
     seconds: float
 
 
+def numbers_of(report):
+    return dict(line.split(" ", 1) for line in report.splitlines() if " " in line)
+
+
+class Check(NamedTuple):
+    wrong: int
+    unproved: int
+    wide: int
+    seconds: float
+
+    def is_good(self):
+        return self.wrong == 0 and self.unproved == self.wide
+
+
+def check(folder, seconds):
+    """Checks the pair of the last run; None where it does not end with status 0 or 1 within the seconds."""
+    start = time.monotonic()
+    try:
+        words = [PROGRAM, "check", "net.blif", "out.vec"]
+        done = subprocess.run(words, cwd=folder, capture_output=True, text=True, timeout=seconds, check=False)
+    except subprocess.TimeoutExpired:
+        return None
+    taken = time.monotonic() - start
+    if done.returncode not in (0, 1):
+        return None
+    numbers = numbers_of(done.stdout)
+    with open(os.path.join(folder, "out.vec"), encoding="ascii") as vectors:
+        wide = sum(line.startswith("unchanged ") and line.endswith(" wide\n") for line in vectors)
+    return Check(int(numbers["wrong"]), int(numbers["unproved"]), wide, taken)
+
+
 def run(folder, source, kind, form, polarity, seconds):
     words = [PROGRAM, "synth", source, "net.blif", "out.vec", "--kind", kind, "--form", form, "--polarity", polarity]
     start = time.monotonic()
@@ -42,7 +75,7 @@ def run(folder, source, kind, form, polarity, seconds):
     taken = time.monotonic() - start
     if done.returncode != 0:
         return Run(done.returncode, {}, taken)
-    lines = dict(line.split(" ", 1) for line in done.stdout.splitlines() if " " in line)
+    lines = numbers_of(done.stdout)
     return Run(0, {name: int(lines[name]) for name in NUMBERS if name in lines}, taken)
 
 
@@ -52,14 +85,16 @@ def is_good(form, result):
     return result.status == 0 and result.numbers["unchanged"] == 0
 
 
-def line(name, form, polarity, result):
+def line(name, form, polarity, result, checked):
     front = f"{name:24} {form:8} {polarity:8}"
     if result.status == TOO_MANY_TERMS:
         return f"{front} too many terms   {result.seconds:6.2f} s"
     if result.status != 0:
         return f"{front} status {result.status}   {result.seconds:6.2f} s"
     numbers = "".join(f"{result.numbers.get(number, '-'):>10}" for number in NUMBERS)
-    return f"{front}{numbers}   {result.seconds:6.2f} s"
+    told = "no check" if checked is None else f"{checked.seconds:6.2f} s"
+    wide = f"   {checked.wide} wide" if checked is not None and checked.wide else ""
+    return f"{front}{numbers}   {result.seconds:6.2f} s   {told}{wide}"
 
 
 def main():
@@ -75,8 +110,10 @@ def main():
             for form in ("reddy", "factored"):
                 for polarity in ("positive", "search"):
                     result = run(folder, os.path.join(SOURCES, name), kind, form, polarity, seconds)
-                    print(line(name, form, polarity, result))
+                    checked = check(folder, seconds) if result.status == 0 else None
+                    print(line(name, form, polarity, result, checked))
                     good &= is_good(form, result)
+                    good &= result.status != 0 or checked is not None and checked.is_good()
     return 0 if good else 1
 
 
