@@ -1,4 +1,5 @@
 pub mod Close
+pub mod Equals
 pub mod Linking
 pub mod Lists
 pub mod Placed

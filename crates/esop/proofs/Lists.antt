@@ -1,11 +1,12 @@
 -- The lists of an ESOP: those of an expansion's cubes, and those rewritten.
-use Rattle.std.proofs.Common.{◌≡◌, ◌≤◌, ◌∙◌, ℕ, suc, Bool, true, false, not, List, [], ◌∷◌, length, map, take, get_or, ◌&&◌, refl, sym, ap, ap₂, inl, inr}
+use Rattle.std.proofs.Common.{◌≡◌, ◌≤◌, ◌∙◌, ℕ, suc, Bool, true, false, not, List, [], ◌∷◌, length, map, take, get_or, ◌&&◌, refl, sym, ap, ap₂, arith, inl, inr}
 use Rattle.std.specs.Prelude.{All}
 use Rattle.std.specs.List.{AllByRecursion, AllZip}
 use Rattle.std.specs.List.Sorted.{IsSorted}
 use Rattle.std.proofs.lemmas.Bool.{cases_Bool, false≢true, and_parts}
 use Rattle.std.proofs.lemmas.List.{length-map, take_all}
 use Rattle.std.proofs.lemmas.List.Elements.{All-from_recursion, recursion_from_All, All-map, All-weaker}
+use Rattle.ae_base.specs.declared.limits.TheConstants.{WIDTH}
 use Rattle.ae_base.specs.Cube.{Product, Signs, IsProduct, IsOver, EachHolds, holds}
 use Rattle.ae_base.specs.Mask.{Set, differ, has, both, first, inside}
 use Rattle.ae_base.specs.Terms.{literal, product, value}
@@ -13,12 +14,13 @@ use Rattle.ae_base.specs.Text.{cmp_text}
 use Rattle.ae_base.proofs.Distinct.{each_weaker, each-map}
 use Rattle.ae_base.proofs.Literals.{product-literals, literals-product}
 use Rattle.ae_base.proofs.Products.{holds-has, has-holds}
-use Rattle.ae_base.proofs.Sets.{has-both, has-xor, has-inside, inside-has}
+use Rattle.ae_base.proofs.Sets.{has-both, has-xor, has-inside, inside-has, inside-above, inside-from}
 use Rattle.ae_base.proofs.Truth.{same_truth}
 use Rattle.expansion.specs.Terms.{Terms, IsTerms}
 use Rattle.esop.specs.Esop.{Cubes, IsCubes, HasSameValue, HasValueOf, esop_value, cube_of, esop_of}
 use Rattle.esop.specs.Order.{in_order}
 use Rattle.esop.specs.Rewriting.{rewritten, rewritten_lists}
+use Rattle.esop.specs.Search.{IsOrdered}
 use Rattle.esop.specs.Settled.{IsSettled, AreSettled}
 use Rattle.esop.proofs.Placed.{length-placed, each_placed, sorted_in_order}
 use Rattle.esop.proofs.Rewritten.{rewritten_ends, rewritten_keeps}
@@ -44,6 +46,15 @@ all_made f xs items ys i made all same = made ∙ ap (map f) (take_all i items a
 module _ (e : Cubes) (h : IsCubes e) where
   proper_lists : All (Proper e.n) e.outs
   proper_lists k d l = record { over = recursion_from_All (IsOver e.n) _ (h.below k d l); order = h.order k d l }
+
+  pub ordered_lists : All IsOrdered e.outs
+  ordered_lists k d l = record {
+    over = All-weaker (IsOver e.n) (IsOver WIDTH) (λ c over. (over.0, wide c.pos over.1, wide c.neg over.2)) _ (h.below k d l);
+    order = h.order k d l;
+  }
+    where
+      wide : (s : Set) → inside s (first e.n) ≡ true → inside s (first WIDTH) ≡ true
+      wide s below = inside-from WIDTH s (λ k l. inside-above e.n s below k (omega (arith, l, h.inputs)))
 
   keep_lists : All (λ cs. Keeps e.n cs (rewritten cs)) e.outs
   keep_lists = All-weaker (Proper e.n) (λ cs. Keeps e.n cs (rewritten cs)) (rewritten_keeps e.n) e.outs proper_lists

@@ -59,13 +59,13 @@ insert_is c (d ∷ ds) k e = rw e (by (precedes c d) (insert_is c ds (prefix_len
 -- ---- the list stays in order
 
 -- the second cube does not come before the first
-abbrev NotBefore : Product → Product → Type 0
+abbrev pub NotBefore : Product → Product → Type 0
 NotBefore c d = precedes c d ≡ false
 
 orders : IsStrictWeakOrder (λ d c. is_lt (cmp_text d c))
 orders = ranks_by cmp_text_total (λ c. c)
 
-all_pairs : (cs : List Product) → IsSorted cmp_text cs → AllPairs NotBefore cs
+pub all_pairs : (cs : List Product) → IsSorted cmp_text cs → AllPairs NotBefore cs
 all_pairs cs h i j d lt within = sorted_far (λ d c. is_lt (cmp_text d c)) orders cs h i j d (omega (arith, lt)) within
 
 from_pairs : (cs : List Product) → AllPairs NotBefore cs → IsSorted cmp_text cs

@@ -4,8 +4,11 @@ use Rattle.std.specs.Prelude.{Option, Some, None, unwrap_or}
 use Rattle.std.specs.Option.{option_or}
 use Rattle.std.proofs.lemmas.Bool.{false≢true}
 use Rattle.std.proofs.lemmas.List.{nil_from_length}
-use Rattle.ae_base.specs.Cube.{Product}
+use Rattle.std.proofs.lemmas.List.Elements.{All-from_recursion, recursion_from_All}
+use Rattle.ae_base.specs.declared.limits.TheConstants.{WIDTH}
+use Rattle.ae_base.specs.Cube.{Product, IsOver}
 use Rattle.esop.specs.Rewriting.{cancelled, merged, linked, next_list, rewrite_step, steps, rewritten}
+use Rattle.esop.specs.Search.{IsOrdered}
 use Rattle.esop.proofs.Close.{close}
 use Rattle.esop.proofs.Steps.{Proper, Keeps, keeps_itself, is_step, measure, measure_up, cancelled_is, merged_is, linked_is, cancelled_length, merged_length, linked_length, linked_close, none_close}
 
@@ -87,6 +90,11 @@ steps_keep (suc k) n cs h = let first = step_keeps n cs h in keeps_on n cs (rewr
 pub rewritten_keeps : (n : ℕ) (cs : List Product) → Proper n cs → Keeps n cs (rewritten cs)
 unfolding rewritten
 rewritten_keeps n cs h = steps_keep (2 * length cs) n cs h
+
+pub ordered_on : (cs ds : List Product) → next_list cs ≡ Some ds → IsOrdered cs → IsOrdered ds
+ordered_on cs ds e h =
+    let k = ((is_step cs ds e).keeps WIDTH (record { over = recursion_from_All (IsOver WIDTH) cs h.over; order = h.order })).proper in
+    record { over = All-from_recursion (IsOver WIDTH) ds k.over; order = k.order }
 
 -- ---- one of two steps removes a cube
 

@@ -5,10 +5,10 @@ use Rattle.std.proofs.lemmas.Bool.{false≢true}
 use Rattle.ae_base.specs.Cube.{Product}
 use Rattle.esop.specs.Links.{Link, merge}
 use Rattle.esop.specs.Order.{placed}
-use Rattle.esop.specs.Rewriting.{useful_link, cancelled, merged, linked}
+use Rattle.esop.specs.Rewriting.{first_at, useful_link, cancelled, merged, linked}
 use Rattle.esop.specs.Search.{IsTaken, first_pair, is_sought}
 use Rattle.esop.specs.Settled.{cube_at, others}
-use Rattle.esop.specs.declared.pairs.Sought.TheVariants.{Equal, Adjacent, Linked}
+use Rattle.esop.specs.declared.pairs.Sought.TheVariants.{Adjacent, Linked}
 use Rattle.esop.proofs.Places.{pair_found}
 use Rattle.esop.proofs.Steps.{relinked}
 
@@ -19,12 +19,12 @@ pub taken_some : (next : Option (List Product)) (before after ds : List Product)
 taken_some next before after ds h e = (sym (ap is_some h), e ∙ sym (ap (λ o. unwrap_or o before) h))
 
 module _ (cs : List Product) where
-  pub no_equal : first_pair Equal cs ≡ None → cancelled cs ≡ None
-  unfolding cancelled first_pair
+  pub no_equal : first_at 0 cs ≡ None → cancelled cs ≡ None
+  unfolding cancelled
   no_equal h = ap (option_map (λ p. others cs p.0 p.1)) h
 
-  pub equal_at : (p : ℕ × ℕ) → first_pair Equal cs ≡ Some p → cancelled cs ≡ Some (others cs p.0 p.1)
-  unfolding cancelled first_pair
+  pub equal_at : (p : ℕ × ℕ) → first_at 0 cs ≡ Some p → cancelled cs ≡ Some (others cs p.0 p.1)
+  unfolding cancelled
   equal_at p h = ap (option_map (λ p. others cs p.0 p.1)) h
 
   -- the list that a merge gives

@@ -1,15 +1,22 @@
 -- Words of private contracts alone: the search for the first pair that a step takes.
-use Rattle.std.specs.Prelude.{◌≡◌, ℕ, suc, ◌-◌, ◌==◌, Bool, List, length, find, Option, is_some, unwrap_or}
+use Rattle.std.specs.Prelude.{◌≡◌, ℕ, suc, ◌-◌, ◌==◌, Bool, List, length, find, Option, is_some, unwrap_or, All}
 use Rattle.std.specs.List.{range_with_len}
-use Rattle.ae_base.specs.Cube.{Product, distance}
+use Rattle.std.specs.List.Sorted.{IsSorted}
+use Rattle.ae_base.specs.declared.limits.TheConstants.{WIDTH}
+use Rattle.ae_base.specs.Cube.{Product, IsOver, distance}
+use Rattle.ae_base.specs.Text.{cmp_text}
 use Rattle.esop.specs.Rewriting.{pairs, useful_link}
 use Rattle.esop.specs.Settled.{cube_at}
 use Rattle.esop.specs.declared.pairs.Sought.{Sought}
-use Rattle.esop.specs.declared.pairs.Sought.TheVariants.{Equal, Adjacent, Linked}
+use Rattle.esop.specs.declared.pairs.Sought.TheVariants.{Adjacent, Linked}
+
+-- the cubes stand in the order of their texts, so that equal ones follow each other
+pub record IsOrdered (cs : List Product) : Type 0 where
+  pub over : All (IsOver WIDTH) cs
+  pub order : IsSorted cmp_text cs
 
 -- whether the cubes at a pair of places are as sought
 abbrev pub is_sought : Sought → List Product → ℕ × ℕ → Bool
-is_sought Equal cs p = distance (cube_at cs p.0) (cube_at cs p.1) == 0
 is_sought Adjacent cs p = distance (cube_at cs p.0) (cube_at cs p.1) == 1
 is_sought Linked cs p = is_some (useful_link cs p)
 

@@ -1,5 +1,6 @@
 //! The search for the first pair of cubes that a rewriting step takes.
 ghost use Rattle.std.specs.Prelude.{◌≡◌, ◌<◌, length, IfSome};
+ghost use Rattle.esop.specs.Rewriting.{first_at};
 ghost use Rattle.esop.specs.Search as pairs;
 
 use crate::links::useful_link;
@@ -8,12 +9,24 @@ use ae_base::Cube;
 /// What pair of cubes is sought.
 #[derive(Clone, Copy)]
 pub enum Sought {
-    /// Equal cubes.
-    Equal,
     /// Cubes at distance 1.
     Adjacent,
     /// Cubes at distance 2 with a useful link.
     Linked,
+}
+
+/// The first pair of places, in lexicographic order, whose cubes are equal. In an ordered list equal cubes follow each other.
+pub fn first_equal(cubes: &[Cube]) -> Option<(usize, usize)>
+    requires { pairs.IsOrdered cubes.now }
+    ensures pair { result ≡ first_at 0 cubes.now }
+    ensures within { IfSome result (λ p. (p.0 < p.1) × (p.1 < length cubes.now)) }
+{
+    for second in 1..cubes.len() {
+        if cubes[second - 1].distance(cubes[second]) == 0 {
+            return Some((second - 1, second));
+        }
+    }
+    None
 }
 
 /// The first pair of places, in lexicographic order, whose cubes are as sought.
@@ -49,7 +62,6 @@ fn is_sought(cubes: &[Cube], first: usize, second: usize, sought: Sought) -> boo
     ensures { result ≡ pairs.is_sought sought cubes.now (first, second) }
 {
     match sought {
-        Sought::Equal => cubes[first].distance(cubes[second]) == 0,
         Sought::Adjacent => cubes[first].distance(cubes[second]) == 1,
         Sought::Linked => useful_link(cubes, first, second).is_some(),
     }

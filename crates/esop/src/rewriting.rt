@@ -3,6 +3,7 @@ ghost use Rattle.std.specs.Prelude.{◌≡◌, ◌≤◌, IfOk, length};
 ghost use Rattle.std.specs.List.{AllZip};
 ghost use Rattle.esop.specs.Esop.{HasSameValue};
 ghost use Rattle.esop.specs.Rewriting.{rewritten, rewritten_lists};
+ghost use Rattle.esop.specs.Search.{IsOrdered};
 ghost use Rattle.esop.specs.Settled.{AreSettled};
 
 use crate::esop::Esop;
@@ -31,6 +32,7 @@ pub fn exorlink(alloc: Global, e: Esop) -> Result<Esop, Memory>
 
 /// The list of cubes rewritten, in a vector of its own. Where memory runs out, `Memory`.
 fn rewrite(alloc: Global, cubes: &[Cube]) -> Result<Vec<Cube>, Memory>
+    requires { IsOrdered cubes.now }
     ensures { IfOk result (λ settled. settled.items ≡ rewritten cubes.now) }
 {
     let mut settled = cubes.to_vec(alloc)?;

@@ -5,16 +5,17 @@ ghost use Rattle.std.specs.Ordering.{is_lt};
 ghost use Rattle.ae_base.specs.Text.{cmp_text};
 ghost use Rattle.esop.specs.Order.{placed};
 ghost use Rattle.esop.specs.Rewriting as rewriting;
-ghost use Rattle.esop.specs.Search.{IsTaken};
+ghost use Rattle.esop.specs.Search.{IsOrdered, IsTaken};
 
 use crate::links::useful_link;
 use crate::near::merge;
-use crate::pairs::{Sought, first_pair};
+use crate::pairs::{Sought, first_equal, first_pair};
 use ae_base::{Cube, Memory};
 
 /// Takes the first step that applies in place, and says whether one did. Where memory runs out, `Memory`, and the list may have lost
 /// cubes.
 pub fn take_step(cubes: &mut Vec<Cube>) -> Result<bool, Memory>
+    requires { IsOrdered cubes.old.items }
     ensures { IfOk result (IsTaken (rewriting.next_list cubes.old.items) cubes.old.items cubes.new.items) }
 {
     if cancel(cubes) {
@@ -28,9 +29,10 @@ pub fn take_step(cubes: &mut Vec<Cube>) -> Result<bool, Memory>
 
 /// The first pair of equal cubes goes, where there is such a pair.
 fn cancel(cubes: &mut Vec<Cube>) -> bool
+    requires { IsOrdered cubes.old.items }
     ensures { IsTaken (rewriting.cancelled cubes.old.items) cubes.old.items cubes.new.items result }
 {
-    match first_pair(cubes.as_slice(), Sought::Equal) {
+    match first_equal(cubes.as_slice()) {
         None => false,
         Some((first, second)) => {
             cubes.remove(second);

@@ -1,11 +1,21 @@
-use Rattle.std.proofs.Common.{◌≡◌, ◌≤◌, length, map, subst, sym}
+use Rattle.std.proofs.Common.{◌≡◌, ◌≤◌, ◌∙◌, get_or, length, map, subst, sym, ap}
 use Rattle.std.specs.Prelude.{All}
 use Rattle.std.specs.List.{AllZip}
 use Rattle.esop.specs.Esop.{HasSameValue}
 use Rattle.esop.specs.Rewriting.{rewritten}
+use Rattle.esop.specs.Search.{IsOrdered}
 use Rattle.esop.specs.Settled.{IsSettled}
-use Rattle.esop.proofs.Lists.{all_made, rewritten_cubes, rewritten_values, rewritten_counts, rewritten_settled}
+use Rattle.esop.proofs.Lists.{all_made, ordered_lists, rewritten_cubes, rewritten_values, rewritten_counts, rewritten_settled}
 use Rattle.esop.proofs.rewriting.exorlink.Goals as goal
+
+pub rewrite-requires : goal.rewrite-requires
+rewrite-requires c =
+    let cs = c.as_slice.result.now in
+    let outs = c.lists-cubes-items.result.now in
+    let i = c.loop-cubes.cubes-index in
+    let here : cs ≡ get_or outs i cs = c.as_slice.ensures ∙ c.cubes-item.is ∙ ap (get_or outs i) (sym c.as_slice.ensures) in
+    let ordered : All IsOrdered outs = subst (λ os. All IsOrdered os) (sym c.lists-cubes-items.ensures.lists) (ordered_lists c.args.e c.lists-cubes-items.ensures.valid) in
+    subst IsOrdered (sym here) (ordered i cs c.loop-cubes-test.true)
 
 pub invariant_of-result : goal.invariant_of-result
 invariant_of-result c =

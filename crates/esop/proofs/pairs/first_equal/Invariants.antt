@@ -1,0 +1,5 @@
+use Rattle.esop.proofs.Equals.{Differ}
+use Rattle.esop.proofs.pairs.first_equal.Given as goal
+
+abbrev pub invariant-loop-second : goal.invariant-loop-second
+invariant-loop-second l = Differ l.cubes l.second
