@@ -11,7 +11,7 @@ use blif_read::BlifErr;
 use expansion::{ExpandErr, Expansion, expand};
 use fn_store::{FnRef, FnStore, TermLists};
 use given::{HALF_ADDER, are_sets, cover_of, net_of, polarity, set};
-use net_fn::{cover_values, net_values, signal_values};
+use net_fn::{cover_values, faulty_values, net_values, port_values, signal_values};
 use pla_read::PlaErr;
 use std::alloc::Global;
 use std::test::Fail;
@@ -98,6 +98,20 @@ fn are_ports(
     are_functions(&mut store, &refs, wanted)
 }
 
+/// Whether the network's ports show these functions under the fault, where they are made of the signals' functions without it.
+fn are_faulty_ports(
+    alloc: Global,
+    net: &Net,
+    plain: &[u32],
+    fault: Fault,
+    wanted: &[Terms],
+) -> Result<bool, Memory> {
+    let mut store = store_for(alloc, net, plain)?;
+    let good = signal_values(alloc, &mut store, net, None)?;
+    let refs = faulty_values(alloc, &mut store, net, fault, &good)?;
+    are_functions(&mut store, &refs, wanted)
+}
+
 /// Whether the network's signals have these functions under the fault, or under none.
 fn are_signals(
     alloc: Global,
@@ -148,7 +162,9 @@ fn first_other_fault(alloc: Global) -> Result<usize, BlifErr> {
     let net = net_of(alloc, CASCADE)?;
     let list = faults(alloc, &net)?;
     for (i, (fault, functions)) in list.iter().zip(UNDER_FAULTS.iter()).enumerate() {
-        if !are_ports(alloc, &net, &[0, 1, 2], Some(*fault), functions)? {
+        if !(are_ports(alloc, &net, &[0, 1, 2], Some(*fault), functions)?
+            && are_faulty_ports(alloc, &net, &[0, 1, 2], *fault, functions)?)
+        {
             return Ok(i);
         }
     }
@@ -285,11 +301,25 @@ fn are_shown(alloc: Global, net: &Net, row: &Shown) -> Result<bool, Memory> {
     )
 }
 
+/// Whether the ports have the row's functions, made of those without the fault, where the row has a fault.
+fn are_shown_anew(alloc: Global, net: &Net, row: &Shown) -> Result<bool, Memory> {
+    match row.stuck {
+        Some((place, value)) => are_faulty_ports(
+            alloc,
+            net,
+            row.plain,
+            Fault { place, value },
+            &row.ports,
+        ),
+        None => Ok(true),
+    }
+}
+
 /// The place of the first row with other functions of the half adder, where there is one.
 fn first_other_shown(alloc: Global) -> Result<Option<usize>, BlifErr> {
     let net = net_of(alloc, HALF_ADDER)?;
     for (i, row) in HALF_ADDERS.iter().enumerate() {
-        if !are_shown(alloc, &net, row)? {
+        if !(are_shown(alloc, &net, row)? && are_shown_anew(alloc, &net, row)?) {
             return Ok(Some(i));
         }
     }
@@ -300,6 +330,34 @@ fn first_other_shown(alloc: Global) -> Result<Option<usize>, BlifErr> {
 fn signals_and_ports_of_a_half_adder(rt: HostRuntime) -> Result<(), Fail> {
     let other = first_other_shown(rt.alloc())?;
     assert_eq!(rt; other, None);
+    Ok(())
+}
+
+/// Whether the port of the sum has the reference that it has without the fault, and that of the carry another.
+fn is_sum_taken_over(alloc: Global, net: &Net, fault: Fault) -> Result<bool, Memory> {
+    let mut store = store_for(alloc, net, &[0, 1])?;
+    let good = signal_values(alloc, &mut store, net, None)?;
+    let ports = port_values(alloc, &store, net, None, &good)?;
+    let refs = faulty_values(alloc, &mut store, net, fault, &good)?;
+    match (ports.as_slice(), refs.as_slice()) {
+        ([sum, carry], [taken, made]) => Ok(sum == taken && carry != made),
+        _ => Ok(false),
+    }
+}
+
+/// Whether a fault at the pin of the half adder's carry leaves the sum as it is.
+fn leaves_the_sum(alloc: Global) -> Result<bool, BlifErr> {
+    let net = net_of(alloc, HALF_ADDER)?;
+    let fault = Fault {
+        place: Place::Pin(3, 0),
+        value: false,
+    };
+    Ok(is_sum_taken_over(alloc, &net, fault)?)
+}
+
+#[test]
+fn a_function_that_the_fault_does_not_reach(rt: HostRuntime) -> Result<(), Fail> {
+    assert!(rt; leaves_the_sum(rt.alloc())?);
     Ok(())
 }
 

@@ -1,3 +1,4 @@
+pub mod Alike
 pub mod Cofactors
 pub mod Kept
 pub mod Listed

@@ -4,6 +4,7 @@
 mod covers;
 mod cubes;
 mod expansions;
+mod faulty;
 mod joins;
 mod nets;
 mod products;
@@ -11,5 +12,6 @@ mod products;
 pub use covers::cover_values;
 pub use cubes::{some_cube, some_product};
 pub use expansions::expansion_values;
-pub use nets::{net_values, signal_values};
+pub use faulty::faulty_values;
+pub use nets::{net_values, port_values, signal_values};
 pub use products::input;

@@ -48,9 +48,25 @@ pub fn net_values<S: FnStore>(
     ensures shows { IfOk result (λ refs. ShowEach (S.functions store.new) refs.items (λ o x. has (out net.now fault x) o)) }
     ensures keeps { Keeps (S.functions store.old) (S.functions store.new) }
 {
+    let values = signal_values(alloc, store, net, fault)?;
+    port_values(alloc, store, net, fault, &values)
+}
+
+/// The same from the functions of the signals, under the same fault or none: for each output port of the network, in order, the function
+/// that it shows. Nothing is made. Where memory runs out, `Memory`.
+pub fn port_values<S: FnStore>(
+    alloc: Global,
+    store: &S,
+    net: &Net,
+    fault: Option<Fault>,
+    values: &[FnRef],
+) -> Result<Vec<FnRef>, Memory>
+    requires { ShowSignals (S.functions store.now) net.now fault (signals net.now) values.now }
+    ensures count { IfOk result (λ refs. length refs.items ≡ length net.now.outputs) }
+    ensures shows { IfOk result (λ refs. ShowEach (S.functions store.now) refs.items (λ o x. has (out net.now fault x) o)) }
+{
     one_run();
-    let signals = signal_values(alloc, store, net, fault)?;
-    seen_by(alloc, store, fault, Readers::Ports, net.outputs(), &signals)
+    seen_by(alloc, store, fault, Readers::Ports, net.outputs(), values)
 }
 
 /// For each signal of the network, the inputs and then the gates in order, the function of its values in the runs under the fault, or
@@ -95,7 +111,7 @@ fn input_values<S: FnStore>(
 }
 
 /// The function of the table of the gate in place `i`, on what its pins see of the signals before it.
-fn gate_value<S: FnStore>(
+pub(crate) fn gate_value<S: FnStore>(
     alloc: Global,
     store: &mut S,
     gate: &Gate,
@@ -155,7 +171,7 @@ fn seen_by<S: FnStore>(
 }
 
 /// What is seen at a place, where the function would be seen without the fault.
-fn seen<S: FnStore>(store: &S, fault: Option<Fault>, at: Place, value: FnRef) -> FnRef
+pub(crate) fn seen<S: FnStore>(store: &S, fault: Option<Fault>, at: Place, value: FnRef) -> FnRef
     requires { IsLive (S.functions store.now) value }
     ensures shows { (f : Set → Bool) → Shows (S.functions store.now) value f → Shows (S.functions store.now) result (λ x. run.seen fault at (f x)) }
     ensures live { IsLive (S.functions store.now) result }

@@ -6,10 +6,14 @@ use Rattle.std.proofs.lemmas.Option.{slice_get-get_or}
 use Rattle.ae_base.specs.Mask.{Set, differ}
 use Rattle.ae_base.specs.Cube.{Signs}
 use Rattle.ae_base.proofs.Truth.{differ-same, equal_values}
+use Rattle.ae_net.specs.declared.net.Fault.{Fault}
+use Rattle.ae_net.specs.Network.{Network}
+use Rattle.ae_net.specs.Run.{value_of}
 use Rattle.fn_store.specs.Davio.{IsExpansion}
 use Rattle.fn_store.specs.Functions.{Functions, IsLive, Shows, Keeps, AgreeAt, IsLeastPoint}
 use Rattle.fn_store.specs.declared.store.FnRef.{FnRef}
 use Rattle.net_fn.specs.Refs.{AreLive, ShowEach}
+use Rattle.net_fn.specs.Signals.{ShowSignals}
 use Rattle.test_gen.specs.Points.{first_one}
 use Rattle.test_gen.proofs.First.{first-None, first-Some}
 
@@ -88,6 +92,13 @@ first_apart start now next good bad o r apart found done in_good in_bad same e k
 
 pub ShowEach-kept : (s t : Functions) (refs : List FnRef) (fs : ℕ → Set → Bool) → Keeps s t → ShowEach s refs fs → ShowEach t refs fs
 ShowEach-kept s t refs fs keeps shows = record { each = λ k r at. Shows-kept s t r (fs k) keeps (shows.each k r at) }
+
+pub ShowSignals-kept : (s t : Functions) (n : Network) (fault : Option Fault) (k : ℕ) (refs : List FnRef) → Keeps s t → ShowSignals s n fault k refs → ShowSignals t n fault k refs
+ShowSignals-kept s t n fault k refs keeps shown = record {
+  count = shown.count;
+  live = record { each = λ j r at. keeps.live r (shown.live.each j r at) };
+  shows = λ w runs. ShowEach-kept s t refs (λ j x. value_of (w x) j) keeps (shown.shows w runs);
+}
 
 -- what was found in the store as it is now, said of the store at the start
 pub found-at_start : (s t : Functions) (m k : ℕ) (fs : ℕ → Set → Bool) (found : Option Set) → Keeps s t → m ≡ k → found ≡ first_one t.polarity m fs → found ≡ first_one s.polarity k fs

@@ -1,11 +1,12 @@
 //! The test for a fault, and the faults that a point does not detect.
 ghost use Rattle.std.specs.Prelude.{◌≡◌, ℕ, Bool, None, not, IfOk, filter, is_none, length};
 ghost use Rattle.std.specs.List.{AllZip};
-ghost use Rattle.ae_base.specs.Mask.{Set, differ, has};
+ghost use Rattle.ae_base.specs.Mask.{Set, differ};
 ghost use Rattle.ae_net.specs.declared.net.Fault.{Fault};
-ghost use Rattle.ae_net.specs.Out.{out};
+ghost use Rattle.ae_net.specs.Network.{signals};
 ghost use Rattle.fn_store.specs.Functions.{Keeps};
 ghost use Rattle.net_fn.specs.Refs.{AreLive, ShowEach};
+ghost use Rattle.net_fn.specs.Signals.{ShowSignals};
 ghost use Rattle.test_gen.specs.Points.{first_one};
 ghost use Rattle.test_gen.specs.Tests as spec;
 
@@ -14,7 +15,7 @@ use ae_base::{Memory, Point};
 use ae_net::{Fault, Net};
 use fault_sim::first_telling;
 use fn_store::{FnRef, FnStore};
-use net_fn::net_values;
+use net_fn::{faulty_values, port_values};
 use std::alloc::Global;
 
 /// The least point at which the functions of the first pair that differs anywhere differ. `None` comes exactly where each pair is equal.
@@ -40,7 +41,7 @@ fn first_difference<S: FnStore>(
 }
 
 /// The test for a fault: the least point at which the first output that the fault changes anywhere is changed. `None` comes exactly where
-/// it changes none. `good` are the functions of the ports without a fault.
+/// it changes none. `good` are the functions of the signals without a fault.
 pub(crate) fn test_for<S: FnStore>(
     alloc: Global,
     store: &mut S,
@@ -48,14 +49,13 @@ pub(crate) fn test_for<S: FnStore>(
     good: &[FnRef],
     fault: Fault,
 ) -> Result<Option<Point>, Memory>
-    requires inputs { (S.functions store.old).polarity.n ≡ length net.now.inputs }
-    requires ports { length good.now ≡ length net.now.outputs }
-    requires good { ShowEach (S.functions store.old) good.now (λ o x. has (out net.now None x) o) }
+    requires { ShowSignals (S.functions store.old) net.now None (signals net.now) good.now }
     ensures test { IfOk result (λ found. found ≡ spec.test_for net.now (S.functions store.old).polarity fault) }
     ensures keeps { Keeps (S.functions store.old) (S.functions store.new) }
 {
-    let bad = net_values(alloc, store, net, Some(fault))?;
-    first_difference(store, good, &bad)
+    let without = port_values(alloc, store, net, None, good)?;
+    let with = faulty_values(alloc, store, net, fault, good)?;
+    first_difference(store, &without, &with)
 }
 
 /// The faults of the list for which nothing was found, in order.

@@ -1,12 +1,11 @@
 //! The tests of a network.
 ghost use Rattle.std.specs.Prelude.{◌≡◌, [], ◌∷◌, ◌++◌, None, All, IfOk, filter, fold, if◌then◌else◌, is_none, length};
 ghost use Rattle.std.specs.Option.{option_to_list};
-ghost use Rattle.ae_base.specs.Mask.{has};
 ghost use Rattle.ae_base.specs.Terms.{IsPoint};
 ghost use Rattle.ae_net.specs.Faults.{fault_list};
-ghost use Rattle.ae_net.specs.Out.{out};
+ghost use Rattle.ae_net.specs.Network.{signals};
 ghost use Rattle.fn_store.specs.Functions.{Keeps};
-ghost use Rattle.net_fn.specs.Refs.{ShowEach};
+ghost use Rattle.net_fn.specs.Signals.{ShowSignals};
 ghost use Rattle.test_gen.specs.Selection.{IsSelection};
 ghost use Rattle.test_gen.specs.Tests as spec;
 ghost use Rattle.test_gen.specs.Undetectable.{IsComplete, IsEachNew, IsUndetectable};
@@ -16,7 +15,7 @@ use crate::laws::tests_law;
 use ae_base::{Memory, Point, Seq};
 use ae_net::{Fault, Net, faults};
 use fn_store::{FnRef, FnStore};
-use net_fn::net_values;
+use net_fn::signal_values;
 use std::alloc::Global;
 
 /// The tests of a network.
@@ -44,13 +43,13 @@ pub fn generate<S: FnStore>(alloc: Global, store: &mut S, net: &Net) -> Result<T
     ensures keeps { Keeps (S.functions store.old) (S.functions store.new) }
 {
     let _ = net.inputs(); // tells that the network is valid
-    let good = net_values(alloc, store, net, None)?;
+    let good = signal_values(alloc, store, net, None)?;
     let all = faults(alloc, net)?;
     tests_law();
     tests_for(alloc, store, net, &good, all)
 }
 
-/// The tests for the faults of a list, and those of the faults that have none.
+/// The tests for the faults of a list, and those of the faults that have none. `good` are the functions of the signals without a fault.
 fn tests_for<S: FnStore>(
     alloc: Global,
     store: &mut S,
@@ -58,9 +57,7 @@ fn tests_for<S: FnStore>(
     good: &[FnRef],
     all: Vec<Fault>,
 ) -> Result<Tests, Memory>
-    requires inputs { (S.functions store.old).polarity.n ≡ length net.now.inputs }
-    requires ports { length good.now ≡ length net.now.outputs }
-    requires good { ShowEach (S.functions store.old) good.now (λ o x. has (out net.now None x) o) }
+    requires { ShowSignals (S.functions store.old) net.now None (signals net.now) good.now }
     ensures points { IfOk result (λ tests. tests.points ≡ fold (spec.with_test net.now (S.functions store.old).polarity) [] all.items) }
     ensures unchanged { IfOk result (λ tests. tests.unchanged ≡ filter (spec.has_no_test net.now (S.functions store.old).polarity) all.items) }
     ensures keeps { Keeps (S.functions store.old) (S.functions store.new) }
@@ -92,9 +89,7 @@ fn add_test<S: FnStore>(
     fault: Fault,
     tests: &mut Tests,
 ) -> Result<Option<Point>, Memory>
-    requires inputs { (S.functions store.old).polarity.n ≡ length net.now.inputs }
-    requires ports { length good.now ≡ length net.now.outputs }
-    requires good { ShowEach (S.functions store.old) good.now (λ o x. has (out net.now None x) o) }
+    requires { ShowSignals (S.functions store.old) net.now None (signals net.now) good.now }
     ensures test { IfOk result (λ found. found ≡ spec.test_for net.now (S.functions store.old).polarity fault) }
     ensures points { IfOk result (λ found. tests.new.points ≡ tests.old.points ++ option_to_list found) }
     ensures unchanged { IfOk result (λ found. tests.new.unchanged ≡ (if is_none found then tests.old.unchanged ++ fault ∷ [] else tests.old.unchanged)) }

@@ -1,4 +1,4 @@
-use Rattle.std.proofs.Common.{length}
+use Rattle.std.proofs.Common.{length, ap, ◌∙◌}
 use Rattle.std.proofs.lemmas.Result.{IfOk-weaker}
 use Rattle.std.specs.Prelude.{Some, None}
 use Rattle.ae_base.specs.Mask.{has}
@@ -13,8 +13,10 @@ returns-clause-test g c =
     let n = c.args.net.now in
     IfOk-weaker c.first_difference.result _ _
     (λ found first.
-    found-at_start (g.S.FnStore.functions c.args.store.now) (g.S.FnStore.functions c.net_values.new.store) (length c.args.good.now) (length n.outputs) (changes n c.args.fault) found c.in_ok-bad.ensures.keeps c.requires.ports
+    found-at_start (g.S.FnStore.functions c.args.store.now) (g.S.FnStore.functions c.faulty_values.new.store) (length c.deref.result.now) (length n.outputs) (changes n c.args.fault) found c.in_ok-with.ensures.keeps
+    (ap length c.deref.ensures.value ∙ c.in_ok-without.ensures.count)
     (first (λ o x. has (out n None x) o) (λ o x. has (out n (Some c.args.fault) x) o)
-    (ShowEach-kept (g.S.FnStore.functions c.args.store.now) (g.S.FnStore.functions c.net_values.new.store) c.args.good.now (λ o x. has (out n None x) o) c.in_ok-bad.ensures.keeps c.requires.good)
-    (rw c.deref.ensures.value c.in_ok-bad.ensures.shows)))
+    (rw c.deref.ensures.value
+    (ShowEach-kept (g.S.FnStore.functions c.args.store.now) (g.S.FnStore.functions c.faulty_values.new.store) c.in_ok-without.without.items (λ o x. has (out n None x) o) c.in_ok-with.ensures.keeps c.in_ok-without.ensures.shows))
+    (rw c.deref-2.ensures.value c.in_ok-with.ensures.shows)))
     c.first_difference.ensures.first

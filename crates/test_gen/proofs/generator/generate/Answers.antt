@@ -5,7 +5,7 @@ use Rattle.test_gen.proofs.generator.generate.Goals as goal
 pub returns-clause-tests : goal.returns-clause-tests
 returns-clause-tests g c =
     IfOk-weaker c.tests_for.result _ _
-    (λ tests h. tests-at_start (g.S.FnStore.functions c.args.store.now) (g.S.FnStore.functions c.net_values.new.store) c.args.net.now c.in_ok-all.all.items tests.points c.in_ok-good.ensures.keeps c.in_ok-all.ensures h)
+    (λ tests h. tests-at_start (g.S.FnStore.functions c.args.store.now) (g.S.FnStore.functions c.signal_values.new.store) c.args.net.now c.in_ok-all.all.items tests.points c.in_ok-good.ensures.keeps c.in_ok-all.ensures h)
     c.tests_for.ensures.points
 
 pub returns-clause-points : goal.returns-clause-points
