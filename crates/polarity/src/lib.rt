@@ -16,6 +16,7 @@ mod walker;
 pub use advisor::Advisor;
 pub use asking::choose;
 pub use entry::{Entry, Told};
+pub use generator::Generator;
 pub use laws::{choice_law, cost_law};
 pub use listed::Listed;
 pub use maker::Maker;

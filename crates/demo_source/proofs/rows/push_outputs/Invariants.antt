@@ -1,0 +1,10 @@
+use Rattle.std.proofs.Common.{◌≡◌, ◌++◌}
+use Rattle.polarity.specs.Proposals.{after_draws}
+use Rattle.demo_source.specs.Demo.{characters, output_char}
+use Rattle.demo_source.proofs.rows.push_outputs.Given as goal
+
+abbrev pub invariant-loop : goal.invariant-loop
+invariant-loop l = record {
+  text : l.out.items ≡ l.fn.out.items ++ characters output_char l.fn.generator 0 l.counter;
+  state : l.generator ≡ after_draws l.counter l.fn.generator;
+}
