@@ -1,4 +1,4 @@
--- Which status a synthesis of a file's text ends with, by what the file held.
+-- Which status a synthesis ends with, by what its source was.
 use Rattle.std.proofs.Common.{◌≡◌, ◌<◌, ◌≤◌, ◌∷◌, [], inl, inr, ℕ, List, Option, Some, None, length, sym, ap, refl, ◌∙◌, subst, arith}
 use Rattle.std.specs.Prelude.{Contains, Ok, Err, IfSome}
 use Rattle.std.specs.FinMap.{get}
@@ -12,7 +12,9 @@ use Rattle.synth_core.specs.declared.fault.TextFault.{TextFault}
 use Rattle.synth_core.specs.declared.settings.Settings.{Settings}
 use Rattle.synth_cmd.specs.Complete.{OrMemory, WasOnly, NoRead, NoFault, IsComplete}
 use Rattle.synth_cmd.specs.Headline.{Holds}
-use Rattle.synth_cmd.specs.Outcome.{Ending, HoldsText, IsMadeOf, Stage, Stands, Answers}
+use Rattle.synth_cmd.specs.Asked.{Origin}
+use Rattle.synth_cmd.specs.Asked.Origin.{File, Demo}
+use Rattle.synth_cmd.specs.Outcome.{Ending, HoldsText, IsMadeOf, Stage, Stands, Answers, WasText, read_names}
 use Rattle.synth_cmd.specs.Outcome.Ending.{at_stage, untouched, in_part, half_told}
 use Rattle.synth_cmd.specs.Outcome.Stage.{Refuses, Fails, Writes}
 use Rattle.synth_cmd.specs.Outside.{Outside}
@@ -45,13 +47,7 @@ pub none_short : (m : Shelf) (name : List ℕ) → get m name ≡ None → TEXT_
 none_short m name none long = let h = rw none at long in omega (arith, h)
 
 module _ (apart : (settings : Settings) (bytes : List ℕ) (output : ℕ) → IsWithin settings bytes → HasTooMany settings bytes output → ⊥)
-    (settings : Settings) (source : List ℕ) (writes : List (List ℕ)) (old new : Outside) (status : ℕ) where
-  abbrev reads : List (List ℕ)
-  reads = source ∷ []
-
-  abbrev Was : List ℕ → Type 0
-  Was = HoldsText old.held source
-
+    (settings : Settings) (Was : List ℕ → Type 0) (reads writes : List (List ℕ)) (old new : Outside) (status : ℕ) where
   -- each stage has its status, and want of memory answers every question
   by_stage : (wanted : ℕ) → ((stage : Stage) → Stands settings Was reads writes old new stage → Answers stage old new status → OrMemory wanted status) → Ending settings Was reads writes old new status → OrMemory wanted status
   by_stage wanted f (at_stage stage stands answers) = f stage stands answers
@@ -59,43 +55,7 @@ module _ (apart : (settings : Settings) (bytes : List ℕ) (output : ℕ) → Is
   by_stage wanted f (in_part name texts is made stops front) = inr is
   by_stage wanted f (half_told stage is stands front) = inr is
 
-  no_bytes : (m : Shelf) → old.held ≡ Some m → get m source ≡ None → (bytes : List ℕ) → Was bytes → ⊥
-  no_bytes m tells none bytes was = let both = sym (held_at old.held m source bytes tells was) ∙ none in cc both
-
-  not_long : (m : Shelf) → old.held ≡ Some m → TEXT_BYTES < length (bytes_of m source) → (bytes : List ℕ) → Was bytes → ⊥
-  not_long m tells long bytes was = omega (arith, long, short_at old.held m source bytes tells was)
-
-  -- a refusal as too long is one of the source
-  source_long : (m : Shelf) (name : List ℕ) → old.held ≡ Some m → Contains reads name → IfSome old.held (λ m. TEXT_BYTES < length (bytes_of m name)) → TEXT_BYTES < length (bytes_of m source)
-  source_long m name tells named long = subst (λ n. TEXT_BYTES < length (bytes_of m n)) (sym (is_only source name named)) (long_at old.held m name tells long)
-
-  -- ---- the source is not held
-  not_held_by : (m : Shelf) → old.held ≡ Some m → get m source ≡ None → (stage : Stage) → Stands settings Was reads writes old new stage → Answers stage old new status → OrMemory READ_FAULT status
-  not_held_by m tells none (Refuses name ReadFault) stands answers = inl answers.0
-  not_held_by m tells none (Refuses name TooLong) stands answers = absurd (none_short m source none (source_long m name tells stands.0 stands.1))
-  not_held_by m tells none (Refuses name (Text line what)) stands answers = absurd (no_bytes m tells none stands.1.0 stands.1.1)
-  not_held_by m tells none (Refuses name (BitCount given wanted)) stands answers = absurd (no_bytes m tells none stands.1.0 stands.1.1)
-  not_held_by m tells none (Refuses name (TooManyTerms output)) stands answers = absurd (no_bytes m tells none stands.1.0 stands.1.1)
-  not_held_by m tells none (Fails name texts) stands answers = absurd (no_bytes m tells none stands.2.bytes stands.2.was)
-  not_held_by m tells none (Writes texts) stands answers = absurd (no_bytes m tells none stands.0.bytes stands.0.was)
-
-  -- ---- the source is too long
-  too_long_by : (m : Shelf) → old.held ≡ Some m → TEXT_BYTES < length (bytes_of m source) → NoRead reads old new → (stage : Stage) → Stands settings Was reads writes old new stage → Answers stage old new status → OrMemory TOO_LONG status
-  too_long_by m tells long quiet (Refuses name ReadFault) stands answers = absurd (quiet name stands.0 stands.1)
-  too_long_by m tells long quiet (Refuses name TooLong) stands answers = inl answers.0
-  too_long_by m tells long quiet (Refuses name (Text line what)) stands answers = absurd (not_long m tells long stands.1.0 stands.1.1)
-  too_long_by m tells long quiet (Refuses name (BitCount given wanted)) stands answers = absurd (not_long m tells long stands.1.0 stands.1.1)
-  too_long_by m tells long quiet (Refuses name (TooManyTerms output)) stands answers = absurd (not_long m tells long stands.1.0 stands.1.1)
-  too_long_by m tells long quiet (Fails name texts) stands answers = absurd (not_long m tells long stands.2.bytes stands.2.was)
-  too_long_by m tells long quiet (Writes texts) stands answers = absurd (not_long m tells long stands.0.bytes stands.0.was)
-
-  module _ (bytes : List ℕ) (was : WasOnly Was bytes) where
-    -- the one text is short
-    never_long : (name : List ℕ) → Contains reads name → IfSome old.held (λ m. TEXT_BYTES < length (bytes_of m name)) → ⊥
-    never_long name named long =
-        let told = tells_of old.held source bytes was in
-        not_long told.0 told.1 (source_long told.0 name told.1 named long) bytes was.was
-
+  module _ (bytes : List ℕ) (was : WasOnly Was bytes) (never_long : (name : List ℕ) → Contains reads name → IfSome old.held (λ m. TEXT_BYTES < length (bytes_of m name)) → ⊥) where
     -- what was made of a text was made of this one
     made_within : (texts : Texts) → IsMadeOf settings Was old.advisors new.advisors texts → IsWithin settings bytes
     made_within texts of = subst (λ b. IsWithin settings b) (was.only of.bytes of.was) of.is_made.within
@@ -174,12 +134,82 @@ module _ (apart : (settings : Settings) (bytes : List ℕ) (output : ℕ) → Is
     complete_by within none (Fails name texts) stands answers = absurd (none.no_write name stands.0 stands.1)
     complete_by within none (Writes texts) stands answers = done_or none texts answers
 
-  pub is_complete : Ending settings Was reads writes old new status → IsComplete settings Was reads writes old new status
-  is_complete ending = record {
-    not_held = λ m name tells named none. by_stage READ_FAULT (not_held_by m tells (subst (λ n. get m n ≡ None) (sym (is_only source name named)) none)) ending;
-    too_long = λ m name tells named long quiet. by_stage TOO_LONG (too_long_by m tells (subst (λ n. TEXT_BYTES < length (bytes_of m n)) (sym (is_only source name named)) long) quiet) ending;
-    faulty = λ bytes line what was says quiet. by_stage REFUSED (faulty_by bytes was line what says quiet) ending;
-    bit_count = λ bytes given wanted was other quiet. by_stage WORDS (bit_count_by bytes was given wanted other quiet) ending;
-    too_many = λ bytes output was many quiet. by_stage TOO_MANY_TERMS (too_many_by bytes was output many quiet) ending;
-    complete = λ bytes was within none. by_stage DONE (complete_by bytes was within none) ending;
+  -- from what concerns the names alone: where one is not held, where one is too long, and that the one text is short
+  complete_by_names : ((m : Shelf) (name : List ℕ) → old.held ≡ Some m → Contains reads name → get m name ≡ None → OrMemory READ_FAULT status)
+      → ((m : Shelf) (name : List ℕ) → old.held ≡ Some m → Contains reads name → TEXT_BYTES < length (bytes_of m name) → NoRead reads old new → OrMemory TOO_LONG status)
+      → ((bytes : List ℕ) → WasOnly Was bytes → (name : List ℕ) → Contains reads name → IfSome old.held (λ m. TEXT_BYTES < length (bytes_of m name)) → ⊥)
+      → Ending settings Was reads writes old new status → IsComplete settings Was reads writes old new status
+  complete_by_names not_held too_long never_long ending = record {
+    not_held = not_held;
+    too_long = too_long;
+    faulty = λ bytes line what was says quiet. by_stage REFUSED (faulty_by bytes was (never_long bytes was) line what says quiet) ending;
+    bit_count = λ bytes given wanted was other quiet. by_stage WORDS (bit_count_by bytes was (never_long bytes was) given wanted other quiet) ending;
+    too_many = λ bytes output was many quiet. by_stage TOO_MANY_TERMS (too_many_by bytes was (never_long bytes was) output many quiet) ending;
+    complete = λ bytes was within none. by_stage DONE (complete_by bytes was (never_long bytes was) within none) ending;
   }
+
+-- ---- a file
+
+module _ (apart : (settings : Settings) (bytes : List ℕ) (output : ℕ) → IsWithin settings bytes → HasTooMany settings bytes output → ⊥)
+    (settings : Settings) (source : List ℕ) (writes : List (List ℕ)) (old new : Outside) (status : ℕ) where
+  abbrev reads : List (List ℕ)
+  reads = source ∷ []
+
+  abbrev Was : List ℕ → Type 0
+  Was = HoldsText old.held source
+
+  no_bytes : (m : Shelf) → old.held ≡ Some m → get m source ≡ None → (bytes : List ℕ) → Was bytes → ⊥
+  no_bytes m tells none bytes was = let both = sym (held_at old.held m source bytes tells was) ∙ none in cc both
+
+  not_long : (m : Shelf) → old.held ≡ Some m → TEXT_BYTES < length (bytes_of m source) → (bytes : List ℕ) → Was bytes → ⊥
+  not_long m tells long bytes was = omega (arith, long, short_at old.held m source bytes tells was)
+
+  -- a refusal as too long is one of the source
+  source_long : (m : Shelf) (name : List ℕ) → old.held ≡ Some m → Contains reads name → IfSome old.held (λ m. TEXT_BYTES < length (bytes_of m name)) → TEXT_BYTES < length (bytes_of m source)
+  source_long m name tells named long = subst (λ n. TEXT_BYTES < length (bytes_of m n)) (sym (is_only source name named)) (long_at old.held m name tells long)
+
+  -- ---- the source is not held
+  not_held_by : (m : Shelf) → old.held ≡ Some m → get m source ≡ None → (stage : Stage) → Stands settings Was reads writes old new stage → Answers stage old new status → OrMemory READ_FAULT status
+  not_held_by m tells none (Refuses name ReadFault) stands answers = inl answers.0
+  not_held_by m tells none (Refuses name TooLong) stands answers = absurd (none_short m source none (source_long m name tells stands.0 stands.1))
+  not_held_by m tells none (Refuses name (Text line what)) stands answers = absurd (no_bytes m tells none stands.1.0 stands.1.1)
+  not_held_by m tells none (Refuses name (BitCount given wanted)) stands answers = absurd (no_bytes m tells none stands.1.0 stands.1.1)
+  not_held_by m tells none (Refuses name (TooManyTerms output)) stands answers = absurd (no_bytes m tells none stands.1.0 stands.1.1)
+  not_held_by m tells none (Fails name texts) stands answers = absurd (no_bytes m tells none stands.2.bytes stands.2.was)
+  not_held_by m tells none (Writes texts) stands answers = absurd (no_bytes m tells none stands.0.bytes stands.0.was)
+
+  -- ---- the source is too long
+  too_long_by : (m : Shelf) → old.held ≡ Some m → TEXT_BYTES < length (bytes_of m source) → NoRead reads old new → (stage : Stage) → Stands settings Was reads writes old new stage → Answers stage old new status → OrMemory TOO_LONG status
+  too_long_by m tells long quiet (Refuses name ReadFault) stands answers = absurd (quiet name stands.0 stands.1)
+  too_long_by m tells long quiet (Refuses name TooLong) stands answers = inl answers.0
+  too_long_by m tells long quiet (Refuses name (Text line what)) stands answers = absurd (not_long m tells long stands.1.0 stands.1.1)
+  too_long_by m tells long quiet (Refuses name (BitCount given wanted)) stands answers = absurd (not_long m tells long stands.1.0 stands.1.1)
+  too_long_by m tells long quiet (Refuses name (TooManyTerms output)) stands answers = absurd (not_long m tells long stands.1.0 stands.1.1)
+  too_long_by m tells long quiet (Fails name texts) stands answers = absurd (not_long m tells long stands.2.bytes stands.2.was)
+  too_long_by m tells long quiet (Writes texts) stands answers = absurd (not_long m tells long stands.0.bytes stands.0.was)
+
+  never_long : (bytes : List ℕ) → WasOnly Was bytes → (name : List ℕ) → Contains reads name → IfSome old.held (λ m. TEXT_BYTES < length (bytes_of m name)) → ⊥
+  never_long bytes was name named long =
+      let told = tells_of old.held source bytes was in
+      not_long told.0 told.1 (source_long told.0 name told.1 named long) bytes was.was
+
+  file_complete : Ending settings Was reads writes old new status → IsComplete settings Was reads writes old new status
+  file_complete ending = complete_by_names apart settings Was reads writes old new status
+      (λ m name tells named none. by_stage apart settings Was reads writes old new status READ_FAULT (not_held_by m tells (subst (λ n. get m n ≡ None) (sym (is_only source name named)) none)) ending)
+      (λ m name tells named long quiet. by_stage apart settings Was reads writes old new status TOO_LONG (too_long_by m tells (subst (λ n. TEXT_BYTES < length (bytes_of m n)) (sym (is_only source name named)) long) quiet) ending)
+      never_long ending
+
+-- ---- either source
+
+no_name : (name : List ℕ) → Contains [] name → ⊥
+no_name name named = omega (arith, named.1)
+
+pub is_complete : (apart : (settings : Settings) (bytes : List ℕ) (output : ℕ) → IsWithin settings bytes → HasTooMany settings bytes output → ⊥)
+    (settings : Settings) (source : Origin) (writes : List (List ℕ)) (old new : Outside) (status : ℕ)
+    → Ending settings (WasText settings old.held source) (read_names source) writes old new status → IsComplete settings (WasText settings old.held source) (read_names source) writes old new status
+is_complete apart settings (File name) writes old new status ending = file_complete apart settings name writes old new status ending
+is_complete apart settings (Demo number) writes old new status ending =
+    complete_by_names apart settings (WasText settings old.held (Demo number)) [] writes old new status
+    (λ m name tells named none. absurd (no_name name named))
+    (λ m name tells named long quiet. absurd (no_name name named))
+    (λ bytes was name named long. no_name name named) ending

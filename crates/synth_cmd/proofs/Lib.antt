@@ -1,11 +1,15 @@
 pub mod Completed
 pub mod Ends
 pub mod Jobs
+pub mod Matched
 pub mod Names
+pub mod Numbers
 pub mod OneEnd
 pub mod PairCompleted
 pub mod PairEnds
 pub mod PairSound
+pub mod Statuses
 pub mod Stopped
 pub mod Telling
 pub mod Tested
+pub mod Wanting

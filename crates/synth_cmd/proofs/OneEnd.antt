@@ -5,7 +5,8 @@ use Rattle.ae_outside.specs.Files.{Shelf, added}
 use Rattle.polarity.specs.Search.{Advised}
 use Rattle.synth_core.specs.Made.{IsMade, Texts}
 use Rattle.synth_core.specs.declared.settings.Settings.{Settings}
-use Rattle.synth_cmd.specs.Asked.{Asked}
+use Rattle.synth_cmd.specs.Asked.{Asked, Origin}
+use Rattle.synth_cmd.specs.Asked.Origin.{File, Demo}
 use Rattle.synth_cmd.specs.Asked.Asked.{Refused, Synth, Grade, Check}
 use Rattle.synth_cmd.specs.Lines.{pair_status, report_lines, status_of}
 use Rattle.synth_cmd.specs.Ends.{CheckFinds, Ends, GradeFinds, IsReported}
@@ -15,12 +16,12 @@ use Rattle.synth_cmd.specs.Pairs.PairStage.{Refuses as RefusesPair, Finds}
 use Rattle.synth_cmd.specs.declared.pair.FileRefusal.TheVariants as file
 use Rattle.synth_cmd.specs.declared.pair.PairRefusal.{PairRefusal}
 use Rattle.synth_cmd.specs.declared.pair.PairRefusal.TheVariants as refusal
-use Rattle.synth_core.specs.Check.{IsChecked}
-use Rattle.synth_core.specs.Grade.{IsGraded}
-use Rattle.synth_core.specs.declared.checking.CheckReport.{CheckReport}
-use Rattle.synth_core.specs.declared.grading.GradeReport.{GradeReport}
+use Rattle.pairs.specs.Check.{IsChecked}
+use Rattle.pairs.specs.Grade.{IsGraded}
+use Rattle.pairs.specs.declared.checking.CheckReport.{CheckReport}
+use Rattle.pairs.specs.declared.grading.GradeReport.{GradeReport}
 use Rattle.synth_cmd.proofs.PairCompleted.{one_check_found, one_finding, one_found}
-use Rattle.synth_cmd.specs.Outcome.{Ending, HoldsText, IsMadeOf, Stage, Stands, Answers, WordsEnd, all_written, files_of}
+use Rattle.synth_cmd.specs.Outcome.{Ending, IsMadeOf, Stage, Stands, Answers, WasText, WordsEnd, all_written, files_of, read_names}
 use Rattle.synth_cmd.specs.Outcome.Ending.{at_stage, untouched, in_part, half_told}
 use Rattle.synth_cmd.specs.Outcome.Stage.{Refuses, Fails, Writes}
 use Rattle.synth_cmd.specs.Outside.{Outside}
@@ -99,19 +100,21 @@ told_once Found net vectors m one old a b s t tells first second x y =
     (p.status ∙ ap (λ f. f.status) same ∙ sym q.status, x.held ∙ sym y.held, p.taken ∙ ap (λ f. added old.taken f.lines) same ∙ sym q.taken)
 
 module _ (one : (settings : Settings) (bytes : List ℕ) (before after : List Advised) (a b : Texts) → IsMade settings bytes before after a → IsMade settings bytes before after b → a ≡ b) where
-  one_texts : (settings : Settings) (source : List ℕ) (m : Shelf) (held : Option Shelf) (before after : List Advised) (a b : Texts) → held ≡ Some m
-      → IsMadeOf settings (HoldsText held source) before after a → IsMadeOf settings (HoldsText held source) before after b → a ≡ b
+  one_bytes : (settings : Settings) (source : Origin) (m : Shelf) (held : Option Shelf) (xs ys : List ℕ) → held ≡ Some m → WasText settings held source xs → WasText settings held source ys → xs ≡ ys
+  one_bytes settings (File name) m held xs ys tells x y = let both = sym (held_at held m name xs tells x) ∙ held_at held m name ys tells y in cc both
+  one_bytes settings (Demo number) m held xs ys tells x y = x ∙ sym y
+
+  one_texts : (settings : Settings) (source : Origin) (m : Shelf) (held : Option Shelf) (before after : List Advised) (a b : Texts) → held ≡ Some m
+      → IsMadeOf settings (WasText settings held source) before after a → IsMadeOf settings (WasText settings held source) before after b → a ≡ b
   one_texts settings source m held before after a b tells x y =
-      let first = held_at held m source x.bytes tells x.was in
-      let second = held_at held m source y.bytes tells y.was in
-      let same : x.bytes ≡ y.bytes = let both = sym first ∙ second in cc both in
+      let same = one_bytes settings source m held x.bytes y.bytes tells x.was y.was in
       one settings y.bytes before after a b (subst (λ bytes. IsMade settings bytes before after a) same x.is_made) y.is_made
 
-  done_once : (settings : Settings) (source : List ℕ) (writes : List (List ℕ)) (m : Shelf) (old a b : Outside) → old.held ≡ Some m → a.advisors ≡ b.advisors
-      → IsDone settings (HoldsText old.held source) writes old a → IsDone settings (HoldsText old.held source) writes old b → (a.held ≡ b.held) × (a.taken ≡ b.taken)
+  done_once : (settings : Settings) (source : Origin) (writes : List (List ℕ)) (m : Shelf) (old a b : Outside) → old.held ≡ Some m → a.advisors ≡ b.advisors
+      → IsDone settings (WasText settings old.held source) writes old a → IsDone settings (WasText settings old.held source) writes old b → (a.held ≡ b.held) × (a.taken ≡ b.taken)
   done_once settings source writes m old a b tells advised x y =
       let same : x.texts ≡ y.texts = one_texts settings source m old.held old.advisors b.advisors x.texts y.texts tells
-      (subst (λ after. IsMadeOf settings (HoldsText old.held source) old.advisors after x.texts) advised x.made) y.made in (
+      (subst (λ after. IsMadeOf settings (WasText settings old.held source) old.advisors after x.texts) advised x.made) y.made in (
         x.held ∙ ap (λ t. all_written old.held (files_of writes t)) same ∙ sym y.held,
         x.taken ∙ ap (λ t. added old.taken (report_lines t.summary)) same ∙ sym y.taken,
       )
@@ -125,8 +128,8 @@ module _ (one : (settings : Settings) (bytes : List ℕ) (before after : List Ad
         → (s ≡ t) × (a.held ≡ b.held) × (a.taken ≡ b.taken)
     one_end Refused m old a b s t tells advised first second x y = absurd (no_words old a s first x)
     one_end (Synth settings source net vectors) m old a b s t tells advised first second x y =
-        let p = is_done settings (HoldsText old.held source) (source ∷ []) (net ∷ vectors ∷ []) old a s first x.ending in
-        let q = is_done settings (HoldsText old.held source) (source ∷ []) (net ∷ vectors ∷ []) old b t second y.ending in
+        let p = is_done settings (WasText settings old.held source) (read_names source) (net ∷ vectors ∷ []) old a s first x.ending in
+        let q = is_done settings (WasText settings old.held source) (read_names source) (net ∷ vectors ∷ []) old b t second y.ending in
         let same = done_once settings source (net ∷ vectors ∷ []) m old a b tells advised p.1 q.1 in
         (p.0 ∙ sym q.0, same.0, same.1)
     one_end (Grade net vectors) m old a b s t tells advised first second x y = told_once GradeFinds net vectors m (one_finding one_grade) old a b s t tells first second x y

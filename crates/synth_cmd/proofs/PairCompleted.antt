@@ -5,10 +5,10 @@ use Rattle.std.specs.FinMap.{get}
 use Rattle.ae_base.proofs.Contained.{Contains-first}
 use Rattle.ae_base.specs.declared.limits.TheConstants.{TEXT_BYTES}
 use Rattle.ae_outside.specs.Files.{Shelf, bytes_of}
-use Rattle.synth_core.specs.Check.{IsChecked}
-use Rattle.synth_core.specs.Grade.{AreGradable, HasOtherNames, IsGraded}
-use Rattle.synth_core.specs.declared.checking.CheckReport.{CheckReport}
-use Rattle.synth_core.specs.declared.grading.GradeReport.{GradeReport}
+use Rattle.pairs.specs.Check.{IsChecked}
+use Rattle.pairs.specs.Grade.{AreGradable, HasOtherNames, IsGraded}
+use Rattle.pairs.specs.declared.checking.CheckReport.{CheckReport}
+use Rattle.pairs.specs.declared.grading.GradeReport.{GradeReport}
 use Rattle.synth_cmd.specs.Complete.{NoFault, NoRead, OrMemory}
 use Rattle.synth_cmd.specs.Ends.{CheckFinds, GradeFinds, checked_finding, finding_of}
 use Rattle.synth_cmd.specs.Outcome.{HoldsText}

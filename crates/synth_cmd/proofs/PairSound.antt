@@ -2,9 +2,9 @@
 use Rattle.std.proofs.Common.{◌≡◌, ◌∙◌, ℕ, List, [], ◌∷◌, inl, inr, length, ltb, eqb, refl, sym, ap, cond, arith}
 use Rattle.std.specs.Prelude.{not}
 use Rattle.std.proofs.lemmas.Bool.{cases_Bool, ltb-false, not-false, or_parts, eqb-true}
-use Rattle.synth_core.specs.Check.{IsChecked, IsSound}
-use Rattle.synth_core.specs.declared.checking.CheckReport.{CheckReport}
-use Rattle.synth_core.specs.declared.named.NamedFault.{NamedFault}
+use Rattle.pairs.specs.Check.{IsChecked, IsSound}
+use Rattle.pairs.specs.declared.checking.CheckReport.{CheckReport}
+use Rattle.pairs.specs.declared.named.NamedFault.{NamedFault}
 use Rattle.synth_cmd.specs.Ends.{CheckFinds}
 use Rattle.synth_cmd.specs.Headline.{Checked}
 use Rattle.synth_cmd.specs.Lines.{falls_short, finding_status}

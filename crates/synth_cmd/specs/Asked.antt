@@ -1,7 +1,8 @@
 -- What the words of the command line ask for.
-use Rattle.std.specs.Prelude.{ℕ, Bool, not, ◌&&◌, ◌||◌, ◌==◌, nat_le, nat_lt, Option, Some, None, option_map, List, [], ◌∷◌, length, slice_index, codes, map, string_bytes, String, if◌then◌else◌, bytes_eq}
+use Rattle.std.specs.Prelude.{ℕ, ◌^◌, Bool, not, ◌&&◌, ◌||◌, ◌==◌, nat_le, nat_lt, Option, Some, None, option_map, is_some, List, [], ◌∷◌, length, slice_index, codes, map, string_bytes, String, if◌then◌else◌, bytes_eq}
 use Rattle.std.specs.List.{list_all}
 use Rattle.std.specs.Option.{option_and_then, option_map_or}
+use Rattle.std.specs.Str.Parse.{digits_value}
 use Rattle.std.specs.declared.alloc.Global.{Global}
 use Rattle.ae_base.specs.Cube.{Signs}
 use Rattle.ae_base.specs.Mask.{where_below}
@@ -11,14 +12,22 @@ use Rattle.synth_core.specs.declared.settings.SourceKind.{SourceKind}
 use Rattle.synth_core.specs.declared.settings.SourceKind.TheVariants.{Pla, Blif}
 use Rattle.synth_core.specs.declared.settings.Choice.TheVariants.{Positive, Search, Given}
 use Rattle.synth_core.specs.declared.settings.Settings.{Settings}
+use Rattle.synth_cmd.specs.CommandLine.{Said, said}
 use Rattle.vec_text.specs.declared.file.Form.{Form}
 use Rattle.vec_text.specs.declared.file.Form.TheVariants.{Reddy, Factored}
 
+-- where a source comes from: a file of this name, or the demo of this number
+pub data Origin : Type 0 where
+  File : (name : List ℕ) → Origin
+  Demo : (number : ℕ) → Origin
+
 pub data Asked : Type 0 where
   Refused : Asked
-  Synth : Settings → (source net vectors : List ℕ) → Asked
+  Synth : Settings → (source : Origin) → (net vectors : List ℕ) → Asked
   Grade : (net vectors : List ℕ) → Asked
   Check : (net vectors : List ℕ) → Asked
+
+-- ---- values
 
 -- the kind of a source's text that a word names
 abbrev pub kind_of : List ℕ → Option SourceKind
@@ -44,44 +53,62 @@ abbrev pub choice_of : List ℕ → Option Choice
 choice_of word =
     if bytes_eq word (codes "positive") then Some Positive else if bytes_eq word (codes "search") then Some Search else option_map (λ p. Given p) (bits_of word)
 
--- What an option's word says where the words begin with it, else what is usual; with the words that are left.
-abbrev pub option_at : {X : Type 0} → List ℕ → (List ℕ → Option X) → X → List (List ℕ) → Option (X × List (List ℕ))
-option_at name says usual (option ∷ word ∷ rest) = if bytes_eq option name then option_map (λ x. (x, rest)) (says word) else Some (usual, option ∷ word ∷ rest)
-option_at name says usual words = Some (usual, words)
+abbrev pub is_digit : ℕ → Bool
+is_digit b = nat_le 48 b && nat_lt b 58
 
--- the settings, where no words are left
-abbrev pub settings_with : SourceKind → Form → Option (Choice × List (List ℕ)) → Option Settings
-settings_with kind form (Some (polarity, [])) = Some (record { kind = kind; form = form; polarity = polarity })
-settings_with kind form _ = None
+-- 1 to 10 digits
+abbrev pub has_digits : List ℕ → Bool
+has_digits word = nat_lt 0 (length word) && (nat_le (length word) 10 && list_all is_digit word)
 
--- with a kind, what the words after it ask for: `--form` and a form, and then `--polarity` and a polarity
-abbrev pub settings_after : SourceKind → Option (Form × List (List ℕ)) → Option Settings
-settings_after kind form = option_and_then (λ form. settings_with kind form.0 (option_at (codes "--polarity") choice_of Positive form.1)) form
+-- the number that such a word tells, below 2 to the power of 31
+abbrev pub number_of : List ℕ → Option ℕ
+number_of word = if has_digits word && nat_lt (digits_value 10 word) (2 ^ 31) then Some (digits_value 10 word) else None
 
--- the settings that the words after the names ask for: `--kind` and a kind, and then those, each option or none
-abbrev pub settings_of : List (List ℕ) → Option Settings
-settings_of words = option_and_then (λ kind. settings_after kind.0 (option_at (codes "--form") form_of Reddy kind.1)) (option_at (codes "--kind") kind_of Pla words)
+-- what an option's value says, or what is usual where it is not given
+abbrev pub value_or : {X : Type 0} → (List ℕ → Option X) → X → Option (List ℕ) → Option X
+value_or says usual value = option_map_or says value (Some usual)
 
--- `synth` and the names of three files, which differ as texts, and then the words that say how
-abbrev pub synth_by : (mode source net vectors : List ℕ) → List (List ℕ) → Asked
-synth_by mode source net vectors options =
-    if bytes_eq mode (codes "synth") && (not (bytes_eq source net) && (not (bytes_eq source vectors) && not (bytes_eq net vectors)))
-    then option_map_or (λ settings. Synth settings source net vectors) (settings_of options) Refused
-    else Refused
+-- ---- commands
 
--- `grade` or `check`
-abbrev pub pair_mode : (mode net vectors : List ℕ) → Asked
-pair_mode mode net vectors = if bytes_eq mode (codes "grade") then Grade net vectors else if bytes_eq mode (codes "check") then Check net vectors else Refused
+-- the settings that the options ask for, each or none of them given
+abbrev pub settings_of : Said → Option Settings
+settings_of said = option_and_then (λ kind. option_and_then (λ form. option_map (λ polarity. record { kind = kind; form = form; polarity = polarity })
+    (value_or choice_of Positive said.polarity)) (value_or form_of Reddy said.form)) (value_or kind_of Pla said.kind)
 
--- one of these and the names of two files, which differ as texts
-abbrev pub pair_by : (mode net vectors : List ℕ) → Asked
-pair_by mode net vectors = if bytes_eq net vectors then Refused else pair_mode mode net vectors
+-- a synthesis of what comes from there, where it does and the settings stand
+abbrev pub synth_of : Option Origin → (net vectors : List ℕ) → Option Settings → Asked
+synth_of source net vectors settings = option_map_or (λ settings. option_map_or (λ source. Synth settings source net vectors) source Refused) settings Refused
 
--- one of these, by the number of words; nothing else is asked for
+-- `synth` of a file of a third name
+abbrev pub file_of : (source net vectors : List ℕ) → Option Origin
+file_of source net vectors = if bytes_eq source net || bytes_eq source vectors then None else Some (File source)
+
+-- `demo`, whose text is a PLA; a kind is not asked for
+abbrev pub demo_of : Option (List ℕ) → (number : List ℕ) → Option Origin
+demo_of kind number = if is_some kind then None else option_map (λ number. Demo number) (number_of number)
+
+-- the source of a synthesis by its mode
+abbrev pub origin_of : Said → (source net vectors : List ℕ) → Option Origin
+origin_of said source net vectors =
+    if bytes_eq said.mode (codes "synth") then file_of source net vectors else if bytes_eq said.mode (codes "demo") then demo_of said.kind source else None
+
+-- no option is given
+abbrev pub has_options : Said → Bool
+has_options said = is_some said.kind || (is_some said.form || is_some said.polarity)
+
+-- `grade` or `check`, which have no options
+abbrev pub pair_of : Said → (net vectors : List ℕ) → Asked
+pair_of said net vectors =
+    if has_options said then Refused else if bytes_eq said.mode (codes "grade") then Grade net vectors else if bytes_eq said.mode (codes "check") then Check net vectors else Refused
+
+-- one of these, by the number of names; those of files differ as texts
+abbrev pub command_by : Said → List (List ℕ) → Asked
+command_by said (net ∷ vectors ∷ []) = if bytes_eq net vectors then Refused else pair_of said net vectors
+command_by said (source ∷ net ∷ vectors ∷ []) = if bytes_eq net vectors then Refused else synth_of (origin_of said source net vectors) net vectors (settings_of said)
+command_by said names = Refused
+
 abbrev pub asked_by : List (List ℕ) → Asked
-asked_by (mode ∷ source ∷ net ∷ vectors ∷ options) = synth_by mode source net vectors options
-asked_by (mode ∷ net ∷ vectors ∷ []) = pair_by mode net vectors
-asked_by words = Refused
+asked_by words = option_map_or (λ said. command_by said said.names) (said words) Refused
 
 abbrev pub asked : List (String Global) → Asked
 asked words = asked_by (map string_bytes words)

@@ -1,13 +1,13 @@
 -- How each command ends.
 use Rattle.std.specs.Prelude.{◌≡◌, ◌⊎◌, ℕ, List, [], ◌∷◌}
-use Rattle.synth_core.specs.Check.{IsChecked}
-use Rattle.synth_core.specs.Grade.{IsGraded}
-use Rattle.synth_core.specs.declared.checking.CheckReport.{CheckReport}
-use Rattle.synth_core.specs.declared.grading.GradeReport.{GradeReport}
+use Rattle.pairs.specs.Check.{IsChecked}
+use Rattle.pairs.specs.Grade.{IsGraded}
+use Rattle.pairs.specs.declared.checking.CheckReport.{CheckReport}
+use Rattle.pairs.specs.declared.grading.GradeReport.{GradeReport}
 use Rattle.synth_cmd.specs.Asked.{Asked}
 use Rattle.synth_cmd.specs.Asked.Asked.{Refused, Synth, Grade, Check}
 use Rattle.synth_cmd.specs.Lines.{check_lines, finding_status, grade_lines}
-use Rattle.synth_cmd.specs.Outcome.{HoldsText, SynthEnds, WordsEnd}
+use Rattle.synth_cmd.specs.Outcome.{SynthEnds, WasText, WordsEnd, read_names}
 use Rattle.synth_cmd.specs.Outside.{Outside}
 use Rattle.synth_cmd.specs.declared.TheConstants.{DONE, SHORTFALL}
 use Rattle.synth_cmd.specs.Pairs.{Finding, PairEnds}
@@ -34,7 +34,7 @@ pub record CheckFinds (net_bytes vec_bytes : List ℕ) (finding : Finding) : Typ
 
 abbrev pub Ends : Asked → (old new : Outside) → (status : ℕ) → Type 0
 Ends Refused old new status = WordsEnd old new status
-Ends (Synth settings source net vectors) old new status = SynthEnds settings (HoldsText old.held source) (source ∷ []) (net ∷ vectors ∷ []) old new status
+Ends (Synth settings source net vectors) old new status = SynthEnds settings (WasText settings old.held source) (read_names source) (net ∷ vectors ∷ []) old new status
 Ends (Grade net vectors) old new status = PairEnds GradeFinds net vectors old new status
 Ends (Check net vectors) old new status = PairEnds CheckFinds net vectors old new status
 

@@ -4,16 +4,23 @@ use Rattle.std.specs.FinMap.{get}
 use Rattle.ae_base.specs.Cube.{Signs}
 use Rattle.ae_base.specs.Source.{Source}
 use Rattle.ae_outside.specs.Files.{Shelf}
-use Rattle.synth_core.specs.Check.{IsSound}
+use Rattle.demo_source.specs.Demo.{demo_text}
+use Rattle.pairs.specs.Check.{IsSound}
 use Rattle.synth_core.specs.Headline.{Headline}
 use Rattle.synth_core.specs.Says.{source_says}
 use Rattle.synth_core.specs.declared.settings.Settings.{Settings}
-use Rattle.synth_cmd.specs.Asked.{Asked}
+use Rattle.synth_cmd.specs.Asked.{Asked, Origin}
 use Rattle.synth_cmd.specs.Asked.Asked.{Refused, Synth, Grade, Check}
+use Rattle.synth_cmd.specs.Asked.Origin.{File, Demo}
 
 -- The name holds these bytes, where the files tell what they hold.
 abbrev pub Holds : Option Shelf → List ℕ → List ℕ → Type 0
 Holds held name bytes = IfSome held (λ m. get m name ≡ Some bytes)
+
+-- A source was these bytes: those of a file, where the files tell what they held, or those of the demo of a number.
+abbrev pub WasSource : Settings → Option Shelf → Origin → List ℕ → Type 0
+WasSource settings held (File name) bytes = Holds held name bytes
+WasSource settings held (Demo number) bytes = bytes ≡ demo_text number settings.form
 
 -- The source was bytes that say a source, and NET and VEC hold bytes of which the headline speaks.
 pub record Tested (settings : Settings) (Was : List ℕ → Type 0) (net vectors : List ℕ) (held : Option Shelf) : Type 0 where
@@ -39,6 +46,6 @@ pub record Checked (net vectors : List ℕ) (held : Option Shelf) : Type 0 where
 -- what stands where a command is done, by what was before and is now: of a grading the headline promises nothing
 abbrev pub HasHeadline : Asked → (old new : Option Shelf) → Type 0
 HasHeadline Refused old new = ⊥
-HasHeadline (Synth settings source net vectors) old new = Tested settings (Holds old source) net vectors new
+HasHeadline (Synth settings source net vectors) old new = Tested settings (WasSource settings old source) net vectors new
 HasHeadline (Grade net vectors) old new = Unit {0}
 HasHeadline (Check net vectors) old new = Checked net vectors old

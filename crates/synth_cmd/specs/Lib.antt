@@ -1,4 +1,5 @@
 pub mod Asked
+pub mod CommandLine
 pub mod Complete
 pub mod Ends
 pub mod Headline

@@ -14,9 +14,9 @@ use Rattle.synth_cmd.specs.declared.pair.FileRefusal.{FileRefusal}
 use Rattle.synth_cmd.specs.declared.pair.FileRefusal.TheVariants as file
 use Rattle.synth_cmd.specs.declared.pair.PairRefusal.{PairRefusal}
 use Rattle.synth_cmd.specs.declared.pair.PairRefusal.TheVariants as pair
-use Rattle.synth_core.specs.declared.checking.CheckReport.{CheckReport}
-use Rattle.synth_core.specs.declared.grading.GradeReport.{GradeReport}
-use Rattle.synth_core.specs.declared.named.NamedFault.{NamedFault}
+use Rattle.pairs.specs.declared.checking.CheckReport.{CheckReport}
+use Rattle.pairs.specs.declared.grading.GradeReport.{GradeReport}
+use Rattle.pairs.specs.declared.named.NamedFault.{NamedFault}
 use Rattle.synth_core.specs.Says.{text_fault_name}
 use Rattle.synth_core.specs.declared.made.Summary.{Summary}
 

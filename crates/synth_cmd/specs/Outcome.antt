@@ -1,15 +1,18 @@
 -- How a synthesis ends: what the files hold, what the report took, and the counts of faults.
-use Rattle.std.specs.Prelude.{◌≡◌, ◌⊎◌, ◌≤◌, ◌<◌, ◌++◌, ℕ, List, [], ◌∷◌, Option, Err, IfSome, length, take, Contains}
+use Rattle.std.specs.Prelude.{⊤, ◌≡◌, ◌⊎◌, ◌≤◌, ◌<◌, ◌++◌, ℕ, List, [], ◌∷◌, Option, Err, IfSome, length, take, Contains}
 use Rattle.std.specs.List.{zip}
 use Rattle.ae_base.specs.declared.limits.TheConstants.{TEXT_BYTES}
 use Rattle.ae_outside.specs.Counts.{Tally, Rose, RoseAt}
 use Rattle.ae_outside.specs.Files.{Shelf, bytes_of, written, added, IsWrittenInPart, TookFront}
+use Rattle.demo_source.specs.Demo.{demo_text}
 use Rattle.polarity.specs.Search.{Advised}
 use Rattle.synth_core.specs.Asked.{HasOtherCount, HasTooMany}
 use Rattle.synth_core.specs.Made.{IsMade, Texts}
 use Rattle.synth_core.specs.Says.{source_says}
 use Rattle.synth_core.specs.Searched.{AdvisorsStand}
 use Rattle.synth_core.specs.declared.settings.Settings.{Settings}
+use Rattle.synth_cmd.specs.Asked.{Origin}
+use Rattle.synth_cmd.specs.Asked.Origin.{File, Demo}
 use Rattle.synth_cmd.specs.Complete.{IsComplete}
 use Rattle.synth_cmd.specs.Headline.{Holds}
 use Rattle.synth_cmd.specs.Outside.{Outside, CountsAmong}
@@ -44,6 +47,16 @@ pub record HoldsText (held : Option Shelf) (name bytes : List ℕ) : Type 0 wher
   pub is_held : Holds held name bytes
   pub short : length bytes ≤ TEXT_BYTES
 
+-- A source was these bytes: those of a file that is not too long, or those of the demo of a number.
+abbrev pub WasText : Settings → Option Shelf → Origin → List ℕ → Type 0
+WasText settings held (File name) bytes = HoldsText held name bytes
+WasText settings held (Demo number) bytes = bytes ≡ demo_text number settings.form
+
+-- the names of the files that a source is read from
+abbrev pub read_names : Origin → List (List ℕ)
+read_names (File name) = name ∷ []
+read_names (Demo number) = []
+
 -- each name in turn holds its text, and all others stay
 abbrev pub all_written : Option Shelf → List (List ℕ × List ℕ) → Option Shelf
 all_written held [] = held
@@ -70,7 +83,7 @@ pub record IsMadeOf (settings : Settings) (Was : List ℕ → Type 0) (before af
 abbrev pub files_of : List (List ℕ) → Texts → List (List ℕ × List ℕ)
 files_of names texts = zip names (texts.net_text ∷ texts.vec_text ∷ [])
 
--- a name that was read is refused, a write of a name failed, or all is written
+-- the source is refused, which has a name; a write of a name failed; or all is written
 pub data Stage : Type 0 where
   Refuses : (name : List ℕ) → Refusal → Stage
   Fails : (name : List ℕ) → Texts → Stage
@@ -84,9 +97,14 @@ Cause settings Was held before now name (Text line what) = (bytes : List ℕ) ×
 Cause settings Was held before now name (BitCount given wanted) = (bytes : List ℕ) × Was bytes × HasOtherCount settings bytes given wanted
 Cause settings Was held before now name (TooManyTerms output) = (bytes : List ℕ) × Was bytes × HasTooMany settings bytes output
 
+-- a refusal is one of a name that is read; that of a polarity of another number of inputs is one of the words
+abbrev pub Concerns : (reads : List (List ℕ)) → (name : List ℕ) → Refusal → Type 0
+Concerns reads name (BitCount given wanted) = ⊤
+Concerns reads name refusal = Contains reads name
+
 -- what stands at a stage, by the names that are read and those that are written
 abbrev pub Stands : Settings → (List ℕ → Type 0) → (reads writes : List (List ℕ)) → (old new : Outside) → Stage → Type 0
-Stands settings Was reads writes old new (Refuses name refusal) = Contains reads name × Cause settings Was old.held old.reads new.reads name refusal × (new.held ≡ old.held)
+Stands settings Was reads writes old new (Refuses name refusal) = Concerns reads name refusal × Cause settings Was old.held old.reads new.reads name refusal × (new.held ≡ old.held)
 Stands settings Was reads writes old new (Fails name texts) =
     Contains writes name × RoseAt name old.writes new.writes × IsMadeOf settings Was old.advisors new.advisors texts × StopsAt name (files_of writes texts) old.held new.held
 Stands settings Was reads writes old new (Writes texts) = IsMadeOf settings Was old.advisors new.advisors texts × (new.held ≡ all_written old.held (files_of writes texts))

@@ -1,8 +1,8 @@
 -- For private contracts alone: the error of a pair that is made of one below it.
 use Rattle.ae_outside.specs.declared.whole.ReadErr.{ReadErr}
 use Rattle.ae_outside.specs.declared.whole.ReadErr.TheVariants as read
-use Rattle.synth_core.specs.declared.pair_error.PairErr.{PairErr}
-use Rattle.synth_core.specs.declared.pair_error.PairErr.TheVariants as pair_err
+use Rattle.pairs.specs.declared.pair_error.PairErr.{PairErr}
+use Rattle.pairs.specs.declared.pair_error.PairErr.TheVariants as pair_err
 use Rattle.synth_cmd.specs.declared.pair.FileErr.{FileErr}
 use Rattle.synth_cmd.specs.declared.pair.FileErr.TheVariants as file_err
 use Rattle.synth_cmd.specs.declared.pair.FileRefusal.TheVariants.{ReadFault, TooLong}

@@ -6,7 +6,7 @@ use Rattle.ae_outside.specs.Counts.{Tally, Rose, RoseAt}
 use Rattle.ae_outside.specs.Files.{Shelf, added, bytes_of, TookFront}
 use Rattle.blif_read.specs.Says.{blif_says}
 use Rattle.blif_read.specs.declared.fault.NetLimits.TheVariants.{Written}
-use Rattle.synth_core.specs.Grade.{AreGradable, HasOtherNames, HasVectorFault}
+use Rattle.pairs.specs.Grade.{AreGradable, HasOtherNames, HasVectorFault}
 use Rattle.synth_cmd.specs.Complete.{NoFault, NoRead, OrMemory}
 use Rattle.synth_cmd.specs.Lines.{memory_line, pair_line, pair_status}
 use Rattle.synth_cmd.specs.Outcome.{HoldsText, MemoryFrom, ToldFrom}

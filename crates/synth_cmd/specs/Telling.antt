@@ -1,11 +1,12 @@
 -- How a step of a call ends. For private contracts alone.
 use Rattle.std.specs.Prelude.{◌≡◌, ◌⊎◌, ℕ, List, Option}
-use Rattle.ae_outside.specs.Counts.{Rose}
+use Rattle.ae_outside.specs.Counts.{Rose, Tally}
 use Rattle.ae_outside.specs.Files.{Shelf, added, TookFront}
 use Rattle.polarity.specs.Search.{Advised}
 use Rattle.synth_core.specs.Made.{Texts}
 use Rattle.synth_core.specs.declared.settings.Settings.{Settings}
-use Rattle.synth_cmd.specs.Outcome.{Told, TellsMemory, IsMadeOf, StopsAt, all_written, files_of}
+use Rattle.synth_cmd.specs.Outcome.{Cause, Concerns, Told, TellsMemory, IsMadeOf, StopsAt, all_written, files_of}
+use Rattle.synth_cmd.specs.declared.tell.Refusal.{Refusal}
 use Rattle.synth_cmd.specs.declared.TheConstants.{WRITE_FAULT, MEMORY}
 
 -- A line is told and the status answered, or that of memory.
@@ -17,6 +18,10 @@ abbrev pub Reports : (lines : List ℕ) (status : ℕ) → (old new : Option (Li
 Reports lines status old new before now answer =
     ((answer ≡ status) × (new ≡ added old lines))
     ⊎ (((answer ≡ WRITE_FAULT) × Rose before now × TookFront lines old new) ⊎ ((answer ≡ MEMORY) × TellsMemory lines old new))
+
+-- A source is refused by its name, for this cause.
+abbrev pub Refuses : Settings → (Was : List ℕ → Type 0) → (reads : List (List ℕ)) → Option Shelf → (before now : Tally) → (name : List ℕ) → Refusal → Type 0
+Refuses settings Was reads held before now name refusal = Concerns reads name refusal × Cause settings Was held before now name refusal
 
 -- Texts were made, and their writing stopped at a name.
 pub record StopsMade (settings : Settings) (Was : List ℕ → Type 0) (before after : List Advised) (names : List (List ℕ)) (name : List ℕ) (old new : Option Shelf) : Type 0 where

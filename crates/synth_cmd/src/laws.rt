@@ -1,9 +1,16 @@
-//! A call that writes its report has one end.
-ghost use Rattle.std.specs.Prelude.{◌≡◌, ℕ, Some};
+//! What follows from how a call ends: which statuses it has, and that one that writes its report has one end.
+//!
+//! The functions do nothing: their contracts are the laws, and a caller has them after the call.
+ghost use Rattle.std.specs.Prelude.{◌≡◌, ◌≢◌, ℕ, List, [], ◌∷◌, Some, Contains};
+ghost use Rattle.ae_outside.specs.Counts.{Rose};
 ghost use Rattle.ae_outside.specs.Files.{Shelf};
-ghost use Rattle.synth_cmd.specs.Asked.{Asked};
+ghost use Rattle.synth_cmd.specs.Asked.{Asked, Origin};
+ghost use Rattle.synth_cmd.specs.Asked.Asked.{Check, Grade, Synth};
+ghost use Rattle.synth_cmd.specs.Asked.Origin.{Demo};
 ghost use Rattle.synth_cmd.specs.Ends.{Ends, IsReported};
 ghost use Rattle.synth_cmd.specs.Outside.{Outside};
+ghost use Rattle.synth_cmd.specs.declared.TheConstants.{DONE, MEMORY, SHORTFALL, TOO_MANY_TERMS, WORDS, WRITE_FAULT};
+ghost use Rattle.synth_core.specs.declared.settings.Settings.{Settings};
 
 use synth_core::{check_law, grade_law, one_answer_law};
 
@@ -17,3 +24,13 @@ pub fn one_end_law()
     grade_law();
     check_law();
 }
+
+/// Statuses that a command never ends with: a synthesis with that of a shortfall; a demo, whose text is its own, with any but that it is
+/// done, that of words for a polarity of another number of inputs, that of a write fault and that of memory; a command on a pair with that
+/// of too many terms, and with that of a write fault only where a write of the report failed.
+pub fn status_law()
+    ensures synth { (settings : Settings) (source : Origin) (net vectors : List ℕ) (old new : Outside) (s : ℕ) → Ends (Synth settings source net vectors) old new s → s ≢ SHORTFALL }
+    ensures demo { (settings : Settings) (number : ℕ) (net vectors : List ℕ) (old new : Outside) (s : ℕ) → Ends (Synth settings (Demo number) net vectors) old new s → Contains (DONE ∷ WORDS ∷ WRITE_FAULT ∷ MEMORY ∷ []) s }
+    ensures grade { (net vectors : List ℕ) (old new : Outside) (s : ℕ) → Ends (Grade net vectors) old new s → (s ≢ TOO_MANY_TERMS) × (s ≡ WRITE_FAULT → Rose old.faults new.faults) }
+    ensures check { (net vectors : List ℕ) (old new : Outside) (s : ℕ) → Ends (Check net vectors) old new s → (s ≢ TOO_MANY_TERMS) × (s ≡ WRITE_FAULT → Rose old.faults new.faults) }
+{}

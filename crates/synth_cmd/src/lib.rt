@@ -2,6 +2,8 @@
 #![tactic(auto)]
 
 mod check_report;
+mod command_line;
+mod findings;
 mod grade_report;
 mod job;
 mod laws;
@@ -14,7 +16,7 @@ mod tell_pair;
 mod top;
 mod words;
 
-pub use laws::one_end_law;
+pub use laws::{one_end_law, status_law};
 pub use top::run;
 
 /// The command is done: all texts are written, and the report.

@@ -1,7 +1,6 @@
 //! A pair of files, a netlist and its vectors: reading it, and why it is refused.
 ghost use Rattle.std.specs.Prelude.{◌≡◌, [], ◌∷◌, IfOk, IsErrOf};
 ghost use Rattle.ae_outside.specs.Counts.{CountsAt};
-ghost use Rattle.synth_cmd.specs.Ends.{CheckFinds, GradeFinds, checked_finding, finding_of};
 ghost use Rattle.synth_cmd.specs.Outcome.{HoldsText};
 ghost use Rattle.synth_cmd.specs.Outside.{CountsAmong};
 ghost use Rattle.synth_cmd.specs.PairStops.{of_file, of_pair};
@@ -9,12 +8,13 @@ ghost use Rattle.synth_cmd.specs.Pairs.{FileCause, HoldPair, PairCause, WerePair
 ghost use Rattle.synth_cmd.specs.declared.pair.FileErr.TheVariants as file_err;
 ghost use Rattle.synth_cmd.specs.declared.pair.PairStop.TheVariants as pair_stop;
 
+use crate::findings::Findings;
 use crate::words::PairNames;
 use ae_base::TEXT_BYTES;
 use ae_outside::{Files, ReadErr, read_whole};
 use blif_read::BlifFault;
 use std::alloc::Global;
-use synth_core::{CheckReport, GradeReport, PairErr, check, grade};
+use synth_core::PairErr;
 use vec_text::VecFault;
 
 /// Why a file is not read.
@@ -124,34 +124,18 @@ pub fn read_pair<F: Files>(
     }
 }
 
-/// Reads a pair and grades it.
-pub fn grade_files<F: Files>(
+/// Reads a pair and finds what is sought of it.
+pub fn find_in<R: Findings, F: Files>(
     alloc: Global,
     files: &mut F,
     names: &PairNames<'_>,
-) -> Result<GradeReport, PairStop>
-    ensures found { IfOk result (λ report. WerePair (F.held files.old) names.now.net.now names.now.vectors.now (λ net_bytes vec_bytes. GradeFinds net_bytes vec_bytes (finding_of report))) }
+) -> Result<R, PairStop>
+    ensures found { IfOk result (λ found. WerePair (F.held files.old) names.now.net.now names.now.vectors.now (λ net_bytes vec_bytes. R.Finds net_bytes vec_bytes (R.finding found))) }
     ensures refused { (r : PairRefusal) → IsErrOf result (pair_stop.Refused r) → PairCause (F.held files.old) (F.read_faults files.old) (F.read_faults files.new) names.now.net.now names.now.vectors.now r }
     ensures stays { F.held files.new ≡ F.held files.old }
     ensures reads { CountsAmong (names.now.net.now ∷ names.now.vectors.now ∷ []) (F.read_faults files.old) (F.read_faults files.new) }
     ensures writes { F.write_faults files.new ≡ F.write_faults files.old }
 {
     let texts = read_pair(alloc, files, names)?;
-    Ok(grade(alloc, &texts.net, &texts.vectors)?)
-}
-
-/// Reads a pair and checks it.
-pub fn check_files<F: Files>(
-    alloc: Global,
-    files: &mut F,
-    names: &PairNames<'_>,
-) -> Result<CheckReport, PairStop>
-    ensures found { IfOk result (λ report. WerePair (F.held files.old) names.now.net.now names.now.vectors.now (λ net_bytes vec_bytes. CheckFinds net_bytes vec_bytes (checked_finding report))) }
-    ensures refused { (r : PairRefusal) → IsErrOf result (pair_stop.Refused r) → PairCause (F.held files.old) (F.read_faults files.old) (F.read_faults files.new) names.now.net.now names.now.vectors.now r }
-    ensures stays { F.held files.new ≡ F.held files.old }
-    ensures reads { CountsAmong (names.now.net.now ∷ names.now.vectors.now ∷ []) (F.read_faults files.old) (F.read_faults files.new) }
-    ensures writes { F.write_faults files.new ≡ F.write_faults files.old }
-{
-    let texts = read_pair(alloc, files, names)?;
-    Ok(check(alloc, &texts.net, &texts.vectors)?)
+    Ok(R::find(alloc, &texts.net, &texts.vectors)?)
 }

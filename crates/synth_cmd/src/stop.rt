@@ -1,8 +1,10 @@
 //! Why a synthesis stops, and the errors below that it is made of.
 ghost use Rattle.std.specs.Prelude.{◌≡◌};
+ghost use Rattle.synth_cmd.specs.declared.stop.SourceErr.TheVariants as source_err;
 ghost use Rattle.synth_cmd.specs.Stops.{of_read, of_synth, of_source, of_texts};
 
 use crate::tell::Refusal;
+use ae_base::Memory;
 use ae_outside::ReadErr;
 use synth_core::{SynthErr, TextFault};
 
@@ -22,6 +24,14 @@ impl From<ReadErr> for SourceErr {
             ReadErr::TooLong => SourceErr::Refused(Refusal::TooLong),
             ReadErr::Memory => SourceErr::Memory,
         }
+    }
+}
+
+impl From<Memory> for SourceErr {
+    ghost from_gives = { λ _ r. r ≡ source_err.Memory };
+
+    fn from(_: Memory) -> Self {
+        SourceErr::Memory
     }
 }
 

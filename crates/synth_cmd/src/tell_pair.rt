@@ -3,15 +3,14 @@ ghost use Rattle.std.specs.Prelude.{◌≡◌, ◌≤◌, string_bytes, IfOk};
 ghost use Rattle.synth_cmd.specs.Lines as spec;
 ghost use Rattle.synth_cmd.specs.Telling.{Tells, Reports};
 
-use crate::check_report::check_report;
-use crate::grade_report::{finding_status, grade_report};
+use crate::findings::Findings;
 use crate::pair::{FileRefusal, PairRefusal};
 use crate::tell::{put_report, tell, want_memory};
 use crate::words::PairNames;
 use crate::{READ_FAULT, REFUSED, TOO_LONG, lines};
 use ae_outside::Sink;
 use std::alloc::{AllocError, Global};
-use synth_core::{CheckReport, GradeReport, TextFault};
+use synth_core::TextFault;
 
 fn file_status(refusal: FileRefusal) -> u8
     ensures { result ≡ spec.file_status refusal }
@@ -79,32 +78,13 @@ pub fn refuse_pair<K: Sink>(
     }
 }
 
-/// Reports a grading.
-pub fn finish_grade<K: Sink>(alloc: Global, report: &mut K, found: &GradeReport) -> u8
-    ensures told { Reports (spec.grade_lines found.now) (spec.finding_status found.now.wrong found.now.missed) (K.taken report.old) (K.taken report.new) (K.faults report.old) (K.faults report.new) result }
+/// Reports what is found.
+pub fn finish_pair<R: Findings, K: Sink>(alloc: Global, report: &mut K, found: &R) -> u8
+    ensures told { Reports (R.finding found.now).lines (R.finding found.now).status (K.taken report.old) (K.taken report.new) (K.faults report.old) (K.faults report.new) result }
     ensures counts { K.faults report.old ≤ K.faults report.new }
 {
-    match grade_report(alloc, found) {
-        Ok(text) => put_report(
-            report,
-            &text,
-            finding_status(found.wrong, found.missed.as_slice()),
-        ),
-        Err(_) => want_memory(report),
-    }
-}
-
-/// Reports a check.
-pub fn finish_check<K: Sink>(alloc: Global, report: &mut K, found: &CheckReport) -> u8
-    ensures told { Reports (spec.check_lines found.now) (spec.finding_status found.now.wrong found.now.unproved) (K.taken report.old) (K.taken report.new) (K.faults report.old) (K.faults report.new) result }
-    ensures counts { K.faults report.old ≤ K.faults report.new }
-{
-    match check_report(alloc, found) {
-        Ok(text) => put_report(
-            report,
-            &text,
-            finding_status(found.wrong, found.unproved.as_slice()),
-        ),
+    match found.report(alloc) {
+        Ok(text) => put_report(report, &text, found.status()),
         Err(_) => want_memory(report),
     }
 }

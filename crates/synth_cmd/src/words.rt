@@ -1,5 +1,5 @@
 //! The words of the command line.
-ghost use Rattle.std.specs.Prelude.{◌≡◌, ◌≤◌, ◌==◌, ◌&&◌, nat_le, nat_lt, Some, None, IfSome, codes, length, map, slice_index, string_bytes};
+ghost use Rattle.std.specs.Prelude.{◌≡◌, ◌≤◌, ◌==◌, ◌&&◌, nat_le, nat_lt, [], ◌∷◌, IfOk, length, map, option_map, slice_index};
 ghost use Rattle.std.specs.List.{list_all};
 ghost use Rattle.ae_base.specs.Mask.{where_below};
 ghost use Rattle.ae_base.specs.declared.limits.TheConstants.{SOURCE_LINES};
@@ -8,16 +8,30 @@ ghost use Rattle.synth_core.specs.declared.settings.SourceKind.TheVariants.{Pla 
 ghost use Rattle.vec_text.specs.declared.file.Form.TheVariants.{Reddy as reddy};
 ghost use Rattle.synth_cmd.specs.Asked as spec;
 ghost use Rattle.synth_cmd.specs.Asked.{asked};
-ghost use Rattle.synth_cmd.specs.Words.{command_of, AreApart};
+ghost use Rattle.synth_cmd.specs.Words.{IsFit, command_of, said_of, source_of};
 
-use ae_base::{Mask, Polarity, SOURCE_LINES};
+use crate::command_line::{Said, parse, said_by};
+use ae_base::{Mask, Memory, Polarity, SOURCE_LINES};
+use std::alloc::Global;
 use synth_core::{Choice, Settings, SourceKind};
 use vec_text::Form;
 
-/// The names of the files of a synthesis: the source, and where the network and its vectors are written.
+/// The most digits of the number of a demo.
+const NUMBER_DIGITS: usize = 10;
+
+/// Where a source comes from.
+#[derive(Clone, Copy)]
+pub enum Origin<'a> {
+    /// A file of this name.
+    File(&'a str),
+    /// The demo of this number.
+    Demo(u32),
+}
+
+/// Where the source of a synthesis comes from, and the names of the files that its network and its vectors are written to.
 #[derive(Clone, Copy)]
 pub struct FileNames<'a> {
-    pub source: &'a str,
+    pub source: Origin<'a>,
     pub net: &'a str,
     pub vectors: &'a str,
 }
@@ -121,103 +135,120 @@ fn choice_of(word: &str) -> Option<Choice>
     }
 }
 
-/// What `--kind` says where the words begin with it, else a PLA; with the words that are left.
-fn kind_option(words: &[String]) -> Option<(SourceKind, &[String])>
-    ensures some { IfSome result (λ found. spec.option_at (codes "--kind") spec.kind_of pla (map string_bytes words.now) ≡ Some (found.0, map string_bytes found.1.now)) }
-    ensures none { result ≡ None → spec.option_at (codes "--kind") spec.kind_of pla (map string_bytes words.now) ≡ None }
+fn is_digit(b: u8) -> bool
+    ensures { result ≡ spec.is_digit b }
 {
-    match words {
-        [option, value, rest @ ..] if option.as_str() == "--kind" => {
-            Some((kind_of(value.as_str())?, rest))
-        }
-        _ => Some((SourceKind::Pla, words)),
-    }
+    48 <= b && b < 58
 }
 
-/// What `--form` says where the words begin with it, else the Reddy form; with the words that are left.
-fn form_option(words: &[String]) -> Option<(Form, &[String])>
-    ensures some { IfSome result (λ found. spec.option_at (codes "--form") spec.form_of reddy (map string_bytes words.now) ≡ Some (found.0, map string_bytes found.1.now)) }
-    ensures none { result ≡ None → spec.option_at (codes "--form") spec.form_of reddy (map string_bytes words.now) ≡ None }
+/// Whether all characters are digits.
+fn are_digits(word: &[u8]) -> bool
+    ensures { result ≡ list_all spec.is_digit word.now }
 {
-    match words {
-        [option, value, rest @ ..] if option.as_str() == "--form" => {
-            Some((form_of(value.as_str())?, rest))
-        }
-        _ => Some((Form::Reddy, words)),
-    }
+    word.iter().all(|b| is_digit(*b))
 }
 
-/// What `--polarity` says where the words begin with it, else the plain literals; with the words that are left.
-fn polarity_option(words: &[String]) -> Option<(Choice, &[String])>
-    ensures some { IfSome result (λ found. spec.option_at (codes "--polarity") spec.choice_of positive (map string_bytes words.now) ≡ Some (found.0, map string_bytes found.1.now)) }
-    ensures none { result ≡ None → spec.option_at (codes "--polarity") spec.choice_of positive (map string_bytes words.now) ≡ None }
+/// Whether a word has 1 to `NUMBER_DIGITS` digits, and nothing else.
+fn has_digits(word: &[u8]) -> bool
+    ensures { result ≡ spec.has_digits word.now }
 {
-    match words {
-        [option, value, rest @ ..] if option.as_str() == "--polarity" => {
-            Some((choice_of(value.as_str())?, rest))
-        }
-        _ => Some((Choice::Positive, words)),
-    }
+    let count = word.len();
+    0 < count && count <= NUMBER_DIGITS && are_digits(word)
 }
 
-/// The settings of a kind, a form and a polarity, where no words are left.
-fn settings_with(
-    kind: SourceKind,
-    form: Form,
-    polarity: Choice,
-    rest: &[String],
-) -> Option<Settings>
-    ensures { result ≡ spec.settings_with kind form (Some (polarity, map string_bytes rest.now)) }
+/// The number of a demo that a word tells.
+fn number_of(word: &str) -> Option<u32>
+    ensures { result ≡ spec.number_of word.now }
 {
-    match rest {
-        [] => Some(Settings {
-            kind,
-            form,
-            polarity,
-        }),
+    if !has_digits(word.as_bytes()) {
+        return None;
+    }
+    match word.parse::<u32>() {
+        Ok(number) if number < 1 << 31 => Some(number),
         _ => None,
     }
 }
 
-/// The settings of a kind and of what the words after it ask for.
-fn settings_after(kind: SourceKind, words: &[String]) -> Option<Settings>
-    ensures { result ≡ spec.settings_after kind (spec.option_at (codes "--form") spec.form_of reddy (map string_bytes words.now)) }
+/// What `--kind` asks for.
+fn kind_in(said: &Said<'_, '_>) -> Option<SourceKind>
+    ensures { result ≡ spec.value_or spec.kind_of pla (option_map (λ w. w.now) said.now.kind) }
 {
-    match form_option(words) {
-        Some((form, rest)) => match polarity_option(rest) {
-            Some((polarity, rest)) => settings_with(kind, form, polarity, rest),
-            None => None,
-        },
+    match said.kind {
+        Some(word) => kind_of(word),
+        None => Some(SourceKind::Pla),
+    }
+}
+
+/// What `--form` asks for.
+fn form_in(said: &Said<'_, '_>) -> Option<Form>
+    ensures { result ≡ spec.value_or spec.form_of reddy (option_map (λ w. w.now) said.now.form) }
+{
+    match said.form {
+        Some(word) => form_of(word),
+        None => Some(Form::Reddy),
+    }
+}
+
+/// What `--polarity` asks for.
+fn polarity_in(said: &Said<'_, '_>) -> Option<Choice>
+    ensures { result ≡ spec.value_or spec.choice_of positive (option_map (λ w. w.now) said.now.polarity) }
+{
+    match said.polarity {
+        Some(word) => choice_of(word),
+        None => Some(Choice::Positive),
+    }
+}
+
+/// The settings that the options ask for, each or none of them given.
+fn settings_of(said: &Said<'_, '_>) -> Option<Settings>
+    ensures { result ≡ spec.settings_of (said_of said.now) }
+{
+    let kind = kind_in(said)?;
+    let form = form_in(said)?;
+    let polarity = polarity_in(said)?;
+    Some(Settings {
+        kind,
+        form,
+        polarity,
+    })
+}
+
+/// The demo of the number that a word tells.
+fn demo_of<'a>(word: &str) -> Option<Origin<'a>>
+    ensures { option_map source_of result ≡ option_map (λ number. spec.Origin.Demo number) (spec.number_of word.now) }
+{
+    match number_of(word) {
+        Some(number) => Some(Origin::Demo(number)),
         None => None,
     }
 }
 
-/// The settings that the words after the names ask for.
-fn settings_of(words: &[String]) -> Option<Settings>
-    ensures { result ≡ spec.settings_of (map string_bytes words.now) }
-{
-    match kind_option(words) {
-        Some((kind, rest)) => settings_after(kind, rest),
-        None => None,
-    }
-}
-
-/// `synth` and its three names, with the words after them.
-fn synth_of<'a>(
-    mode: &str,
+/// Where the source of a synthesis comes from: a file whose name differs from the others, or a demo.
+fn origin_of<'a>(
+    said: &Said<'_, 'a>,
     source: &'a str,
     net: &'a str,
     vectors: &'a str,
-    options: &[String],
-) -> Command<'a>
-    ensures asked { command_of result ≡ spec.synth_by mode.now source.now net.now vectors.now (map string_bytes options.now) }
-    ensures apart { AreApart (command_of result) }
+) -> Option<Origin<'a>>
+    ensures { option_map source_of result ≡ spec.origin_of (said_of said.now) source.now net.now vectors.now }
 {
-    if mode != "synth" || source == net || source == vectors || net == vectors {
+    match said.mode {
+        "synth" if source != net && source != vectors => Some(Origin::File(source)),
+        "demo" if said.kind.is_none() => demo_of(source),
+        _ => None,
+    }
+}
+
+/// `synth` or `demo` with its three names.
+fn synth_of<'a>(said: &Said<'_, 'a>, source: &'a str, net: &'a str, vectors: &'a str) -> Command<'a>
+    ensures asked { command_of result ≡ spec.command_by (said_of said.now) (source.now ∷ net.now ∷ vectors.now ∷ []) }
+    ensures fit { IsFit (command_of result) }
+{
+    if net == vectors {
         return Command::Refused;
     }
-    match settings_of(options) {
-        Some(settings) => Command::Synth {
+    match (settings_of(said), origin_of(said, source, net, vectors)) {
+        (Some(settings), Some(source)) => Command::Synth {
             settings,
             names: FileNames {
                 source,
@@ -225,40 +256,52 @@ fn synth_of<'a>(
                 vectors,
             },
         },
-        None => Command::Refused,
+        _ => Command::Refused,
     }
 }
 
-/// `grade` or `check` and its two names.
-fn pair_of<'a>(mode: &str, net: &'a str, vectors: &'a str) -> Command<'a>
-    ensures asked { command_of result ≡ spec.pair_by mode.now net.now vectors.now }
-    ensures apart { AreApart (command_of result) }
+/// Whether an option is given.
+fn has_options(said: &Said<'_, '_>) -> bool
+    ensures { result ≡ spec.has_options (said_of said.now) }
 {
-    if net == vectors {
+    said.kind.is_some() || said.form.is_some() || said.polarity.is_some()
+}
+
+/// `grade` or `check` with its two names.
+fn pair_of<'a>(said: &Said<'_, 'a>, net: &'a str, vectors: &'a str) -> Command<'a>
+    ensures asked { command_of result ≡ spec.command_by (said_of said.now) (net.now ∷ vectors.now ∷ []) }
+    ensures fit { IsFit (command_of result) }
+{
+    if net == vectors || has_options(said) {
         return Command::Refused;
     }
     let names = PairNames { net, vectors };
-    match mode {
+    match said.mode {
         "grade" => Command::Grade { names },
         "check" => Command::Check { names },
         _ => Command::Refused,
     }
 }
 
-/// What the words ask for, the program's own name left out.
-pub fn read_command(words: &[String]) -> Command<'_>
-    ensures asked { command_of result ≡ asked words.now }
-    ensures apart { AreApart (command_of result) }
+/// The command that the words ask for where `clap` takes them.
+fn command_by<'a>(said: &Said<'_, 'a>) -> Command<'a>
+    ensures asked { command_of result ≡ spec.command_by (said_of said.now) (said_of said.now).names }
+    ensures fit { IsFit (command_of result) }
 {
-    match words {
-        [mode, net, vectors] => pair_of(mode.as_str(), net.as_str(), vectors.as_str()),
-        [mode, source, net, vectors, options @ ..] => synth_of(
-            mode.as_str(),
-            source.as_str(),
-            net.as_str(),
-            vectors.as_str(),
-            options,
-        ),
+    match said.names {
+        Some([net, vectors]) => pair_of(said, *net, *vectors),
+        Some([source, net, vectors]) => synth_of(said, *source, *net, *vectors),
         _ => Command::Refused,
+    }
+}
+
+/// What the words ask for, the program's own name left out.
+pub fn read_command<'a>(alloc: Global, words: &'a [String]) -> Result<Command<'a>, Memory>
+    ensures asked { IfOk result (λ command. command_of command ≡ asked words.entry.now) }
+    ensures fit { IfOk result (λ command. IsFit (command_of command)) }
+{
+    match parse(alloc, words)? {
+        Some(matches) => Ok(command_by(&said_by(&matches))),
+        None => Ok(Command::Refused),
     }
 }

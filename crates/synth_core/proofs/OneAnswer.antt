@@ -28,8 +28,9 @@ use Rattle.synth_core.specs.Searched.{IsPolarity}
 use Rattle.redundancy.specs.Evidence.{IsEvidenceTree, Tree, leaf_count, written}
 use Rattle.std.specs.List.{AllZip}
 use Rattle.synth_core.specs.Headline.{IsTested}
-use Rattle.synth_core.specs.Listed.{AreUndetectable, IsLineOf, IsShown, step_of}
-use Rattle.synth_core.proofs.Selected.{selected_once}
+use Rattle.pairs.specs.Listed.{AreUndetectable, IsLineOf, IsShown, step_of}
+use Rattle.test_gen.specs.Selection.{IsSelection}
+use Rattle.test_gen.specs.Selection.IsSelection.{none, taken, left}
 use Rattle.test_gen.specs.Tests.{tests_of}
 use Rattle.test_gen.specs.Undetectable.{IsUndetectable}
 use Rattle.vec_text.specs.declared.file.PlaceName.{PlaceName}
@@ -47,6 +48,17 @@ use Rattle.vec_text.specs.declared.file.Form.TheVariants.{Reddy, Factored}
 use Rattle.vec_text.specs.declared.file.Idle.{Idle}
 use Rattle.vec_text.specs.declared.file.Vector.{Vector}
 use Rattle.vec_text.specs.VectorFile.{VectorFile, IsValidVectorFile, vector_text}
+
+same_head : {X : Type 0} {x : X} {ys zs : List X} → ys ≡ zs → x ∷ ys ≡ x ∷ zs
+same_head {x = x} e = ap (λ l. x ∷ l) e
+
+-- exactly those of which something holds are one list
+selected_once : {X : Type 0} (P : X → Type 0) (xs ys zs : List X) → IsSelection P xs ys → IsSelection P xs zs → ys ≡ zs
+selected_once P xs ys zs none none = refl
+selected_once P xs ys zs (taken holds rest) (taken also more) = same_head (selected_once P _ _ _ rest more)
+selected_once P xs ys zs (taken holds rest) (left other more) = absurd (other holds)
+selected_once P xs ys zs (left other rest) (taken holds more) = absurd (other holds)
+selected_once P xs ys zs (left other rest) (left also more) = selected_once P _ _ _ rest more
 
 -- records with the same fields
 same_file : (f g : Form) (i j o q : List (List ℕ)) (p r : Signs) (c d : List EsopLine) (v w : List Vector) (u t : List Idle) → f ≡ g → i ≡ j → o ≡ q → p ≡ r → c ≡ d → v ≡ w → u ≡ t

@@ -1,14 +1,8 @@
 pub mod Asked
-pub mod Check
 pub mod Errors
-pub mod Grade
 pub mod Headline
-pub mod Listed
 pub mod Made
-pub mod PairErrors
-pub mod Parts
 pub mod Says
 pub mod Searched
-pub mod Sites
 pub mod Sourced
 pub mod Steps

@@ -23,7 +23,7 @@ use Rattle.input_tests.specs.Whole.{cascade_tests}
 use Rattle.polarity.specs.Search.{Advised}
 use Rattle.synth_core.specs.Asked.{IsWithin, terms_limit}
 use Rattle.synth_core.specs.Headline.{Headline}
-use Rattle.synth_core.specs.Listed.{AreUndetectable}
+use Rattle.pairs.specs.Listed.{AreUndetectable}
 use Rattle.synth_core.specs.Searched.{IsPolarity}
 use Rattle.synth_core.specs.declared.made.Made.{Made}
 use Rattle.synth_core.specs.declared.made.Summary.{Summary}

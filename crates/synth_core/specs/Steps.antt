@@ -25,7 +25,7 @@ use Rattle.synth_core.specs.declared.made.Summary.{Summary}
 use Rattle.synth_core.specs.declared.settings.Settings.{Settings}
 use Rattle.synth_core.specs.declared.settings.Choice.{Choice}
 use Rattle.synth_core.specs.declared.settings.Choice.TheVariants.{Positive, Search, Given}
-use Rattle.synth_core.specs.Listed.{AreUndetectable}
+use Rattle.pairs.specs.Listed.{AreUndetectable}
 use Rattle.synth_core.specs.Made.{IsSynthesised, Texts, lines_from}
 use Rattle.synth_core.specs.Searched.{IsSearched}
 use Rattle.synth_core.specs.Sourced.{IsSourced, Parts}

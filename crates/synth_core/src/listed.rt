@@ -1,91 +1,14 @@
-//! The undetectable faults of a network, as a vector file lists them.
-ghost use Rattle.std.specs.Prelude.{◌≡◌, All, IfOk, length, map};
-ghost use Rattle.std.specs.List.{AllZip};
-ghost use Rattle.ae_net.specs.Faults.{IsPlace};
-ghost use Rattle.synth_core.specs.Listed as spec;
-ghost use Rattle.synth_core.specs.Listed.{IsLineOf, IsShown};
-ghost use Rattle.synth_core.specs.PairErrors.{IsWithin};
+//! The tests of a network and its undetectable faults, as a vector file lists them.
+ghost use Rattle.std.specs.Prelude.{◌≡◌, IfOk, length};
 ghost use Rattle.synth_core.specs.Steps.{AreTests};
-ghost use Rattle.test_gen.specs.Undetectable.{IsUndetectable};
-ghost use Rattle.vec_text.specs.VectorFile.{IsIdle};
 
-use crate::named::place_name;
 use crate::read::Store;
 use ae_base::{Memory, Point, Polarity, Seq};
-use ae_net::{Fault, Net, fault_laws};
-use redundancy::{Found, Step as Letter, evidence, evidence_law, found_law};
+use ae_net::Net;
+use pairs::undetectable_lines;
 use std::alloc::Global;
 use test_gen::{Tests, generate};
-use vec_text::{Idle, Shown, Step};
-
-/// A letter as the vector file has it.
-fn step_of(letter: Letter) -> Step
-    ensures { result ≡ spec.step_of letter }
-{
-    match letter {
-        Letter::S => Step::S,
-        Letter::L => Step::L,
-    }
-}
-
-fn steps_of(alloc: Global, word: &[Letter]) -> Result<Seq<Step>, Memory>
-    ensures { IfOk result (λ steps. steps ≡ map spec.step_of word.now) }
-{
-    let mut steps = Seq::new(alloc);
-    for letter in word {
-        steps.push(step_of(*letter))?;
-    }
-    Ok(steps)
-}
-
-/// The evidence tree of an undetectable fault, or that it is too wide.
-fn shown_of(alloc: Global, net: &Net, fault: Fault) -> Result<Shown, Memory>
-    requires place { IsPlace net.now fault.place }
-    requires undetectable { IsUndetectable net.now fault }
-    ensures { IfOk result (IsShown net.now fault) }
-{
-    let _ = net.inputs();
-    evidence_law();
-    found_law();
-    match evidence(alloc, net, fault)? {
-        Found::Tree(word) => Ok(Shown::Tree(steps_of(alloc, &word)?)),
-        // No point detects the fault, so none is found.
-        Found::TooWide | Found::Differs(_) => Ok(Shown::Wide),
-    }
-}
-
-/// The line of an undetectable fault.
-fn line_of(alloc: Global, net: &Net, fault: Fault) -> Result<Idle, Memory>
-    requires place { IsPlace net.now fault.place }
-    requires within { IsWithin net.now fault.place }
-    requires undetectable { IsUndetectable net.now fault }
-    ensures line { IfOk result (IsLineOf net.now fault) }
-    ensures valid { IfOk result IsIdle }
-{
-    let _ = net.inputs(); // opened here, since its names are those of the line
-    let shown = shown_of(alloc, net, fault)?;
-    let place = place_name(alloc, net, fault.place)?;
-    Ok(Idle {
-        place,
-        value: fault.value,
-        shown,
-    })
-}
-
-/// The lines of undetectable faults, in order.
-pub fn lines_of(alloc: Global, net: &Net, faults: &[Fault]) -> Result<Seq<Idle>, Memory>
-    requires places { All (λ fault. IsPlace net.now fault.place) faults.now }
-    requires within { All (λ fault. IsWithin net.now fault.place) faults.now }
-    requires undetectable { All (IsUndetectable net.now) faults.now }
-    ensures lines { IfOk result (AllZip (IsLineOf net.now) faults.now) }
-    ensures valid { IfOk result (All IsIdle) }
-{
-    let mut lines = Seq::new(alloc);
-    for fault in faults {
-        lines.push(line_of(alloc, net, *fault)?)?;
-    }
-    Ok(lines)
-}
+use vec_text::Idle;
 
 /// The points of a network's tests, and the lines of its undetectable faults.
 #[derive(Drop)]
@@ -100,10 +23,9 @@ pub fn tests_of(alloc: Global, polarity: Polarity, net: &Net) -> Result<Listing,
     ensures { IfOk result (λ tests. AreTests net.now polarity tests.points tests.unchanged) }
 {
     let _ = net.inputs();
-    fault_laws();
     let mut store = Store::new(alloc, polarity)?;
     let Tests { points, unchanged } = generate(alloc, &mut store, net)?;
-    let lines = lines_of(alloc, net, unchanged.as_slice())?;
+    let lines = undetectable_lines(alloc, net, unchanged.as_slice())?;
     Ok(Listing {
         points,
         unchanged: lines,

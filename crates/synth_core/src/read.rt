@@ -2,7 +2,6 @@
 ghost use Rattle.std.specs.Prelude.{◌≡◌, ◌≢◌, ◌≤◌, ℕ, IfOk, IfErr, IsErrOf, Err, length};
 ghost use Rattle.ae_base.specs.declared.limits.TheConstants.{NET_LINES, TEXT_BYTES};
 ghost use Rattle.ae_cover.specs.Cover.{source_of};
-ghost use Rattle.ae_net.specs.Implements.{port_names};
 ghost use Rattle.ae_net.specs.Source as net_spec;
 ghost use Rattle.blif_read.specs.declared.fault.NetLimits.TheVariants.{Source as source_limits};
 ghost use Rattle.blif_read.specs.Limits.{KeepsLimits};
@@ -16,13 +15,14 @@ ghost use Rattle.synth_core.specs.Sourced.{IsSourced, IsWhole, SaysSourced, part
 
 use crate::error::SynthErr;
 use crate::settings::{Choice, Settings, SourceKind, polarity_of};
-use ae_base::{Memory, Name, Polarity, Seq, copies};
+use ae_base::{Memory, Name, Polarity, copies};
 use ae_cover::Cover;
 use ae_net::{Net, NetNames};
 use blif_read::{NetLimits, read_blif, said_law};
 use davio_dd::Davio;
 use fn_store::{FnRef, FnStore, store_laws};
 use net_fn::{cover_values, net_values};
+use pairs::port_names;
 use pla_read::read_pla;
 use std::alloc::Global;
 
@@ -85,18 +85,6 @@ fn cover_source(alloc: Global, cover: &Cover, polarity: Polarity) -> Result<Sour
         functions,
         outputs,
     })
-}
-
-/// The names of the output ports: each has the name of the gate whose signal it shows.
-pub fn port_names(alloc: Global, net: &Net) -> Result<Seq<Name>, Memory>
-    ensures { IfOk result (λ names. names ≡ port_names net.now) }
-{
-    let first = net.inputs().len();
-    let mut names = Seq::new(alloc);
-    for signal in net.outputs() {
-        names.push(net.gate(*signal as usize - first).out.copy(alloc)?)?;
-    }
-    Ok(names)
 }
 
 /// The names of a network.

@@ -1,10 +1,11 @@
 //! Runs at a handed polarity: what is written, the words that hand one, and what is told first where several things are wrong.
 
-use crate::differs::{Differs, Other, assert_all, assert_same};
-use crate::files::{BLIF, Given, PLA};
-use crate::refused::ends;
-use crate::written::{AND, Counts, Row, gives_at, gives_for};
+use crate::asserted::{assert_all, assert_same};
 use ae_base::Memory;
+use given_runs::examples::AND;
+use given_runs::refused::ends;
+use given_runs::written::{Counts, Row, gives_at, gives_for};
+use given_runs::{BLIF, Differs, Given, Other, PLA};
 use std::alloc::Global;
 use std::test::Fail;
 use synth_cmd::{REFUSED, TOO_MANY_TERMS, WORDS};

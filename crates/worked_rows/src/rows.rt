@@ -1,7 +1,8 @@
 //! What is written for sources, byte for byte.
 
-use crate::differs::assert_same;
-use crate::written::{AND, Counts, ONE_INPUT, Row, gives};
+use crate::asserted::assert_same;
+use given_runs::examples::{AND, CONSTANT_0, CONSTANT_1, HALF_ADDER, ONE_INPUT};
+use given_runs::written::{Counts, Row, gives};
 use std::test::Fail;
 
 static MAJORITY: Row = Row {
@@ -31,36 +32,6 @@ static EXOR: Row = Row {
         gates: 2,
         faults: 20,
         vectors: 6,
-    },
-};
-
-pub static CONSTANT_0: Row = Row {
-    pla: b".i 2\n.o 1\n.e\n",
-    blif: b".model m\n.inputs x1 x2\n.outputs f1\n.names f1\n.end\n",
-    net: ".inputs x1 x2 _c\n.outputs f1\n.names _c f1\n1 1\n.end\n",
-    vectors: b"andexor-vectors 1\nform reddy\ninputs x1 x2 _c\noutputs f1\npolarity 11\nvector 000 0\nvector 001 1\nend\n",
-    counts: Counts {
-        inputs: 2,
-        outputs: 1,
-        terms: 0,
-        gates: 1,
-        faults: 8,
-        vectors: 2,
-    },
-};
-
-pub static CONSTANT_1: Row = Row {
-    pla: b".i 2\n.o 1\n-- 1\n.e\n",
-    blif: b".model m\n.inputs x1 x2\n.outputs f1\n.names f1\n1\n.end\n",
-    net: ".inputs x1 x2 _c\n.outputs f1\n.names _c _m\n0 1\n.names _m f1\n1 1\n.end\n",
-    vectors: b"andexor-vectors 1\nform reddy\ninputs x1 x2 _c\noutputs f1\npolarity 11\nvector 000 1\nvector 001 0\nend\n",
-    counts: Counts {
-        inputs: 2,
-        outputs: 1,
-        terms: 1,
-        gates: 2,
-        faults: 12,
-        vectors: 2,
     },
 };
 
@@ -107,22 +78,6 @@ static TWO_EVEN_AND_ONE_ODD: Row = Row {
         gates: 4,
         faults: 36,
         vectors: 9,
-    },
-};
-
-/// The sum and the carry of two inputs.
-pub static HALF_ADDER: Row = Row {
-    pla: b".i 2\n.o 2\n.ilb a b\n.ob s c\n10 10\n01 10\n11 01\n.e\n",
-    blif: b".model m\n.inputs a b\n.outputs s c\n.names a b s\n10 1\n01 1\n.names a b c\n11 1\n.end\n",
-    net: ".inputs a b _c\n.outputs s c\n.names a b _t1\n11 1\n.names _c a _x1\n10 1\n01 1\n.names _x1 b s\n10 1\n01 1\n.names _c _t1 c\n10 1\n01 1\n.end\n",
-    vectors: b"andexor-vectors 1\nform reddy\ninputs a b _c\noutputs s c\npolarity 11\nvector 000 00\nvector 110 01\nvector 001 11\nvector 111 10\nvector 010 10\nvector 100 10\nend\n",
-    counts: Counts {
-        inputs: 2,
-        outputs: 2,
-        terms: 3,
-        gates: 4,
-        faults: 34,
-        vectors: 6,
     },
 };
 

@@ -1,14 +1,14 @@
 //! Runs that search for a polarity, with advisors: what is written, what each advisor was told, and what is left of it.
 
-use crate::differs::{Differs, Other, assert_all, assert_same};
-use crate::files::{Held, PLA, compare_files, compare_report, run_advised, with_source};
+use crate::asserted::{assert_all, assert_same};
 use ae_base::{Mask, Memory};
 use ae_outside::{MemFiles, MemSink};
 use given::set;
+use given_runs::{Differs, Held, Other, PLA, compare_files, compare_report, with_source, words};
 use polarity::{Advisor, Listed, Negative, Told, Walker};
 use std::alloc::Global;
 use std::test::Fail;
-use synth_cmd::{DONE, TOO_MANY_TERMS};
+use synth_cmd::{DONE, TOO_MANY_TERMS, run};
 
 /// The words of a search.
 const SEARCH: &str = "synth in.pla n.blif v.vec --polarity search";
@@ -74,6 +74,18 @@ fn are_told(advisors: &[Box<dyn Advisor>], asked: &[Asked]) -> bool {
         }
     }
     advisors.len() == asked.len()
+}
+
+/// Runs the words over these files with these advisors, and answers the status.
+fn run_advised(
+    alloc: Global,
+    text: &str,
+    files: &mut MemFiles,
+    report: &mut MemSink,
+    advisors: &mut Vec<Box<dyn Advisor>>,
+) -> Result<u8, Memory> {
+    let words = words(alloc, text)?;
+    Ok(run(alloc, &words, files, report, advisors))
 }
 
 /// Runs over these files, and compares the status and the report, and what became of the advisors.

@@ -1,13 +1,14 @@
 //! Texts at the limits, and past them.
 
-use crate::differs::{Differs, assert_same};
-use crate::files::{BLIF, Given, PLA, with_source};
-use crate::refused::ends;
-use crate::written::{AND, Counts, ONE_INPUT, counts_for, gives_for};
+use crate::asserted::assert_same;
 use ae_base::Memory;
+use given_runs::examples::{AND, ONE_INPUT};
+use given_runs::refused::ends;
+use given_runs::written::{Counts, counts_for, gives_for};
+use given_runs::{BLIF, Differs, Given, PLA, with_source};
 use std::alloc::Global;
 use std::test::Fail;
-use synth_cmd::{DONE, REFUSED, TOO_LONG, TOO_MANY_TERMS};
+use synth_cmd::{REFUSED, TOO_LONG, TOO_MANY_TERMS};
 
 /// The number of bytes of the longest text.
 const LONGEST: usize = 16_777_216;

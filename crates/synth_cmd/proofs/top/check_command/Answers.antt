@@ -6,7 +6,7 @@ use Rattle.synth_cmd.proofs.top.check_command.Goals as goal
 
 pub returns-clause-ends : goal.returns-clause-ends
 returns-clause-ends g c =
-    let e = c.check_work.ensures in
+    let e = c.pair_work.ensures in
     record {
       ending = e.ending;
       complete = is_pair_complete CheckFinds (one_check_found c.check_law.ensures.one) are_checkable c.grade_law.ensures.names _ _ _ _ _ e.ending;
@@ -18,4 +18,4 @@ returns-clause-ends g c =
     }
 
 pub returns-clause-headline : goal.returns-clause-headline
-returns-clause-headline g c done = sound_pair c.check_law.ensures.sound _ _ _ _ _ c.check_work.ensures.ending done
+returns-clause-headline g c done = sound_pair c.check_law.ensures.sound _ _ _ _ _ c.pair_work.ensures.ending done

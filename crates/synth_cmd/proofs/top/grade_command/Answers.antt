@@ -5,7 +5,7 @@ use Rattle.synth_cmd.proofs.top.grade_command.Goals as goal
 
 pub returns : goal.returns
 returns g c =
-    let e = c.grade_work.ensures in
+    let e = c.pair_work.ensures in
     record {
       ending = e.ending;
       complete = is_pair_complete GradeFinds (one_finding c.grade_law.ensures.one) are_gradable c.grade_law.ensures.names _ _ _ _ _ e.ending;

@@ -1,0 +1,12 @@
+use Rattle.pairs.proofs.Selected.{all_places, all_undetectable, all_within}
+use Rattle.pairs.proofs.listed.undetectable_lines.Goals as goal
+
+pub lines_of-requires-clause-places : goal.lines_of-requires-clause-places
+lines_of-requires-clause-places c =
+    all_places c.args.net.now c.args.faults.now (λ fault at. (c.fault_laws.ensures.places c.args.net.now fault c.inputs.ensures.valid).0 at) c.requires
+
+pub lines_of-requires-clause-within : goal.lines_of-requires-clause-within
+lines_of-requires-clause-within c = all_within c.args.net.now c.args.faults.now c.inputs.ensures.valid c.requires
+
+pub lines_of-requires-clause-undetectable : goal.lines_of-requires-clause-undetectable
+lines_of-requires-clause-undetectable c = all_undetectable c.args.net.now c.args.faults.now c.requires

@@ -1,0 +1,40 @@
+-- Undetectable faults as a vector file lists them: by the names of a network, each with its evidence tree.
+use Rattle.std.specs.Prelude.{◌≡◌, ◌<◌, ◌≤◌, List, map}
+use Rattle.std.specs.List.{AllZip}
+use Rattle.ae_net.specs.declared.net.Fault.{Fault}
+use Rattle.ae_net.specs.Faults.{fault_list}
+use Rattle.ae_net.specs.Network.{Network}
+use Rattle.redundancy.specs.declared.TheConstants.{LEAVES}
+use Rattle.redundancy.specs.declared.words.Step.{Step as Letter}
+use Rattle.redundancy.specs.declared.words.Step.TheVariants as letter
+use Rattle.redundancy.specs.Evidence.{IsEvidenceTree, Tree, leaf_count, written}
+use Rattle.pairs.specs.Sites.{place_name}
+use Rattle.test_gen.specs.Selection.{IsSelection}
+use Rattle.test_gen.specs.Undetectable.{IsUndetectable}
+use Rattle.vec_text.specs.declared.file.Idle.{Idle}
+use Rattle.vec_text.specs.declared.file.Shown.{Shown}
+use Rattle.vec_text.specs.declared.file.Shown.TheVariants as shown
+use Rattle.vec_text.specs.declared.file.Step.{Step}
+use Rattle.vec_text.specs.declared.file.Step.TheVariants as step
+
+-- a letter of a word, as the file has it
+abbrev pub step_of : Letter → Step
+step_of letter.S = step.S
+step_of letter.L = step.L
+
+-- the evidence tree of the fault, or `wide` where it has more leaves than are written
+abbrev pub IsShown : Network → Fault → Shown → Type 0
+IsShown n fault (shown.Tree steps) = (tree : Tree) × IsEvidenceTree n fault tree × (steps ≡ map step_of (written tree)) × (leaf_count tree ≤ LEAVES)
+IsShown n fault shown.Wide = (tree : Tree) × IsEvidenceTree n fault tree × (LEAVES < leaf_count tree)
+
+-- a fault as a line of the file tells it
+pub record IsLineOf (n : Network) (fault : Fault) (idle : Idle) : Type 0 where
+  pub place : idle.place ≡ place_name n fault.place
+  pub value : idle.value ≡ fault.value
+  pub is_shown : IsShown n fault idle.shown
+
+-- exactly the undetectable faults, in fault order
+pub record AreUndetectable (n : Network) (lines : List Idle) : Type 0 where
+  pub faults : List Fault
+  pub exactly : IsSelection (IsUndetectable n) (fault_list n) faults
+  pub listed : AllZip (IsLineOf n) faults lines
