@@ -31,9 +31,9 @@ import time
 from typing import NamedTuple
 
 import circuits
+import program
 import synthesis
 
-PROGRAM = os.path.abspath(synthesis.PROGRAM)
 MOST_BYTES = 8 << 30
 # the most seconds that the search for a good polarity of one source may take
 SEARCH_SECONDS = 40.0
@@ -98,7 +98,7 @@ def limit_memory():
 def run(folder, kind, text, options, most):
     with open(os.path.join(folder, "in"), "w") as file:
         file.write(text)
-    words = [PROGRAM, "synth", "in", "net.blif", "net.vec", "--kind", kind, *options]
+    words = [program.PROGRAM, "synth", "in", program.NET, program.VEC, "--kind", kind, *options]
     with open(os.path.join(folder, "report"), "w+") as report:
         start = time.perf_counter()
         child = subprocess.Popen(words, cwd=folder, stdout=report, stderr=subprocess.STDOUT, preexec_fn=limit_memory)
@@ -155,8 +155,7 @@ def ends_in_time(folder, source, polarity, options, most):
 
 
 def main(most, words):
-    if not os.access(PROGRAM, os.X_OK):
-        print(f"there is no {PROGRAM} (rt run in crates/andexor builds it)")
+    if program.is_missing():
         return 2
     asked = [source for source in sources() if not words or any(word in source.name for word in words)]
     with tempfile.TemporaryDirectory() as folder:

@@ -12,20 +12,16 @@ rows of minterms. From outside only the whole program can be timed, so the scrip
   reads it, expands all outputs, and refuses it before it makes a network (status 7); what is left after reading (measured for these rows
   too) is divided by the number of outputs. The limit on seconds is on this.
 
-Each source is run RUNS times (by default 5), and the least wall seconds count. The program is the one that `rt run` or `rt ci` left in
+Each source is run RUNS times (by default 5), and the least processor seconds count. The program is the one that `rt run` or `rt ci` left in
 crates/andexor/out, or that the variable ANDEXOR names. The status is 0 where the expansions keep the limits, 1 where one does not or a
 run ends otherwise than the list says, and 2 where the program is missing.
 """
-import os
 import random
-import subprocess
 import sys
 import tempfile
-import time
 from typing import NamedTuple
 
-HERE = os.path.dirname(os.path.dirname(os.path.abspath(__file__)))
-PROGRAM = os.environ.get("ANDEXOR", os.path.join(HERE, "crates/andexor/out/andexor"))
+import program
 
 
 class Case(NamedTuple):
@@ -51,16 +47,13 @@ def text(inputs, outputs, lines, end):
 
 def least_seconds(folder, source, status, runs):
     """The least time of the runs, each of which must end with the status."""
-    with open(os.path.join(folder, "in.pla"), "w") as file:
-        file.write(source)
-    words = [os.path.abspath(PROGRAM), "synth", "in.pla", "net.blif", "net.vec"]
+    path = program.write(folder, "in.pla", source)
     times = []
     for _ in range(runs):
-        start = time.perf_counter()
-        run = subprocess.run(words, cwd=folder, capture_output=True, text=True)
-        times.append(time.perf_counter() - start)
-        if run.returncode != status:
-            sys.exit(f"status {run.returncode}, not {status}: {run.stdout.strip()}")
+        done = program.synth(folder, path)
+        times.append(done.seconds)
+        if done.status != status:
+            sys.exit(f"status {done.status}, not {status}: {done.report.strip()}")
     return min(times)
 
 
@@ -81,8 +74,7 @@ def keeps_limit(folder, case, runs):
 
 
 def main(runs):
-    if not os.access(PROGRAM, os.X_OK):
-        print(f"there is no {PROGRAM} (rt run in crates/andexor builds it)")
+    if program.is_missing():
         return 2
     with tempfile.TemporaryDirectory() as folder:
         kept = [keeps_limit(folder, case, runs) for case in CASES]

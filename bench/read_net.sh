@@ -4,26 +4,20 @@
 #   bench/read_net.sh [SOURCE ...]
 #
 # For each source, a PLA text or one of BLIF by its name's ending (by default those in bench/sources), the program writes the
-# netlist. Berkeley ABC (Debian's `berkeley-abc`) and yosys read it, and a BLIF source too. Then ABC's `cec` compares the
-# netlist, its control tied to 0, with the source: a BLIF source as it stands; of a PLA each output is taken as the OR of the
-# rows that have a 1 for it, so that a free point is 0, as it is in the netlist. bench/fault_sim.py, an independent fault
-# simulator, grades the netlist against its vectors. The program is the one that `rt run` or `rt ci` left in
-# crates/andexor/out, or that the variable ANDEXOR names. The status is 1 where a tool does not read a text, `cec` does not
-# find it equivalent, or a response is wrong or a fault is missed; and 2 where the program or a tool is missing: the script
-# says which, and leaves out what ABC or yosys would do.
+# netlist in both forms. Berkeley ABC (Debian's `berkeley-abc`) and yosys read it, and a BLIF source too. Then ABC's `cec`
+# compares the netlist, in Reddy form its control tied to 0, with the source: a BLIF source as it stands; of a PLA each output is
+# taken as the OR of the rows that have a 1 for it, so that a free point is 0, as it is in the netlist. bench/fault_sim.py, an
+# independent fault simulator, grades the netlist against its vectors: no response may be wrong, and no fault missed but those
+# that the vector file of the factored form lists. Of the factored form `cec` also compares the `esop` lines with the source, and
+# the number of cubes is printed beside those of ABC's `&exorcism` on the same source, whose cubes `cec` compares too: those
+# of each output alone, added up, as they are counted here, and those of all outputs where they share cubes.
+# The program is the one that `rt run` or `rt ci` left in crates/andexor/out, or that the variable ANDEXOR names. The status is 1
+# where a tool does not read a text, `cec` does not find it equivalent, or the simulator finds another list of faults; and 2
+# where the program or a tool is missing: the script says which, and leaves out what ABC or yosys would do.
 set -u
-here=$(cd "$(dirname "$0")/.." && pwd)
-program=${ANDEXOR:-$here/crates/andexor/out/andexor}
-if [ ! -x "$program" ]; then
-    echo "there is no $program (rt run in crates/andexor builds it)"
-    exit 2
-fi
-program=$(realpath "$program")
-if ! command -v python3 >/dev/null; then
-    echo "python3 is missing, which ties the control and writes a PLA as BLIF"
-    exit 2
-fi
-status=0
+# shellcheck source=bench/program.sh
+. "$(dirname "$0")/program.sh"
+needs python3
 missing=0
 abc=$(command -v berkeley-abc || command -v abc || true)
 yosys=$(command -v yosys || true)
@@ -41,16 +35,6 @@ trap 'rm -rf "$folder"' EXIT
 sources=("$@")
 [ ${#sources[@]} -gt 0 ] || sources=("$here"/bench/sources/*.pla "$here"/bench/sources/*.blif)
 
-# says NAME WHETHER GOOD BAD: the line of one comparison, which is good where WHETHER is 0
-says() {
-    if [ "$2" = 0 ]; then
-        echo "$1: $3"
-    else
-        echo "$1: $4"
-        status=1
-    fi
-}
-
 # reads NAME TEXT WHAT: ABC and yosys read the text
 reads() {
     if [ -n "$abc" ]; then
@@ -63,6 +47,34 @@ reads() {
     fi
 }
 
+# equals NAME TEXT WHAT: ABC finds the text equivalent to the source
+equals() {
+    [ -n "$abc" ] || return
+    "$abc" -q "cec $folder/source.blif $2" 2>&1 | grep -q "Networks are equivalent"
+    says "$1" $? "cec finds $3 equivalent to the source" "cec does not find $3 equivalent to the source"
+}
+
+# graded NAME: the simulator finds each response right, and misses exactly the faults that the vector file lists
+graded() {
+    python3 "$here/bench/fault_sim.py" "$folder/net.blif" "$folder/net.vec" >"$folder/graded"
+    sed -n 's/^unchanged \(.*\) [^ ]*$/missed \1/p' "$folder/net.vec" | cmp -s - <(grep '^missed' "$folder/graded") &&
+        grep -q ' wrong 0 ' "$folder/graded"
+    says "$1" $? "simulated: $(head -n 1 "$folder/graded"), as the vector file says" "simulated: $(cat "$folder/graded")"
+}
+
+# cubes NAME: the cubes of the factored form mean the source, and how many ABC has
+cubes() {
+    python3 "$here/bench/as_blif.py" cubes "$folder/net.vec" >"$folder/cubes.blif"
+    equals "$1" "$folder/cubes.blif" "the EXOR of the cubes"
+    [ -n "$abc" ] || return
+    local outputs others
+    outputs=$(sed -n 's/^outputs //p' "$folder/net.vec" | wc -w)
+    others=$(python3 "$here/bench/berkeley.py" exorcism "$folder/source.blif" "$outputs" "$folder/others.esop")
+    python3 "$here/bench/as_blif.py" sum "$folder/others.esop" "$folder/net.vec" >"$folder/others.blif"
+    equals "$1" "$folder/others.blif" "the EXOR of the cubes of &exorcism"
+    echo "$1: $(grep '^cubes' "$folder/report") of $(grep '^terms' "$folder/report"); &exorcism: $others"
+}
+
 for source in "${sources[@]}"; do
     name=$(basename "$source")
     kind=${name##*.}
@@ -70,61 +82,28 @@ for source in "${sources[@]}"; do
         status=1
         continue
     fi
-    if ! (cd "$folder" && "$program" synth "in.$kind" net.blif net.vec --kind "$kind" >report); then
-        echo "$name: andexor: $(cat "$folder/report")"
-        status=1
-        continue
+    if [ "$kind" = pla ]; then
+        python3 "$here/bench/as_blif.py" cover "$folder/in.pla" >"$folder/source.blif"
+    else
+        cp "$folder/in.blif" "$folder/source.blif"
+        reads "$name" "$folder/in.blif" source
     fi
-    python3 - "$folder" "$kind" <<'TEXTS'
-import shutil
-import sys
-
-folder, kind = sys.argv[1:]
-
-# the netlist with its control, the last input, as a constant 0
-lines = open(folder + "/net.blif").read().split("\n")
-inputs = lines[1].split()
-lines[1] = " ".join(inputs[:-1])
-lines.insert(3, ".names " + inputs[-1])
-open(folder + "/low.blif", "w").write("\n".join(lines))
-
-
-def write_cover():
-    """A PLA: each output is the OR of the rows that have a 1 for it."""
-    outputs = lines[2].split()[1:]
-    n = len(inputs) - 2
-    rows = []
-    for line in open(folder + "/in.pla"):
-        line = line.split("#")[0].strip()
-        if line and not line.startswith("."):
-            characters = line.replace("|", "").replace(" ", "").replace("\t", "")
-            rows.append((characters[:n].replace("2", "-"), characters[n:]))
-        elif line.split()[:1] in ([".e"], [".end"]):
-            break
-    with open(folder + "/source.blif", "w") as source:
-        source.write(".model andexor\n" + lines[1] + "\n" + lines[2] + "\n")
-        for o, output in enumerate(outputs):
-            on = [literals + " 1\n" for literals, marks in rows if marks[o] in "14"]
-            # ABC takes no table with pins and without rows
-            source.write(".names " + " ".join((inputs[1:-1] if on else []) + [output]) + "\n")
-            source.writelines(on)
-        source.write(".end\n")
-
-
-if kind == "pla":
-    write_cover()
-else:
-    shutil.copy(folder + "/in.blif", folder + "/source.blif")
-TEXTS
-    reads "$name" "$folder/net.blif" netlist
-    [ "$kind" = pla ] || reads "$name" "$folder/in.blif" source
-    if [ -n "$abc" ]; then
-        "$abc" -q "cec $folder/source.blif $folder/low.blif" 2>&1 | grep -q "Networks are equivalent"
-        says "$name" $? "cec finds it equivalent to the source with the control at 0" \
-            "cec does not find it equivalent to the source"
-    fi
-    graded=$(python3 "$here/bench/fault_sim.py" "$folder/net.blif" "$folder/net.vec")
-    says "$name" $? "simulated: $graded" "simulated: $graded"
+    for form in reddy factored; do
+        if ! (cd "$folder" && "$program" synth "in.$kind" net.blif net.vec --kind "$kind" --form "$form" >report); then
+            echo "$name: andexor: $(cat "$folder/report")"
+            status=1
+            continue
+        fi
+        reads "$name, $form" "$folder/net.blif" netlist
+        if [ "$form" = reddy ]; then
+            python3 "$here/bench/as_blif.py" low "$folder/net.blif" >"$folder/low.blif"
+            equals "$name, $form" "$folder/low.blif" "the netlist, its control at 0,"
+        else
+            equals "$name, $form" "$folder/net.blif" "the netlist"
+            cubes "$name, $form"
+        fi
+        graded "$name, $form"
+    done
 done
 [ "$status" != 0 ] || status=$missing
 exit "$status"

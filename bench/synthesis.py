@@ -6,7 +6,7 @@
 The families grow step by step: symmetric functions (parity, majority, exactly half), adders, multipliers, weight counters, and random
 tables of 10 to 14 inputs, each written as a PLA of its minterms, as the tool that makes tables would; and ripple adders and multipliers
 as the BLIF of bench/circuits.py. For each the script prints the numbers of inputs, outputs, rows or source gates, terms, gates, faults
-and vectors, the wall seconds of the synthesis, and, where the network is small enough, what bench/fault_sim.py finds: vectors with a
+and vectors, the processor seconds of the synthesis, and, where the network is small enough, what bench/fault_sim.py finds: vectors with a
 wrong response and faults that no vector detects. At the end it says, family by family, how the time grows with the rows or source gates
 and with the terms: the exponent of the best fitting power. A family ends where a synthesis takes more than SECONDS (by default 20), or
 where its expansions have too many terms (status 7), which it says.
@@ -15,18 +15,16 @@ The program is the one that `rt run` or `rt ci` left in crates/andexor/out, or t
 responses are right and no fault is missed, 1 where one is not, and 2 where the program is missing.
 """
 import math
-import os
 import random
-import subprocess
 import sys
 import tempfile
-import time
 from typing import NamedTuple
 
 import circuits
+import fault_sim
+import program
 
-HERE = os.path.dirname(os.path.dirname(os.path.abspath(__file__)))
-PROGRAM = os.environ.get("ANDEXOR", os.path.join(HERE, "crates/andexor/out/andexor"))
+NUMBERS = ("terms", "gates", "faults", "vectors")
 # faults times gates that the simulator is asked for
 MOST_STEPS = 12_000_000
 
@@ -111,26 +109,13 @@ FAMILIES = {
 }
 
 
-def synthesise(folder, source):
-    with open(os.path.join(folder, "in"), "w") as text:
-        text.write(source.text)
-    words = [os.path.abspath(PROGRAM), "synth", "in", "net.blif", "net.vec", "--kind", source.kind]
-    start = time.perf_counter()
-    run = subprocess.run(words, cwd=folder, capture_output=True, text=True)
-    seconds = time.perf_counter() - start
-    return run.returncode, run.stdout, seconds
-
-
-def numbers_of(report):
-    words = report.split()
-    return {name: int(words[words.index(name) + 1]) for name in ("terms", "gates", "faults", "vectors")}
-
-
 def graded(folder):
-    grade = subprocess.run(
-        [sys.executable, os.path.join(HERE, "bench/fault_sim.py"), "net.blif", "net.vec"], cwd=folder, capture_output=True, text=True
-    )
-    return grade.returncode == 0, grade.stdout.split("\n")[0]
+    """Whether the simulator finds all responses right and no fault missed, and what it finds."""
+    net = fault_sim.read_net(f"{folder}/{program.NET}")
+    found = fault_sim.grading(net, fault_sim.read_vectors(f"{folder}/{program.VEC}"))
+    missed = len(found.missed())
+    text = f"vectors {found.vectors} wrong {found.wrong} faults {len(found.faults)} missed {missed}"
+    return found.wrong == 0 and missed == 0, text
 
 
 def exponent(points):
@@ -151,30 +136,29 @@ def bench(folder, name, most):
     by_size, by_terms, good = [], [], True
     for n in sizes:
         source = make(n)
-        status, report, seconds = synthesise(folder, source)
+        made = program.synth(folder, program.write(folder, "in." + source.kind, source.text))
         head = f"{name} {n}: inputs {source.inputs} outputs {source.outputs} {source.unit} {source.size}"
-        if status != 0:
-            print(f"{head}: status {status}: {report.strip()}")
-            good = good and status == 7
+        if made.status != 0:
+            print(f"{head}: status {made.status}: {made.report.strip()}")
+            good = good and made.status == program.TOO_MANY_TERMS
             break
-        found = numbers_of(report)
-        by_size.append((source.size, seconds))
-        by_terms.append((found["terms"], seconds))
-        line = f"{head} " + " ".join(f"{word} {value}" for word, value in found.items()) + f" seconds {seconds:.2f}"
+        found = {number: made.number(number) for number in NUMBERS}
+        by_size.append((source.size, made.seconds))
+        by_terms.append((found["terms"], made.seconds))
+        line = f"{head} " + " ".join(f"{word} {value}" for word, value in found.items()) + f" seconds {made.seconds:.2f}"
         if found["faults"] * found["gates"] <= MOST_STEPS:
             right, text = graded(folder)
             good = good and right
             line += f"; simulated: {text}"
         print(line, flush=True)
-        if seconds > most:
+        if made.seconds > most:
             break
     print(f"{name}: the time grows with the {source.unit} to the power {exponent(by_size)}, with the terms to the power {exponent(by_terms)}")
     return good
 
 
 def main(most):
-    if not os.access(PROGRAM, os.X_OK):
-        print(f"there is no {PROGRAM} (rt run in crates/andexor builds it)")
+    if program.is_missing():
         return 2
     good = True
     with tempfile.TemporaryDirectory() as folder:
