@@ -5,7 +5,7 @@
 
 An example is a block between a line ```console and a line ```. In it a line that begins with `$ ` is a command, and the lines up to the next
 one are exactly what the command prints, on standard output and standard error together. The blocks of a file run in their order in one
-folder, in which the files of this repository stand as at its top, and each block in one shell, with the program as `andexor`. So an example
+folder, in which the files of this repository stand as at its top, and each block in one shell. So an example
 shows a file that was written by a command that prints it. Other blocks, as those of formats, are not run.
 
 By default it takes README.md, and there each mode that the program's usage line names has to have an example, but one that the program does
@@ -56,9 +56,13 @@ def examples(path):
 def run(folder, commands):
     """What each command prints, all in one shell, so that the status of one stands for the next."""
     marked = "".join(f"{command}\nleft=$?; printf '\\036'; (exit $left)\n" for command in commands)
-    path = os.path.join(folder, ".bin") + os.pathsep + os.environ["PATH"]
     done = subprocess.run(
-        ["bash", "-c", marked], cwd=folder, stdout=subprocess.PIPE, stderr=subprocess.STDOUT, env={**os.environ, "PATH": path}, check=False
+        ["bash", "-c", marked],
+        cwd=folder,
+        stdout=subprocess.PIPE,
+        stderr=subprocess.STDOUT,
+        env={**os.environ, "ANDEXOR": program.PROGRAM},
+        check=False,
     )
     return done.stdout.decode("utf-8", "replace").split(MARK)[:-1]
 
@@ -79,11 +83,9 @@ def missing_tools(example):
 
 
 def set_up(folder):
-    """The repository's files as at its top, and the program as `andexor`."""
+    """The repository's files as at its top, among them the command `andexor`, which runs the program that the variable ANDEXOR names."""
     for name in os.listdir(program.HERE):
         os.symlink(os.path.join(program.HERE, name), os.path.join(folder, name))
-    os.mkdir(os.path.join(folder, ".bin"))
-    os.symlink(program.PROGRAM, os.path.join(folder, ".bin", "andexor"))
 
 
 def modes_without(found):
@@ -93,7 +95,7 @@ def modes_without(found):
         usage = program.run(folder, []).report
         for mode in usage.removeprefix("usage: andexor ").strip().split(", "):
             words = ["1" if word == "NUMBER" else word.lower() for word in mode.split()]
-            if any("andexor" in command and words[0] in command for command in commands):
+            if any("./andexor" in command and words[0] in command for command in commands):
                 continue
             if program.run(folder, words).report == usage:
                 print(f"the program does not know {words[0]} yet")

@@ -34,7 +34,8 @@ exor_of_some h (t ∷ ts) e = by_head (h t) refl (exor_of_some h ts)
 
 -- ---- by a count
 
-odd-suc : (n : ℕ) → eqb ((1 + n) % 2) 1 ≡ not (eqb (n % 2) 1)
+-- one more turns odd to even
+pub odd-suc : (n : ℕ) → eqb ((1 + n) % 2) 1 ≡ not (eqb (n % 2) 1)
 odd-suc n =
     elim (cases_eq (n % 2) 1) [
       | inl odd ↦ ne_eqb ((1 + n) % 2) 1 (λ again. absurd (omega (arith, odd, again))) ∙ ap not (sym (eq-eqb (n % 2) 1 odd))

@@ -9,6 +9,7 @@ use Rattle.std.proofs.lemmas.List.Kept.{AllPairs-cons}
 use Rattle.ae_base.specs.Mask.{Set, cmp_terms}
 use Rattle.ae_base.specs.Terms.{IsInOrder, placed, in_order}
 use Rattle.ae_base.proofs.Order.{cmp_terms_total, cmp_equal, less_trans, less_irreflexive}
+use Rattle.ae_base.proofs.Truth.{or-front}
 
 pub less_from_sorted : (s t : Set) → is_lt (cmp_terms t s) ≡ false → s ≢ t → cmp_terms s t ≡ Less
 less_from_sorted s t h ne = by_order (cmp_terms s t) refl
@@ -137,12 +138,6 @@ or_again true true c e = refl
 or_again true false c e = absurd (false≢true (sym e))
 or_again false b c e = refl
 
-or_swap : (a b c : Bool) → (b || (a || c)) ≡ (a || (b || c))
-or_swap true true c = refl
-or_swap true false c = refl
-or_swap false true c = refl
-or_swap false false c = refl
-
 -- a test finds the same terms among them
 pub any-placed : (q : Set → Bool) (t : Set) (us : List Set) → list_any q (placed t us) ≡ (q t || list_any q us)
 any-placed q t [] = refl
@@ -151,7 +146,7 @@ any-placed q t (u ∷ us) = by_same (eqb t u) refl (is_lt (cmp_terms t u)) (any-
     by_same : (b : Bool) → eqb t u ≡ b → (c : Bool) → list_any q (placed t us) ≡ (q t || list_any q us) → list_any q (cond b (u ∷ us) (cond c (t ∷ u ∷ us) (u ∷ placed t us))) ≡ (q t || (q u || list_any q us))
     by_same true e c h = or_again (q t) (q u) (list_any q us) (ap q (eqb-true t u e))
     by_same false e true h = refl
-    by_same false e false h = ap (λ b. q u || b) h ∙ or_swap (q t) (q u) (list_any q us)
+    by_same false e false h = ap (λ b. q u || b) h ∙ or-front (q u) (q t) (list_any q us)
 
 pub any-in_order : (q : Set → Bool) (ts : List Set) → list_any q (in_order ts) ≡ list_any q ts
 any-in_order q [] = refl

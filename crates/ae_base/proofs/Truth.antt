@@ -16,6 +16,13 @@ pub or-true : (a : Bool) → (a || true) ≡ true
 or-true true = refl
 or-true false = refl
 
+-- the second comes first
+pub or-front : (a b c : Bool) → (a || (b || c)) ≡ (b || (a || c))
+or-front true true c = refl
+or-front true false c = refl
+or-front false true c = refl
+or-front false false c = refl
+
 pub no_and : (a b : Bool) → (a && b) ≡ false → a ≡ true → b ≡ false
 no_and true b h e = h
 no_and false b h e = absurd (false≢true e)
@@ -38,6 +45,12 @@ differ-same false = refl
 pub differ-false : (a : Bool) → differ a false ≡ a
 differ-false true = refl
 differ-false false = refl
+
+-- once more undoes it
+pub differ-back : (a b : Bool) → differ a (differ a b) ≡ b
+differ-back true true = refl
+differ-back true false = refl
+differ-back false b = refl
 
 pub differ-flip : (a b : Bool) → differ a b ≡ differ b a
 differ-flip true true = refl
@@ -65,6 +78,10 @@ differ-past a b c = differ-assoc a b c ∙ differ-front a b c
 pub differ-swap : (a b c d : Bool) → differ (differ a b) (differ c d) ≡ differ (differ a c) (differ b d)
 differ-swap a b c d = differ-assoc a b (differ c d) ∙ ap (differ a) (differ-front b c d) ∙ sym (differ-assoc a c (differ b d))
 
+-- what both have cancels
+pub differ-cancel : (a b c : Bool) → differ (differ a b) (differ a c) ≡ differ b c
+differ-cancel a b c = differ-swap a b a c ∙ ap (λ d. differ d (differ b c)) (differ-same a)
+
 pub differ-not_right : (a b : Bool) → differ a (not b) ≡ not (differ a b)
 differ-not_right true b = refl
 differ-not_right false b = refl
@@ -81,6 +98,10 @@ and-differ true true false = refl
 and-differ true false true = refl
 and-differ true false false = refl
 and-differ false b c = refl
+
+pub and-over_differ : (a b c : Bool) → (a && differ b c) ≡ differ (a && b) (a && c)
+and-over_differ true b c = refl
+and-over_differ false b c = refl
 
 pub differ_true : (a b : Bool) → differ a b ≡ true → a ≡ true → b ≡ false
 differ_true true b h e = not-true b h

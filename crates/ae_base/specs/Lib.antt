@@ -1,8 +1,14 @@
 pub mod Cube
+pub mod Digits
+pub mod Form
+pub mod Halves
 pub mod Lists
 pub mod Mask
 pub mod Name
 pub mod Order
+pub mod Points
+pub mod Plain
 pub mod Source
 pub mod Terms
 pub mod Text
+pub mod Twins

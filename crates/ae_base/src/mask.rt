@@ -1,5 +1,5 @@
 //! A set of small numbers: the inputs that are 1 at a point, or the members of a term.
-ghost use Rattle.std.specs.Prelude.{◌≡◌, ◌<◌, ◌≤◌, ◌==◌, All, IfSome};
+ghost use Rattle.std.specs.Prelude.{◌≡◌, ◌<◌, ◌≤◌, ◌==◌, ◌-◌, ◌^◌, All, IfSome};
 ghost use Rattle.std.specs.Iterator.{YieldsFirst, item_count};
 ghost use Rattle.ae_base.specs.Mask as set;
 
@@ -7,25 +7,34 @@ use crate::limits::WIDTH;
 use std::cmp::Ordering;
 use std::marker::Model;
 
+/// How many numbers each half of a set is for.
+const HALF: u32 = 128;
+
 /// A set of numbers below `WIDTH`. `<` and `sort` put sets in the order of terms (`cmp_terms`).
 ///
 /// No call takes memory, and none refuses.
 #[derive(Clone, Copy, Debug, Hash)]
 pub struct Mask {
-    bits: u128,
+    /// The members below `HALF`, by binary digits.
+    low: u128,
+    /// The members from `HALF` on, each `HALF` places lower.
+    high: u128,
 }
 
 impl Model for Mask {
     ghost use Rattle.ae_base.specs.Mask.{Set};
+    ghost use Rattle.ae_base.specs.Halves.{joined, low_of, high_of, low_of-joined, high_of-joined};
     ghost use Rattle.std.specs.Prelude.{◌<◌, ◌^◌};
 
     ghost Value = { Set };
 
-    ghost view = { λ m. m.bits };
+    ghost view = { λ m. joined m.high m.low };
 
-    ghost invariant = { λ m. m.bits < 2 ^ 128 };
+    ghost invariant = { λ m. (m.low < 2 ^ 128) × (m.high < 2 ^ 128) };
 
-    ghost inverse = { λ s. record { bits = s } };
+    ghost inverse = { λ s. record { low = low_of s; high = high_of s } };
+
+    ghost inverse_ok = { λ m h i. record { low = low_of-joined m.high m.low h.0 i; high = high_of-joined m.high m.low h.0 i } };
 }
 
 impl PartialEq for Mask {
@@ -37,7 +46,7 @@ impl PartialEq for Mask {
     ghost laws = { partial_equiv_from_equiv nat_eq_equiv };
 
     fn eq(&self, other: &Mask) -> bool {
-        self.bits == other.bits
+        self.low == other.low && self.high == other.high
     }
 }
 
@@ -78,13 +87,21 @@ impl PartialOrd for Mask {
     }
 }
 
+/// The number of `n` binary digits 1.
+fn ones(n: u32) -> u128
+    requires { n ≤ HALF }
+    ensures { result ≡ 2 ^ n - 1 }
+{
+    if n == HALF { u128::MAX } else { (1 << n) - 1 }
+}
+
 impl Mask {
     /// The set of no numbers.
     #[tactic(auto, unfolding(crate::specs::Mask::empty))]
     pub fn empty() -> Mask
         ensures { result ≡ set.empty }
     {
-        Mask { bits: 0 }
+        Mask { low: 0, high: 0 }
     }
 
     /// The numbers below `n`.
@@ -93,22 +110,44 @@ impl Mask {
         requires { n ≤ WIDTH }
         ensures { result ≡ set.first n }
     {
-        if n == WIDTH {
-            Mask { bits: u128::MAX }
+        if n < HALF {
+            Mask {
+                low: ones(n),
+                high: 0,
+            }
         } else {
-            Mask { bits: (1 << n) - 1 }
+            Mask {
+                low: ones(HALF),
+                high: ones(n - HALF),
+            }
+        }
+    }
+
+    /// The set of `j` alone.
+    fn one(j: u32) -> Mask
+        requires { j < WIDTH }
+        ensures { result ≡ 2 ^ j }
+    {
+        if j < HALF {
+            Mask {
+                low: 1 << j,
+                high: 0,
+            }
+        } else {
+            Mask {
+                low: 0,
+                high: 1 << (j - HALF),
+            }
         }
     }
 
     /// The set with `j` as a member.
-    #[tactic(auto, unfolding(crate::specs::Mask::with))]
+    #[tactic(auto, unfolding(crate::specs::Mask::with, crate::specs::Mask::either))]
     pub fn with(self, j: u32) -> Mask
         requires { j < WIDTH }
         ensures { result ≡ set.with self j }
     {
-        Mask {
-            bits: self.bits | (1 << j),
-        }
+        self.or(Mask::one(j))
     }
 
     /// The set without `j`.
@@ -116,56 +155,57 @@ impl Mask {
         requires { j < WIDTH }
         ensures { result ≡ set.without self j }
     {
-        Mask {
-            bits: self.bits & !(1 << j),
-        }
+        self.xor(self.both(Mask::one(j)))
     }
 
     /// Whether `j` is a member. It is not for `j` from `WIDTH` on.
-    #[tactic(auto, using(crate::proofs::Members::has_above), unfolding(crate::specs::Mask::has))]
     pub fn has(self, j: u32) -> bool
         ensures { result ≡ set.has self j }
     {
-        let bits = self.bits;
-        j < WIDTH && (bits >> j) & 1 == 1
+        let (low, high) = (self.low, self.high);
+        if j < HALF {
+            (low >> j) & 1 == 1
+        } else {
+            j < WIDTH && (high >> (j - HALF)) & 1 == 1
+        }
     }
 
     /// The intersection.
-    #[tactic(auto, unfolding(crate::specs::Mask::both))]
     pub fn both(self, other: Mask) -> Mask
         ensures { result ≡ set.both self other }
     {
         Mask {
-            bits: self.bits & other.bits,
+            low: self.low & other.low,
+            high: self.high & other.high,
         }
     }
 
     /// The union.
-    #[tactic(auto, unfolding(crate::specs::Mask::either))]
     pub fn or(self, other: Mask) -> Mask
         ensures { result ≡ set.either self other }
     {
         Mask {
-            bits: self.bits | other.bits,
+            low: self.low | other.low,
+            high: self.high | other.high,
         }
     }
 
     /// The symmetric difference.
-    #[tactic(auto, unfolding(crate::specs::Mask::xor))]
     pub fn xor(self, other: Mask) -> Mask
         ensures { result ≡ set.xor self other }
     {
         Mask {
-            bits: self.bits ^ other.bits,
+            low: self.low ^ other.low,
+            high: self.high ^ other.high,
         }
     }
 
     /// Whether the set is a subset of `other`.
-    #[tactic(auto, unfolding(crate::specs::Mask::inside, crate::specs::Mask::both))]
+    #[tactic(auto, unfolding(crate::specs::Mask::inside))]
     pub fn inside(self, other: Mask) -> bool
         ensures { result ≡ set.inside self other }
     {
-        self.bits & other.bits == self.bits
+        self.both(other) == self
     }
 
     /// The least member, where there is one.
@@ -173,11 +213,14 @@ impl Mask {
         ensures least { result ≡ set.least self }
         ensures below { IfSome result (λ j. j < WIDTH) }
     {
-        let bits = self.bits;
-        if bits == 0 {
-            return None;
+        let (low, high) = (self.low, self.high);
+        if low != 0 {
+            return Some(low.trailing_zeros());
         }
-        Some(bits.trailing_zeros())
+        if high != 0 {
+            return Some(HALF + high.trailing_zeros());
+        }
+        None
     }
 
     /// The members in increasing order, for loops.
@@ -185,26 +228,25 @@ impl Mask {
         ensures members { result ≡ set.members self }
         ensures below { All (λ j. j < WIDTH) result }
     {
-        let Mask { bits } = self;
+        let Mask { low, high } = self;
         MaskIter {
-            rest: Mask { bits },
+            rest: Mask { low, high },
         }
     }
 
     /// Whether there is no member.
-    #[tactic(auto, unfolding(crate::specs::Mask::empty))]
     pub fn is_empty(self) -> bool
         ensures len { result ≡ (set.len self == 0) }
         ensures empty { result ≡ (self == set.empty) }
     {
-        self.bits == 0
+        self == Mask::empty()
     }
 
     /// The number of members.
     pub fn len(self) -> u32
         ensures { result ≡ set.len self }
     {
-        self.bits.count_ones()
+        self.low.count_ones() + self.high.count_ones()
     }
 
     /// The order of terms: fewer members come first. Among equally many, the increasing lists of members are compared lexicographically.
@@ -217,14 +259,15 @@ impl Mask {
         if other.len() < self.len() {
             return Ordering::Greater;
         }
-        if self.bits == other.bits {
-            return Ordering::Equal;
-        }
-        let apart = (self.bits ^ other.bits).trailing_zeros();
-        if self.has(apart) {
-            Ordering::Less
-        } else {
-            Ordering::Greater
+        match self.xor(other).least() {
+            None => Ordering::Equal,
+            Some(apart) => {
+                if self.has(apart) {
+                    Ordering::Less
+                } else {
+                    Ordering::Greater
+                }
+            }
         }
     }
 }

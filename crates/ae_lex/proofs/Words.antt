@@ -8,7 +8,8 @@ use Rattle.ae_lex.specs.declared.text.Style.TheVariants.{Pla, Blif}
 use Rattle.ae_lex.specs.declared.text.Span.{Span}
 use Rattle.ae_lex.specs.declared.text.Line.{Line}
 use Rattle.ae_lex.specs.Lines.{Physical, led_by, physical, grown, words_at, joined_to, joined, has_words, lines_of}
-use Rattle.ae_lex.specs.Words.{is_blank, joins_next, said, trimmed, uncommented, ends_open, physical_lines, last_line, words, WordLine, before_next, joined_lines, says_something, word_lines, cut, cut_line}
+use Rattle.ae_lex.specs.Words.{is_blank, joins_next, said, trimmed, uncommented, ends_open, physical_lines, last_line, words, WordLine, before_next, joined_lines, says_something, word_lines}
+use Rattle.ae_lex.specs.Lines.{cut, cut_line}
 use Rattle.ae_lex.proofs.Cuts.{StartsFrom, starts_from, grown_apart}
 use Rattle.ae_lex.proofs.Inside.{Within, AllWithin, words_within, StartsAt, physical_fits}
 

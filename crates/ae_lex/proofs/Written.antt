@@ -10,7 +10,9 @@ use Rattle.ae_base.specs.Name.{is_allowed}
 use Rattle.ae_base.specs.Text.{spaced, text_of}
 use Rattle.ae_lex.specs.declared.text.Style.{Style}
 use Rattle.ae_lex.specs.declared.text.Style.TheVariants.{Pla, Blif}
-use Rattle.ae_lex.specs.Words.{is_blank, joins_next, said, trimmed, uncommented, ends_open, physical_lines, last_line, words, WordLine, joined_lines, says_something, word_lines, is_plain, IsPlainLine, numbered}
+use Rattle.ae_base.specs.Plain.{is_plain}
+use Rattle.ae_lex.specs.Words.{is_blank, joins_next, said, trimmed, uncommented, ends_open, physical_lines, last_line, words, WordLine, joined_lines, says_something, word_lines}
+use Rattle.ae_lex.specs.Written.{IsPlainLine, numbered}
 use Rattle.ae_lex.proofs.Words.{filled, filled_some}
 
 -- ---- bytes

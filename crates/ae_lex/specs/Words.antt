@@ -1,11 +1,8 @@
 -- The lines of a text in words.
-use Rattle.std.specs.Prelude.{◌≡◌, ℕ, suc, ◌<◌, ◌-◌, ◌==◌, Bool, true, false, not, ◌&&◌, ◌||◌, if◌then◌else◌, List, [], ◌∷◌, ◌++◌, length, map, filter, take, slice_index, slice_range, All}
-use Rattle.std.specs.List.{list_all, before_first, suffix_len, onto_first, slice_split}
-use Rattle.ae_base.specs.Name.{is_allowed}
+use Rattle.std.specs.Prelude.{ℕ, suc, ◌-◌, ◌==◌, Bool, false, not, ◌&&◌, ◌||◌, if◌then◌else◌, List, [], ◌∷◌, ◌++◌, length, filter, take, slice_index}
+use Rattle.std.specs.List.{before_first, suffix_len, onto_first, slice_split}
 use Rattle.ae_lex.specs.declared.text.Style.{Style}
 use Rattle.ae_lex.specs.declared.text.Style.TheVariants.{Pla, Blif}
-use Rattle.ae_lex.specs.declared.text.Span.{Span}
-use Rattle.ae_lex.specs.declared.text.Line.{Line}
 
 -- ---- physical lines and words
 
@@ -73,27 +70,3 @@ says_something line = not (length line.words == 0)
 -- the lines that have words
 unfoldable pub word_lines : Style → List ℕ → List WordLine
 word_lines style bytes = filter says_something (joined_lines style 1 (physical_lines bytes))
-
--- ---- words cut out of a text
-
-abbrev pub cut : List ℕ → Span → List ℕ
-cut bytes span = slice_range bytes span.start span.end
-
-abbrev pub cut_line : List ℕ → Line → WordLine
-cut_line bytes line = record { number = line.number; words = map (cut bytes) line.words }
-
--- ---- a text that is written line by line
-
--- a word that is read as it is written: it has bytes, none of them a blank or '#', and the last is no backslash
-abbrev pub is_plain : List ℕ → Bool
-is_plain word = not (length word == 0) && not (slice_index word (length word - 1) == 92) && list_all is_allowed word
-
--- some such words
-pub record IsPlainLine (ws : List (List ℕ)) : Type 0 where
-  pub some : 0 < length ws
-  pub each : All (λ word. is_plain word ≡ true) ws
-
--- lines of these words, numbered from a number on
-abbrev pub numbered : ℕ → List (List (List ℕ)) → List WordLine
-numbered number [] = []
-numbered number (ws ∷ lines) = record { number = number; words = ws } ∷ numbered (suc number) lines

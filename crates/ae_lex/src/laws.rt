@@ -3,7 +3,9 @@ ghost use Rattle.std.specs.Prelude.{◌≡◌, ℕ, List, All, length, map};
 ghost use Rattle.ae_base.specs.Text.{text_of};
 ghost use Rattle.ae_lex.specs.declared.text.Style.{Style};
 ghost use Rattle.ae_lex.specs.Lines.{lines_of};
-ghost use Rattle.ae_lex.specs.Words.{cut_line, last_line, numbered, word_lines, IsPlainLine};
+ghost use Rattle.ae_lex.specs.Words.{last_line, word_lines};
+ghost use Rattle.ae_lex.specs.Lines.{cut_line};
+ghost use Rattle.ae_lex.specs.Written.{numbered, IsPlainLine};
 
 /// The words at the spans of a text's lines are the words of those lines, with their numbers, and `last` is the number of physical lines.
 pub fn words_law()

@@ -1,14 +1,15 @@
 //! The words of lines as slices of their text.
-ghost use Rattle.std.specs.Prelude.{◌≡◌, ◌≤◌, length, map, bytes_eq, All, IfOk};
-ghost use Rattle.std.specs.List.{list_any};
-ghost use Rattle.ae_lex.specs.Lines.{IsInside};
+ghost use Rattle.std.specs.Prelude.{◌≡◌, ◌≤◌, true, length, map, bytes_eq, All, IfOk};
+ghost use Rattle.std.specs.List.{list_all, list_any};
+ghost use Rattle.ae_base.specs.Name.{is_name};
+ghost use Rattle.ae_lex.specs.Lines.{cut, cut_line, IsInside};
 ghost use Rattle.ae_lex.specs.Slices.{texts};
 ghost use Rattle.ae_lex.specs.Words as spec;
 
 use crate::laws::words_law;
 use crate::scan::lines;
 use crate::text::{Line, LineList, Style};
-use ae_base::{Memory, Seq, TEXT_BYTES};
+use ae_base::{Memory, Name, Seq, TEXT_BYTES};
 use std::alloc::Global;
 use std::marker::Model;
 
@@ -58,10 +59,22 @@ pub fn is_one_of(word: &[u8], words: &[&[u8]]) -> bool
     words.iter().any(|other| word == *other)
 }
 
+/// The names that words are. `Memory` comes only for want of memory.
+pub fn names_of(alloc: Global, words: &[&[u8]]) -> Result<Seq<Name>, Memory>
+    requires { list_all is_name (texts words.now) ≡ true }
+    ensures { IfOk result (λ names. names ≡ texts words.now) }
+{
+    let mut names = Seq::new(alloc);
+    for word in words {
+        names.push(Name::known(alloc, word)?)?;
+    }
+    Ok(names)
+}
+
 /// The words of a line of the text.
-pub fn words_of<'a>(alloc: Global, bytes: &'a [u8], line: &Line) -> Result<Vec<&'a [u8]>, Memory>
+fn words_of<'a>(alloc: Global, bytes: &'a [u8], line: &Line) -> Result<Vec<&'a [u8]>, Memory>
     requires { All (IsInside bytes.now) line.now.words }
-    ensures { IfOk result (λ words. texts words.items ≡ map (spec.cut bytes.now) line.now.words) }
+    ensures { IfOk result (λ words. texts words.items ≡ map (cut bytes.now) line.now.words) }
 {
     let mut words = Vec::new(alloc);
     for span in line.words.as_slice() {
@@ -72,7 +85,7 @@ pub fn words_of<'a>(alloc: Global, bytes: &'a [u8], line: &Line) -> Result<Vec<&
 
 fn word_line<'a>(alloc: Global, bytes: &'a [u8], line: &Line) -> Result<WordLine<'a>, Memory>
     requires { All (IsInside bytes.now) line.now.words }
-    ensures { IfOk result (λ found. found ≡ spec.cut_line bytes.now line.now) }
+    ensures { IfOk result (λ found. found ≡ cut_line bytes.now line.now) }
 {
     Ok(WordLine {
         number: line.number,
@@ -87,7 +100,7 @@ fn cut_lines<'a>(
     lines: Vec<Line>,
 ) -> Result<Seq<WordLine<'a>>, Memory>
     requires { All (λ line. All (IsInside bytes.now) line.words) lines.items }
-    ensures { IfOk result (λ list. list ≡ map (spec.cut_line bytes.now) lines.items) }
+    ensures { IfOk result (λ list. list ≡ map (cut_line bytes.now) lines.items) }
 {
     let mut list = Seq::new(alloc);
     for line in lines {

@@ -41,7 +41,7 @@ other_kinds k a b x y p q n e = n (sym p ∙ ap (kind k) e ∙ q)
 
 -- ---- numbered names
 
-inner_injective : (k : ℕ) (s t : List ℕ) → inner k s ≡ inner k t → s ≡ t
+pub inner_injective : (k : ℕ) (s t : List ℕ) → inner k s ≡ inner k t → s ≡ t
 unfolding inner
 inner_injective zero s t e = e
 inner_injective (suc k) s t e = inner_injective k s t (cc e)

@@ -2,7 +2,7 @@
 use Rattle.std.proofs.Common.{◌≡◌, ◌≢◌, ℕ, ◌<◌, true, false, not, ◌&&◌, inl, inr, refl, sym, ap, ◌∙◌, arith, eqb, eqb-true, eq-eqb, ne_eqb}
 use Rattle.std.proofs.lemmas.Bool.{cases_Bool, and_parts, and_from, false≢true, lt-ltb, not-true}
 use Rattle.ae_base.specs.Mask.{Set, has, empty, first, with, inside}
-use Rattle.ae_base.specs.Cube.{holds}
+use Rattle.ae_base.specs.Cube.{holds, whole}
 use Rattle.ae_base.proofs.Sets.{has-empty, has-first, has-with, inside-has, has-inside}
 use Rattle.ae_base.proofs.Products.{holds-has, has-holds}
 pub use Rattle.ae_base.proofs.Truth.{same_truth}
@@ -50,6 +50,15 @@ full_row n x =
     same_truth _ _
     (λ h. has-inside (first n) x ((holds-has _ x h).0))
     (λ h. has-holds _ x (λ k m. inside-has (first n) x h k m, λ k m. absurd (false≢true (sym (has-empty k) ∙ m))))
+
+-- the row of no literals
+pub whole_row : (x : Set) → holds whole x ≡ true
+unfolding whole
+whole_row x = has-holds _ x (λ k m. absurd (false≢true (sym (has-empty k) ∙ m)), λ k m. absurd (false≢true (sym (has-empty k) ∙ m)))
+
+pub IsRowOf-whole : (n : ℕ) → IsRowOf n whole
+unfolding whole
+IsRowOf-whole n = record { is_product = λ k m. has-empty k; pos = empty_inside (first n); neg = empty_inside (first n) }
 
 pub IsRowOf-plain : (j n : ℕ) → j < n → IsRowOf n (record { pos = with empty j; neg = empty })
 IsRowOf-plain j n l = record { is_product = λ k m. has-empty k; pos = single_inside j n l; neg = empty_inside (first n) }

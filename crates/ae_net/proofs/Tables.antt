@@ -9,8 +9,10 @@ use Rattle.ae_base.proofs.Truth.{same_truth, or-false}
 use Rattle.ae_net.specs.declared.net.Place.TheVariants.{Pin}
 use Rattle.ae_net.specs.declared.net.Fault.{Fault}
 use Rattle.ae_net.specs.Run.{table, seen, value_of, ones_seen}
-use Rattle.ae_net.specs.Gates.{inverter, buffer, exor, and_gate}
-use Rattle.ae_net.proofs.Rows.{plain_row, complemented_row, one_of_each_row, full_row}
+use Rattle.ae_net.specs.declared.gates.Cell.{Cell}
+use Rattle.ae_net.specs.declared.gates.Cell.TheVariants.{Zero, One, Inverter, Buffer, And, Exor, Or}
+use Rattle.ae_net.specs.Gates.{gate_of, inverter, buffer, exor, and_gate}
+use Rattle.ae_net.proofs.Rows.{whole_row, plain_row, complemented_row, one_of_each_row, full_row}
 
 -- what pin q of the gate in place i sees
 abbrev pub sees : Option Fault → List Bool → ℕ → ℕ → ℕ → Bool
@@ -79,3 +81,41 @@ all_see-none w i q (s ∷ ss) = ap (λ b. value_of w s && b) (all_see-none w i (
 -- one pin that sees 0
 pub all_see-false : (fault : Option Fault) (w : List Bool) (i : ℕ) (ss : List ℕ) (k : ℕ) → k < length ss → sees fault w i k (slice_index ss k) ≡ false → all_see fault w i 0 ss ≡ false
 all_see-false fault w i ss k l h = elim (cases_Bool (all_see fault w i 0 ss)) [ inl all ↦ let z : 0 + k ≡ k = omega arith in absurd (false≢true (sym h ∙ (rw z at (all_from fault w i 0 ss all k l)))) | inr e ↦ e ]
+
+-- ---- gates by what they compute, without a fault
+
+table-or : (w : List Bool) (i : ℕ) (out : List ℕ) (a b : ℕ) → table (gate_of out (Or a b)) (ones_seen None w i (gate_of out (Or a b))) ≡ (value_of w a || value_of w b)
+unfolding table
+table-or w i out a b =
+    let ones : Set = ones_seen None w i (gate_of out (Or a b)) in
+    let p = λ (k : ℕ). value_of w (slice_index (a ∷ b ∷ []) k) in
+    ap₂ (λ l r. l || (r || false)) (plain_row 0 ones) (plain_row 1 ones)
+    ∙ ap (λ r. has ones 0 || r) (or-false (has ones 1))
+    ∙ ap₂ (λ l r. l || r) (has-where_below 2 p 0) (has-where_below 2 p 1)
+
+table-one : (w : List Bool) (i : ℕ) (out : List ℕ) → table (gate_of out One) (ones_seen None w i (gate_of out One)) ≡ true
+unfolding table
+table-one w i out = or-false _ ∙ whole_row (ones_seen None w i (gate_of out One))
+
+table-zero : (w : List Bool) (i : ℕ) (out : List ℕ) → table (gate_of out Zero) (ones_seen None w i (gate_of out Zero)) ≡ false
+unfolding table
+table-zero w i out = refl
+
+-- the value of a gate where the signals have these values
+abbrev pub cell_value : List Bool → Cell → Bool
+cell_value w Zero = false
+cell_value w One = true
+cell_value w (Inverter a) = not (value_of w a)
+cell_value w (Buffer a) = value_of w a
+cell_value w (And pins) = list_all (λ s. value_of w s) pins
+cell_value w (Exor a b) = differ (value_of w a) (value_of w b)
+cell_value w (Or a b) = value_of w a || value_of w b
+
+pub table-cell : (w : List Bool) (i : ℕ) (out : List ℕ) (cell : Cell) → table (gate_of out cell) (ones_seen None w i (gate_of out cell)) ≡ cell_value w cell
+table-cell w i out Zero = table-zero w i out
+table-cell w i out One = table-one w i out
+table-cell w i out (Inverter a) = table-inverter None w i out a
+table-cell w i out (Buffer a) = table-buffer None w i out a
+table-cell w i out (And pins) = table-and None w i out pins ∙ all_see-none w i 0 pins
+table-cell w i out (Exor a b) = table-exor None w i out a b
+table-cell w i out (Or a b) = table-or w i out a b

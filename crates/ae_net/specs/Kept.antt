@@ -1,14 +1,10 @@
--- What the bytes of a scratch keep while a network is worked out. For private contracts alone.
-use Rattle.std.specs.Prelude.{◌≡◌, ℕ, ◌<◌, ◌==◌, Bool, Option, List, length, slice_index}
+-- What a gate sees of the bytes of a scratch, 1 for true. For private contracts alone.
+use Rattle.std.specs.Prelude.{ℕ, ◌==◌, Option, List, length, slice_index}
 use Rattle.ae_base.specs.Mask.{Set, where_below}
 use Rattle.ae_net.specs.declared.net.Gate.{Gate}
 use Rattle.ae_net.specs.declared.net.Place.TheVariants.{Pin}
 use Rattle.ae_net.specs.declared.net.Fault.{Fault}
-use Rattle.ae_net.specs.Run.{seen, value_of}
-
--- the bytes hold the values, 1 for true
-abbrev pub AreKept : List ℕ → List Bool → Type 0
-AreKept bytes w = (s : ℕ) → s < length w → (slice_index bytes s == 1) ≡ value_of w s
+use Rattle.ae_net.specs.Run.{seen}
 
 -- the positions of the pins that see 1 where the signals have these bytes
 abbrev pub ones_kept : Option Fault → List ℕ → ℕ → Gate → Set

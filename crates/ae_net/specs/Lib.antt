@@ -1,7 +1,10 @@
 pub mod Blif
 pub mod Builder
 pub mod Detects
+pub mod Evaluation
 pub mod Faults
+pub mod Follows
+pub mod GateNames
 pub mod Gates
 pub mod Implements
 pub mod Kept

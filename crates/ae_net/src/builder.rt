@@ -4,9 +4,8 @@ ghost use Rattle.ae_net.specs.Builder as spec;
 ghost use Rattle.ae_net.specs.Gates as gate;
 ghost use Rattle.ae_net.specs.Valid.{IsValid};
 
-use crate::gates;
+use crate::gates::{Cell, gate_of};
 use crate::net::{Gate, Net, Sig};
-use crate::pins::Pins;
 use ae_base::{GATES, Memory, NET_LINES, Name, PINS, Seq};
 use std::alloc::Global;
 use std::marker::Model;
@@ -59,66 +58,19 @@ impl NetBuilder {
         (self.inputs.len() + self.gates.len()) as Sig
     }
 
-    /// Adds a gate.
-    fn push(&mut self, gate: Gate) -> Result<Sig, Memory>
-        requires { length self.old.gates < GATES }
-        ensures gates { OnOk result (self.new.gates ≡ self.old.gates ++ gate ∷ []) }
+    /// Adds the gate of this name that computes what the cell says. Its pins are signals of inputs or of earlier gates.
+    pub fn push(&mut self, out: Name, cell: &Cell) -> Result<Sig, Memory>
+        requires few_gates { length self.old.gates < GATES }
+        requires few_pins { length (gate.pins_of cell.now) ≤ PINS }
+        ensures gates { OnOk result (self.new.gates ≡ self.old.gates ++ gate.gate_of out cell.now ∷ []) }
         ensures inputs { self.new.inputs ≡ self.old.inputs }
         ensures signal { IfOk result (λ signal. signal ≡ spec.next self.old) }
         ensures err { OnErr result (self.new ≡ self.old) }
     {
+        let gate = gate_of(self.alloc, out, cell)?;
         let signal = self.next();
         self.gates.push(gate)?;
         Ok(signal)
-    }
-
-    /// Adds the gate that is 1 exactly where its pin is 0.
-    pub fn inverter(&mut self, out: Name, pin: Sig) -> Result<Sig, Memory>
-        requires { length self.old.gates < GATES }
-        ensures gates { OnOk result (self.new.gates ≡ self.old.gates ++ gate.inverter out pin ∷ []) }
-        ensures inputs { self.new.inputs ≡ self.old.inputs }
-        ensures signal { IfOk result (λ signal. signal ≡ spec.next self.old) }
-        ensures err { OnErr result (self.new ≡ self.old) }
-    {
-        let gate = gates::inverter(self.alloc, out, pin)?;
-        self.push(gate)
-    }
-
-    /// Adds the gate that has the value of its pin.
-    pub fn buffer(&mut self, out: Name, pin: Sig) -> Result<Sig, Memory>
-        requires { length self.old.gates < GATES }
-        ensures gates { OnOk result (self.new.gates ≡ self.old.gates ++ gate.buffer out pin ∷ []) }
-        ensures inputs { self.new.inputs ≡ self.old.inputs }
-        ensures signal { IfOk result (λ signal. signal ≡ spec.next self.old) }
-        ensures err { OnErr result (self.new ≡ self.old) }
-    {
-        let gate = gates::buffer(self.alloc, out, pin)?;
-        self.push(gate)
-    }
-
-    /// Adds the gate that is 1 exactly where one of its two pins is 1 and the other 0.
-    pub fn exor(&mut self, out: Name, a: Sig, b: Sig) -> Result<Sig, Memory>
-        requires { length self.old.gates < GATES }
-        ensures gates { OnOk result (self.new.gates ≡ self.old.gates ++ gate.exor out a b ∷ []) }
-        ensures inputs { self.new.inputs ≡ self.old.inputs }
-        ensures signal { IfOk result (λ signal. signal ≡ spec.next self.old) }
-        ensures err { OnErr result (self.new ≡ self.old) }
-    {
-        let gate = gates::exor(self.alloc, out, a, b)?;
-        self.push(gate)
-    }
-
-    /// Adds the gate that is 1 exactly where all its pins are 1. Without pins it is the constant 1.
-    pub fn and(&mut self, out: Name, pins: Pins) -> Result<Sig, Memory>
-        requires few_gates { length self.old.gates < GATES }
-        requires few_pins { length pins ≤ PINS }
-        ensures gates { OnOk result (self.new.gates ≡ self.old.gates ++ gate.and_gate out pins ∷ []) }
-        ensures inputs { self.new.inputs ≡ self.old.inputs }
-        ensures signal { IfOk result (λ signal. signal ≡ spec.next self.old) }
-        ensures err { OnErr result (self.new ≡ self.old) }
-    {
-        let gate = gates::and_gate(self.alloc, out, pins)?;
-        self.push(gate)
     }
 
     /// The network of this name, whose output ports show these signals. All in all it must be valid, as every `Net` is.

@@ -2,6 +2,7 @@
 #![tactic(auto)]
 
 mod builder;
+mod evaluation;
 mod gates;
 mod laws;
 mod names;
@@ -11,7 +12,12 @@ mod places;
 mod run;
 
 pub use builder::NetBuilder;
-pub use laws::{fault_laws, lead_law, one_run};
+pub use evaluation::{Values, evaluate};
+pub use gates::Cell;
+pub use laws::{
+    Relation, fault_laws, lead_law, names_law, one_evaluation, one_run, relation_law, run_law,
+    valid_law,
+};
 pub use names::{NetNames, lead, letter_name, numbered_name};
 pub use net::{Fault, Gate, Net, Place, Sig};
 pub use pins::Pins;

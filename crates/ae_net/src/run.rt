@@ -12,6 +12,7 @@ ghost use Rattle.ae_net.specs.Out as out;
 ghost use Rattle.ae_net.specs.Run as run;
 ghost use Rattle.ae_net.specs.Scratch.{LendsBytes};
 
+use crate::evaluation::{Values, evaluate};
 use crate::net::{Fault, Gate, Net, Place, Sig};
 use ae_base::{Cube, Mask, Memory, NET_LINES, PINS, Point};
 use std::alloc::Global;
@@ -46,8 +47,8 @@ fn seen(fault: Option<Fault>, at: Place, value: bool) -> bool
     }
 }
 
-/// The positions of the gate's pins that see 1.
-fn ones_kept(gate: &Gate, i: u32, fault: Option<Fault>, bytes: &[u8]) -> Mask
+/// The positions of the gate's pins that see 1, where a byte is kept of each signal before it, 1 for true.
+fn ones_seen(gate: &Gate, i: u32, fault: Option<Fault>, bytes: &[u8]) -> Mask
     requires few_pins { length gate.now.pins ≤ PINS }
     requires earlier { All (λ pin. pin < length bytes.now) gate.now.pins }
     ensures { result ≡ kept.ones_kept fault bytes.now i gate.now }
@@ -61,29 +62,34 @@ fn ones_kept(gate: &Gate, i: u32, fault: Option<Fault>, bytes: &[u8]) -> Mask
     ones
 }
 
-/// Writes the values of the inputs.
-#[tactic(auto, unfolding(crate::specs::Out::run_to))]
-fn keep_inputs(net: &Net, fault: Option<Fault>, point: Mask, bytes: &mut [u8])
-    requires { signals net.now ≤ length bytes.old }
-    ensures { kept.AreKept bytes.new (out.run_to net.now fault point 0) }
-{
-    for j in 0..net.inputs.len() {
-        bytes[j] = seen(fault, Place::Stem(j as u32), point.has(j as u32)) as u8;
-    }
+/// Truth values at a point, with a fault or without. A byte keeps one, 1 for true.
+#[derive(Drop)]
+struct Truths {
+    fault: Option<Fault>,
+    point: Mask,
 }
 
-/// Writes the values of the gates, in order.
-fn keep_gates(net: &Net, fault: Option<Fault>, bytes: &mut [u8])
-    requires { signals net.now ≤ length bytes.old }
-    ensures { (x : Set) → kept.AreKept bytes.old (out.run_to net.now fault x 0)
-        → kept.AreKept bytes.new (out.run_to net.now fault x (length net.now.gates)) }
-{
-    let first = net.inputs().len();
-    let gates = net.gates().len();
-    for i in 0..gates {
-        let gate = net.gate(i);
-        let value = table(gate, ones_kept(gate, i as u32, fault, bytes));
-        bytes[first + i] = seen(fault, Place::Stem((first + i) as u32), value) as u8;
+impl Values for Truths {
+    ghost use Rattle.ae_net.specs.Evaluation.{truths};
+
+    type Cell = u8;
+
+    ghost Value = { Bool };
+
+    ghost domain = { λ values. truths values.fault values.point };
+
+    ghost told = { λ byte. byte == 1 };
+
+    fn input(&self, j: u32) -> u8 {
+        self.point.has(j) as u8
+    }
+
+    fn seen(&self, at: Place, byte: u8) -> u8 {
+        seen(self.fault, at, byte == 1) as u8
+    }
+
+    fn gate(&self, gate: &Gate, i: u32, bytes: &[u8]) -> u8 {
+        table(gate, ones_seen(gate, i, self.fault, bytes)) as u8
     }
 }
 
@@ -111,8 +117,7 @@ fn answer_over(net: &Net, fault: Option<Fault>, point: Mask, bytes: &mut [u8]) -
     requires { signals net.now ≤ length bytes.old }
     ensures { result ≡ out.out net.now fault point }
 {
-    keep_inputs(net, fault, point, bytes);
-    keep_gates(net, fault, bytes);
+    evaluate(&Truths { fault, point }, net, bytes);
     ports_kept(net.outputs.as_slice(), fault, bytes)
 }
 

@@ -1,11 +1,10 @@
 -- What writes and pieces one after another leave.
-use Rattle.std.proofs.Common.{◌≡◌, ◌≢◌, ℕ, ◌+◌, ◌≤◌, min, List, [], ◌++◌, length, take, Option, Some, None, IfSome, is_some, unwrap_or, refl, sym, ◌∙◌, ap, inr, append_assoc, arith}
-use Rattle.std.proofs.lemmas.List.{append-nil, take-append-le, take_min}
-use Rattle.std.proofs.Math.Seq.{take-append-add, take-length}
-use Rattle.std.specs.FinMap.{insert, get}
-use Rattle.ae_outside.specs.Counts.{Tally, count, CountsAt, RoseAt}
-use Rattle.ae_outside.specs.Files.{Shelf, bytes_of, written, IsWrittenInPart, added, TookFront}
-use Rattle.ae_outside.proofs.Shelves.{get_same, get_other, insert-insert, insert_apart}
+use Rattle.std.proofs.Common.{◌≡◌, ◌≢◌, ℕ, List, [], ◌++◌, Option, Some, None, IfSome, refl, ◌∙◌, ap, append_assoc, arith}
+use Rattle.std.proofs.lemmas.List.{append-nil}
+use Rattle.std.specs.FinMap.{get}
+use Rattle.ae_outside.specs.Counts.{Tally, CountsAt}
+use Rattle.ae_outside.specs.Files.{Shelf, written, added}
+use Rattle.ae_outside.proofs.Shelves.{get_same, get_other}
 
 -- a name that was written holds the bytes
 pub get_written : (held : Option Shelf) (name bytes : List ℕ) → IfSome (written held name bytes) (λ m. get m name ≡ Some bytes)

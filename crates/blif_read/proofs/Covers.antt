@@ -6,14 +6,14 @@ use Rattle.std.proofs.lemmas.List.{length-take-le}
 use Rattle.ae_base.specs.declared.limits.TheConstants.{PINS}
 use Rattle.ae_lex.specs.Words.{WordLine}
 use Rattle.blif_read.specs.declared.fault.NetLimits.{NetLimits}
-use Rattle.blif_read.specs.Words.{is_name_under}
-use Rattle.blif_read.specs.Statement.{Said, said, gate_name, pin_names, is_row}
+use Rattle.blif_read.specs.Words.{is_name_under, gate_name, pin_names, is_row}
+use Rattle.blif_read.specs.Statement.{Said, said}
 use Rattle.blif_read.specs.Statement.Said.{Model, Inputs, Outputs, Names, End, Unsupported, Unknown, Row}
 use Rattle.blif_read.specs.Earlier.{is_end, inputs_of, driven_of, Cover, cover_after}
-use Rattle.blif_read.specs.Faults.{names_fault, line_fault, first_fault}
+use Rattle.blif_read.specs.Faults.{names_fault}
+use Rattle.blif_read.specs.Step.{line_fault_in, seen_by, line_fault, first_fault, says_of}
 use Rattle.blif_read.specs.Placing.{Unplaced, outs}
-use Rattle.blif_read.specs.Says.{rows_at, cover_of, covers}
-use Rattle.blif_read.specs.Step.{says_of}
+use Rattle.blif_read.specs.Lines.{rows_at, cover_of, covers}
 use Rattle.blif_read.proofs.Steps.{open_cover, open-append}
 use Rattle.blif_read.proofs.Sound.{first_none, line_none, gate_words}
 
@@ -26,7 +26,7 @@ pub record IsFit (limits : NetLimits) (c : Unplaced) : Type 0 where
 -- ---- rows
 
 row_fits : (limits : NetLimits) (done : List Said) (c : Cover) (r : List ℕ) → open_cover None done ≡ Some c → line_fault limits done (Row r) ≡ None → is_row (length c.words - 1) r ≡ true
-unfolding line_fault
+unfolding line_fault line_fault_in seen_by
 row_fits limits done c r e h = elim (cases_Bool (list_any is_end done)) [
   | inl t ↦ (let bad = rw t at h in absurd cc)
   | inr f ↦ (let g = rw (f, e) at h in not-false _ (first_none (not (is_row (length c.words - 1) r)) _ _ g).0)
@@ -58,7 +58,7 @@ rows_fit limits (line ∷ lines) ws done c e w h =
 -- ---- covers
 
 names_none : (limits : NetLimits) (done : List Said) (ws : List (List ℕ)) → line_fault limits done (Names ws) ≡ None → names_fault limits (inputs_of done) (driven_of done) ws ≡ None
-unfolding line_fault
+unfolding line_fault line_fault_in seen_by
 names_none limits done ws h = elim (cases_Bool (list_any is_end done)) [
   | inl t ↦ (let bad = rw t at h in absurd cc)
   | inr f ↦ rw f at h

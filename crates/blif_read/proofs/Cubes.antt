@@ -8,17 +8,10 @@ use Rattle.ae_base.proofs.Sets.{has-where_below}
 use Rattle.ae_lex.specs.Words.{WordLine}
 use Rattle.blif_read.specs.Statement.{Said, said}
 use Rattle.blif_read.specs.Statement.Said.{Model, Inputs, Outputs, Names, End, Unsupported, Unknown, Row}
-use Rattle.blif_read.specs.Says.{rows_at, row_cube}
+use Rattle.blif_read.specs.Lines.{rows_at, row_cube}
 use Rattle.blif_read.specs.Step.{says_of}
 use Rattle.blif_read.specs.Build.{row_chars, rows_of}
 use Rattle.blif_read.proofs.Reading.{rest_more}
-
--- no pin has two characters
-pub row_is_product : (k : ℕ) (chars : List ℕ) (j : ℕ) → has (where_below k (λ i. eqb (get_or chars i 0) 49)) j ≡ true → has (where_below k (λ i. eqb (get_or chars i 0) 48)) j ≡ false
-row_is_product k chars j h =
-    let one = and_parts (ltb j k) (eqb (get_or chars j 0) 49) (sym (has-where_below k (λ i. eqb (get_or chars i 0) 49) j) ∙ h) in
-    let is_one : get_or chars j 0 ≡ 49 = eqb-true _ _ one.1 in
-    has-where_below k (λ i. eqb (get_or chars i 0) 48) j ∙ and_right (ltb j k) (eqb (get_or chars j 0) 48) (ne_eqb _ _ (λ e. omega (arith, e, is_one)))
 
 -- ---- rows at the front
 

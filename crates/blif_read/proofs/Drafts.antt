@@ -6,11 +6,12 @@ use Rattle.ae_lex.specs.Words.{WordLine}
 use Rattle.blif_read.specs.declared.fault.BlifErr.{BlifErr}
 use Rattle.blif_read.specs.declared.fault.BlifErr.TheVariants as errors
 use Rattle.blif_read.specs.declared.draft.Draft.{Draft}
-use Rattle.blif_read.specs.Statement.{Said, said, gate_name, pin_names}
+use Rattle.blif_read.specs.Statement.{Said, said}
+use Rattle.blif_read.specs.Words.{gate_name, pin_names}
 use Rattle.blif_read.specs.Statement.Said.{Model, Inputs, Outputs, Names, End, Unsupported, Unknown, Row}
 use Rattle.blif_read.specs.Placing.{Unplaced}
 use Rattle.ae_net.specs.Named.{place_of}
-use Rattle.blif_read.specs.Says.{cover_of, covers}
+use Rattle.blif_read.specs.Lines.{cover_of, covers}
 use Rattle.blif_read.specs.Step.{IsFaultAt}
 use Rattle.blif_read.specs.Build.{rows_of, drafted, drafts_of, undefined, undefined_if, cover_front, cover_at, draft_at, built, built_at, reads_unknown, first_line}
 

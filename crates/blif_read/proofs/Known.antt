@@ -4,12 +4,14 @@ use Rattle.std.specs.List.{AllByRecursion}
 use Rattle.std.proofs.lemmas.Bool.{or_parts, not-false}
 use Rattle.ae_base.proofs.Distinct.{each-append}
 use Rattle.ae_lex.specs.Words.{WordLine}
-use Rattle.blif_read.specs.Words.{is_among}
-use Rattle.blif_read.specs.Statement.{Said, said, pin_names}
+use Rattle.ae_base.specs.Twins.{is_among}
+use Rattle.blif_read.specs.Statement.{Said, said}
+use Rattle.blif_read.specs.Words.{pin_names}
 use Rattle.blif_read.specs.Statement.Said.{Model, Inputs, Outputs, Names, End, Unsupported, Unknown, Row}
 use Rattle.blif_read.specs.Earlier.{outputs_of, output_words}
 use Rattle.blif_read.specs.Placing.{Unplaced}
-use Rattle.blif_read.specs.Says.{cover_of, covers, some_unknown}
+use Rattle.blif_read.specs.Lines.{cover_of, covers}
+use Rattle.blif_read.specs.Says.{some_unknown}
 use Rattle.blif_read.specs.Step.{says_of}
 use Rattle.blif_read.specs.Build.{rows_of, shows_unknown, reads_unknown, first_line}
 use Rattle.blif_read.proofs.Link.{AreKnown}

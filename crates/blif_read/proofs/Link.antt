@@ -8,7 +8,7 @@ use Rattle.std.proofs.lemmas.List.Elements.{All-from_recursion}
 use Rattle.std.proofs.lemmas.List.FromFn.{length-map-range_with_len, get_or-map-range_with_len}
 use Rattle.std.proofs.lemmas.List.Folds.{list_any-append}
 use Rattle.ae_net.specs.Valid.{IsDistinct}
-use Rattle.blif_read.specs.Words.{is_among}
+use Rattle.ae_base.specs.Twins.{is_among}
 use Rattle.blif_read.specs.Placing as names
 use Rattle.blif_read.specs.Placing.{Unplaced, outs}
 use Rattle.ae_net.specs.Named.{place_of}
@@ -16,8 +16,8 @@ use Rattle.blif_read.specs.Build.{gates_among}
 use Rattle.blif_read.proofs.Drafts.{pins_by}
 use Rattle.blif_read.proofs.Tables.{place_of-append}
 use Rattle.blif_read.proofs.Places.{place_at, same_name, AllBelow, below_more}
-use Rattle.blif_place.specs.Order as order
-use Rattle.blif_place.proofs.Steps as steps
+use Rattle.blif_order.specs.Order as order
+use Rattle.blif_order.proofs.Steps as steps
 
 -- the places of the gates that the pins name; an input has none
 abbrev pub gates_of : List (List ℕ) → List (List ℕ) → List (List ℕ) → List ℕ

@@ -10,10 +10,8 @@ use Rattle.blif_read.specs.declared.fault.NetLimits.{NetLimits}
 use Rattle.blif_read.specs.Statement.{Said, said}
 use Rattle.blif_read.specs.Statement.Said.{Model, Inputs, Outputs, Names, End, Unsupported, Unknown, Row}
 use Rattle.blif_read.specs.Earlier.{is_model, is_end, model_words}
-use Rattle.blif_read.specs.Faults.{line_fault, first_fault}
-use Rattle.blif_read.specs.Says.{model_of}
-use Rattle.blif_read.specs.Step.{is_model_name, says_of}
-use Rattle.blif_read.proofs.Steps.{model_same}
+use Rattle.blif_read.specs.Step.{line_fault_in, seen_by, line_fault, first_fault, is_model_name, says_of}
+use Rattle.blif_read.specs.Lines.{model_of}
 use Rattle.blif_read.proofs.Sound.{first_none, line_none}
 use Rattle.blif_read.proofs.Words.{name_under}
 
@@ -26,13 +24,13 @@ no_more limits (w ∷ []) h = (name_under limits w h, tt)
 no_more limits (w ∷ v ∷ ws) h = absurd cc
 
 model_fine : (limits : NetLimits) (before : List Said) (ws : List (List ℕ)) → line_fault limits before (Model ws) ≡ None → AreNames ws
-unfolding line_fault
+unfolding line_fault line_fault_in seen_by
 model_fine limits before ws h = elim (cases_Bool (list_any is_end before)) [
   | inl t ↦ (let bad = rw t at h in absurd cc)
   | inr f ↦
       (let g = rw f at h in
       let a = first_none (list_any is_model before) _ _ g in
-      no_more limits ws (not-false _ (sym (model_same limits ws) ∙ (first_none _ _ _ a.1).0)))
+      no_more limits ws (not-false _ (first_none _ _ _ a.1).0))
 ]
 
 line_fine : (limits : NetLimits) (before : List Said) (s : Said) → line_fault limits before s ≡ None → AreNames (model_words s)

@@ -4,7 +4,7 @@ use Rattle.ae_net.specs.declared.net.Gate.{Gate}
 use Rattle.ae_net.specs.Named.{NamedGate, place_of, gate_of, net_of}
 use Rattle.ae_net.specs.Network.{Network}
 use Rattle.blif_read.specs.Placing.{Unplaced, outs}
-use Rattle.blif_read.specs.Says.{named}
+use Rattle.blif_read.specs.Lines.{named}
 
 -- the gate of a cover, where the signals have these names
 abbrev pub gate_in : List (List ℕ) → Unplaced → Gate

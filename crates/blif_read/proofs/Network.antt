@@ -3,7 +3,7 @@ use Rattle.std.proofs.Common.{◌≡◌, ℕ, zero, suc, ◌+◌, ◌-◌, ◌<�
 use Rattle.std.specs.Prelude.{bytes_eq, slice_get, is_none}
 use Rattle.std.specs.List.{list_all, position_or_len, AllByRecursion}
 use Rattle.std.proofs.lemmas.Bool.{cases_Bool, cases_lt, cond-true, cond-false, and_parts, lt-ltb}
-use Rattle.std.proofs.lemmas.List.{length-map, get_or-map, get_or_append_left, get_or-append_right}
+use Rattle.std.proofs.lemmas.List.{length-map, length-take, get_or-map, get_or_append_left, get_or-append_right}
 use Rattle.std.proofs.lemmas.List.Elements.{All-weaker, All-from_recursion}
 use Rattle.std.proofs.lemmas.List.Folds.{list_any-append}
 use Rattle.ae_base.specs.Name.{is_name}
@@ -13,14 +13,15 @@ use Rattle.ae_net.specs.declared.net.Gate.{Gate}
 use Rattle.ae_net.specs.Valid.{IsDistinct, IsRowOf, IsGate, IsValid}
 use Rattle.blif_read.specs.declared.fault.NetLimits.{NetLimits}
 use Rattle.blif_read.specs.declared.fault.NetLimits.TheVariants.{Source, Written}
-use Rattle.blif_read.specs.Words.{most_lines, is_name_under, is_among}
+use Rattle.blif_read.specs.Words.{most_lines, is_name_under}
+use Rattle.ae_base.specs.Twins.{is_among}
 use Rattle.blif_read.specs.Placing.{Unplaced, outs}
 use Rattle.ae_net.specs.Named.{place_of}
-use Rattle.blif_read.specs.Says.{row_cube, is_on}
+use Rattle.blif_read.specs.Lines.{row_cube, is_on}
 use Rattle.blif_read.proofs.Nets.{gate_in, net_in}
 use Rattle.blif_read.specs.Build.{rank_in}
 use Rattle.blif_read.proofs.Words.{name_under}
-use Rattle.blif_read.proofs.Cubes.{row_is_product}
+use Rattle.ae_base.proofs.ReadBack.{cube_over}
 use Rattle.blif_read.proofs.Sound.{IsSound, apart_at}
 use Rattle.blif_read.proofs.Covers.{IsFit}
 use Rattle.blif_read.proofs.Tables.{place_of-append, place_within}
@@ -29,17 +30,14 @@ use Rattle.blif_read.proofs.Places.{place_at, AllBelow}
 use Rattle.blif_read.proofs.Link.{gate_at, blank, out_at, AreKnown, known_at, gates_of, needs_of}
 use Rattle.blif_read.proofs.Placed.{AreRanks, place_ordered, rank_below, some_rank}
 use Rattle.blif_read.proofs.Ordered.{IsOrder, place_in_front}
-use Rattle.blif_place.specs.Order as by_place
+use Rattle.blif_order.specs.Order as by_place
 
 -- ---- rows
 
 row_of_pins : (k : ℕ) (r : List ℕ) → IsRowOf k (row_cube k r)
 row_of_pins k r =
-    record {
-      is_product = row_is_product k r;
-      pos = has-inside _ _ (λ j h. has-first k j ∙ (and_parts (ltb j k) (eqb (get_or r j 0) 49) (sym (has-where_below k (λ i. eqb (get_or r i 0) 49) j) ∙ h)).0);
-      neg = has-inside _ _ (λ j h. has-first k j ∙ (and_parts (ltb j k) (eqb (get_or r j 0) 48) (sym (has-where_below k (λ i. eqb (get_or r i 0) 48) j) ∙ h)).0);
-    }
+    let over = cube_over k (take k r) (omega (arith, length-take k r)) in
+    record { is_product = over.0; pos = over.1; neg = over.2 }
 
 rows_of_pins : (k : ℕ) (rows : List (List ℕ)) → AllByRecursion (IsRowOf k) (map (row_cube k) rows)
 rows_of_pins k [] = tt
@@ -65,7 +63,7 @@ pub record IsPlaced (limits : NetLimits) (i o : List (List ℕ)) (cs : List Unpl
 abbrev pub in_order : List Unplaced → List ℕ → List Unplaced
 in_order cs order = map (gate_at cs) order
 
-few_lines : (limits : NetLimits) → most_lines limits ≤ NET_LINES
+pub few_lines : (limits : NetLimits) → most_lines limits ≤ NET_LINES
 few_lines Source = omega arith
 few_lines Written = omega arith
 

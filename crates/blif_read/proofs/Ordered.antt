@@ -6,8 +6,8 @@ use Rattle.std.proofs.lemmas.List.{length_push, take_all, take-append-le, get_or
 use Rattle.std.proofs.lemmas.List.Quantifiers.{all_pairs_push}
 use Rattle.std.proofs.lemmas.List.Folds.{list_any_at}
 use Rattle.ae_net.specs.Valid.{IsDistinct}
-use Rattle.blif_place.specs.Order as by_place
-use Rattle.blif_place.proofs.Steps as steps
+use Rattle.blif_order.specs.Order as by_place
+use Rattle.blif_order.proofs.Steps as steps
 use Rattle.blif_read.proofs.Link.{cases_Option}
 
 found : (p : ℕ → Bool) (n a k : ℕ) → find p (range_with_len a n) ≡ Some k → p k ≡ true

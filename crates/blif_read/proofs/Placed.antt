@@ -7,7 +7,7 @@ use Rattle.std.proofs.lemmas.List.{length-map, length_push, get_or_default}
 use Rattle.std.proofs.lemmas.Option.{slice_get-get_or, slice_get_past}
 use Rattle.std.proofs.lemmas.List.Folds.{find_at, list_any-append, list_any_at}
 use Rattle.ae_net.specs.Valid.{IsDistinct}
-use Rattle.blif_read.specs.Words.{is_among}
+use Rattle.ae_base.specs.Twins.{is_among}
 use Rattle.blif_read.specs.Placing.{Unplaced, outs}
 use Rattle.ae_net.specs.Named.{place_of}
 use Rattle.blif_read.specs.Build.{rank_in, renumbered, IsRankBelow}
@@ -15,8 +15,8 @@ use Rattle.blif_read.proofs.Ranks.{any_within}
 use Rattle.blif_read.proofs.Tables.{place_of-append}
 use Rattle.blif_read.proofs.Places.{place_at, same_name, AllBelow, below_more}
 use Rattle.blif_read.proofs.Link.{gate_at, blank, out_at, among_placed, next_below, cases_Option}
-use Rattle.blif_place.specs.Order as by_place
-use Rattle.blif_place.proofs.Steps as steps
+use Rattle.blif_order.specs.Order as by_place
+use Rattle.blif_order.proofs.Steps as steps
 
 -- ---- how long an order is, and what stands in it
 

@@ -6,7 +6,7 @@ use Rattle.std.proofs.lemmas.Bool.{cases_Bool, cases_eq, eq-eqb, ne_eqb, falseâ‰
 use Rattle.std.proofs.lemmas.Slice.Eq.{bytes_eq-Decides}
 use Rattle.ae_base.proofs.Distinct.{each-append}
 use Rattle.ae_net.specs.Valid.{IsDistinct}
-use Rattle.blif_read.specs.Words.{is_among}
+use Rattle.ae_base.specs.Twins.{is_among}
 use Rattle.ae_net.specs.Named.{place_of}
 use Rattle.blif_read.proofs.WrittenNames.{bytes_apart, bytes_same, names_apart}
 

@@ -8,8 +8,7 @@ use Rattle.blif_read.specs.declared.fault.BlifErr.{BlifErr}
 use Rattle.blif_read.specs.declared.fault.BlifErr.TheVariants as errors
 use Rattle.blif_read.specs.declared.seen.Seen.{Seen}
 use Rattle.blif_read.specs.Statement.{Said, said}
-use Rattle.blif_read.specs.Faults.{line_fault, first_fault}
-use Rattle.blif_read.specs.Step.{seen_by, says_of, line_fault_in, with_line, at_line, IsFaultAt}
+use Rattle.blif_read.specs.Step.{line_fault, first_fault, seen_by, says_of, line_fault_in, with_line, at_line, IsFaultAt}
 use Rattle.blif_read.proofs.Steps.{fault_same, seen_push}
 
 pub says_more : (all : List WordLine) (k : ℕ) (line : WordLine) → k < length all → get_or all k line ≡ line → says_of (take (k + 1) all) ≡ says_of (take k all) ++ said line.words ∷ []

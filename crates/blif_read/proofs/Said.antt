@@ -25,11 +25,12 @@ use Rattle.blif_read.specs.declared.draft.Draft.{Draft}
 use Rattle.blif_read.specs.declared.seen.Seen.{Seen}
 use Rattle.blif_read.specs.Words.{is_name_under}
 use Rattle.blif_read.specs.Limits.{KeepsLimits}
-use Rattle.blif_read.specs.Faults.{first_fault}
+use Rattle.blif_read.specs.Step.{first_fault, seen_by, says_of}
 use Rattle.blif_read.specs.Placing.{Unplaced, outs}
-use Rattle.blif_read.specs.Says.{covers, lines_say, unless_faulty, blif_says}
-use Rattle.blif_read.specs.Step.{seen_by, says_of}
+use Rattle.blif_read.specs.Lines.{covers, lines_say, unless_faulty}
+use Rattle.blif_read.specs.Says.{blif_says}
 use Rattle.blif_read.specs.Build.{AreFaultless, AreDrafted, IsPlan, drafts_of, gates_among, rank_in, drawn, placed_net, undefined, shows_unknown, reads_unknown, first_line}
+use Rattle.blif_read.proofs.Bridge.{says_by_lines}
 use Rattle.blif_read.proofs.Ranks.{rank_cons}
 use Rattle.blif_read.proofs.Places.{AllBelow}
 use Rattle.blif_read.proofs.Link.{cases_Option}
@@ -38,7 +39,7 @@ use Rattle.blif_read.proofs.Placed.{order_below}
 use Rattle.blif_read.proofs.Network.{IsPlaced, in_order, out_of_gates, ordered_each}
 use Rattle.blif_read.proofs.Models.{model_named}
 use Rattle.blif_read.proofs.Whole.{model_is, lines_say_is, cycle_said, placed_are, drawn_is, drawn_valid, net_said, placed_said}
-use Rattle.blif_place.specs.Order as by_place
+use Rattle.blif_order.specs.Order as by_place
 
 -- ---- a plan
 
@@ -82,8 +83,7 @@ no_fault true e r net h = absurd cc
 no_fault false e r net h = (refl, h)
 
 faultless : (limits : NetLimits) (text : List ℕ) (net : Network) → blif_says limits text ≡ Ok net → (first_fault limits [] (word_lines Blif text) ≡ None) × (lines_say (last_line text) (word_lines Blif text) ≡ Ok net)
-unfolding blif_says
-faultless limits text net h = not_faulty (first_fault limits [] (word_lines Blif text)) (lines_say (last_line text) (word_lines Blif text)) net h
+faultless limits text net h = not_faulty (first_fault limits [] (word_lines Blif text)) (lines_say (last_line text) (word_lines Blif text)) net (sym (says_by_lines limits text) ∙ h)
 
 drafted : (last : ℕ) (lines : List WordLine) (seen : Seen) (net : Network) → AreFaultless lines seen → lines_say last lines ≡ Ok net → AreDrafted lines seen (drafts_of (seen.inputs ++ seen.driven) 0 lines)
 drafted last lines seen net f h =

@@ -14,11 +14,13 @@ use Rattle.ae_net.specs.Valid.{IsDistinct}
 use Rattle.blif_read.specs.declared.fault.NetLimits.{NetLimits}
 use Rattle.blif_read.specs.declared.fault.BlifFault.{BlifFault}
 use Rattle.blif_read.specs.declared.seen.Seen.{Seen}
-use Rattle.blif_read.specs.Words.{most_lines, is_name_under, is_among}
-use Rattle.blif_read.specs.Statement.{Said, said, gate_name}
+use Rattle.blif_read.specs.Words.{most_lines, is_name_under, gate_name}
+use Rattle.ae_base.specs.Twins.{is_among}
+use Rattle.blif_read.specs.Statement.{Said, said}
 use Rattle.blif_read.specs.Statement.Said.{Model, Inputs, Outputs, Names, End, Unsupported, Unknown, Row}
-use Rattle.blif_read.specs.Faults.{input_fault, output_fault, word_fault, names_fault, line_fault, first_fault}
-use Rattle.blif_read.specs.Step.{seen_by, says_of, line_fault_in, with_line}
+use Rattle.blif_read.specs.Faults.{declared_fault, word_fault, names_fault}
+use Rattle.blif_read.specs.declared.fault.BlifFault.TheVariants as fault
+use Rattle.blif_read.specs.Step.{line_fault, first_fault, seen_by, says_of, line_fault_in, with_line}
 use Rattle.blif_read.proofs.Steps.{fault_same, seen_push}
 use Rattle.blif_read.proofs.WrittenNames.{bytes_apart, bytes_same}
 use Rattle.blif_read.proofs.Words.{gate_is_name}
@@ -57,7 +59,7 @@ pub record IsSound (limits : NetLimits) (inputs outputs driven : List (List ℕ)
   pub driven_new : All (λ w. is_among w inputs ≡ false) driven
   pub outputs_new : All (λ w. is_among w inputs ≡ false) outputs
 
-input_sound : (limits : NetLimits) (i o d : List (List ℕ)) (w : List ℕ) → IsSound limits i o d → input_fault limits o d i w ≡ None → IsSound limits (i ++ w ∷ []) o d
+input_sound : (limits : NetLimits) (i o d : List (List ℕ)) (w : List ℕ) → IsSound limits i o d → declared_fault limits fault.TooManyInputs o d i w ≡ None → IsSound limits (i ++ w ∷ []) o d
 input_sound limits i o d w s h =
     let a = first_none (not (is_name_under limits w)) _ _ h in
     let b = first_none (is_among w i) _ _ a.1 in
@@ -77,13 +79,13 @@ input_sound limits i o d w s h =
       outputs_new = still_new w i o c.0 s.outputs_new;
     }
 
-inputs_sound : (limits : NetLimits) (i o d ws : List (List ℕ)) → IsSound limits i o d → word_fault (input_fault limits o d) i ws ≡ None → IsSound limits (i ++ ws) o d
+inputs_sound : (limits : NetLimits) (i o d ws : List (List ℕ)) → IsSound limits i o d → word_fault (declared_fault limits fault.TooManyInputs o d) i ws ≡ None → IsSound limits (i ++ ws) o d
 inputs_sound limits i o d [] s h = subst (λ (xs : List (List ℕ)). IsSound limits xs o d) (sym (append-nil i)) s
 inputs_sound limits i o d (w ∷ ws) s h =
-    let p = or_none (input_fault limits o d i w) (word_fault (input_fault limits o d) (i ++ w ∷ []) ws) h in
+    let p = or_none (declared_fault limits fault.TooManyInputs o d i w) (word_fault (declared_fault limits fault.TooManyInputs o d) (i ++ w ∷ []) ws) h in
     subst (λ (xs : List (List ℕ)). IsSound limits xs o d) (append_assoc i (w ∷ []) ws) (inputs_sound limits (i ++ w ∷ []) o d ws (input_sound limits i o d w s p.0) p.1)
 
-output_sound : (limits : NetLimits) (i o d : List (List ℕ)) (w : List ℕ) → IsSound limits i o d → output_fault limits i o w ≡ None → IsSound limits i (o ++ w ∷ []) d
+output_sound : (limits : NetLimits) (i o d : List (List ℕ)) (w : List ℕ) → IsSound limits i o d → declared_fault limits fault.TooManyOutputs i [] o w ≡ None → IsSound limits i (o ++ w ∷ []) d
 output_sound limits i o d w s h =
     let a = first_none (not (is_name_under limits w)) _ _ h in
     let b = first_none (is_among w o) _ _ a.1 in
@@ -102,10 +104,10 @@ output_sound limits i o d w s h =
       outputs_new = All-push (λ v. is_among v i ≡ false) o w s.outputs_new c.0;
     }
 
-outputs_sound : (limits : NetLimits) (i o d ws : List (List ℕ)) → IsSound limits i o d → word_fault (output_fault limits i) o ws ≡ None → IsSound limits i (o ++ ws) d
+outputs_sound : (limits : NetLimits) (i o d ws : List (List ℕ)) → IsSound limits i o d → word_fault (declared_fault limits fault.TooManyOutputs i []) o ws ≡ None → IsSound limits i (o ++ ws) d
 outputs_sound limits i o d [] s h = subst (λ (xs : List (List ℕ)). IsSound limits i xs d) (sym (append-nil o)) s
 outputs_sound limits i o d (w ∷ ws) s h =
-    let p = or_none (output_fault limits i o w) (word_fault (output_fault limits i) (o ++ w ∷ []) ws) h in
+    let p = or_none (declared_fault limits fault.TooManyOutputs i [] o w) (word_fault (declared_fault limits fault.TooManyOutputs i []) (o ++ w ∷ []) ws) h in
     subst (λ (xs : List (List ℕ)). IsSound limits i xs d) (append_assoc o (w ∷ []) ws) (outputs_sound limits i (o ++ w ∷ []) d ws (output_sound limits i o d w s p.0) p.1)
 
 -- of `.names` without a fault: it has a word, all are names, and it has not too many pins

@@ -9,51 +9,20 @@ use Rattle.ae_base.proofs.Truth.{or-false}
 use Rattle.ae_lex.specs.First.{first_of}
 use Rattle.blif_read.specs.declared.fault.NetLimits.{NetLimits}
 use Rattle.blif_read.specs.declared.fault.BlifFault.TheVariants as fault
-use Rattle.blif_read.specs.Words.{is_name_under}
-use Rattle.blif_read.specs.Statement.{Said, row_end, is_row}
+use Rattle.blif_read.specs.Words.{is_name_under, row_end, is_row}
+use Rattle.blif_read.specs.Statement.{Said}
 use Rattle.blif_read.specs.Statement.Said.{Model, Inputs, Outputs, Names, End, Unsupported, Unknown, Row}
 use Rattle.blif_read.specs.Earlier.{inputs_of, outputs_of, driven_of, input_words, output_words, driven_words, model_words, is_model, is_end, Cover, cover_after}
-use Rattle.blif_read.specs.Faults.{row_fault, line_fault, fault_before_end}
+use Rattle.blif_read.specs.Step.{line_fault, summary, seen_by, ends_otherwise, is_model_name, row_fault_in, fault_in, line_fault_in, with_line}
 use Rattle.blif_read.specs.declared.seen.Seen.{Seen}
-use Rattle.blif_read.specs.Step.{summary, seen_by, ends_otherwise, is_model_name, row_fault_in, fault_in, line_fault_in, with_line}
 
 -- the cover that a row after these lines belongs to, where this one was open before them
 abbrev pub open_cover : Option Cover → List Said → Option Cover
 open_cover c lines = fold cover_after c lines
 
--- ---- the fault of a line
-
-pub model_same : (limits : NetLimits) (ws : List (List ℕ)) → (ltb 1 (length ws) || not (list_all (is_name_under limits) ws)) ≡ not (is_model_name limits ws)
-model_same limits [] = refl
-model_same limits (w ∷ []) = pick (is_name_under limits w)
-  where
-    pick : (b : Bool) → (ltb 1 1 || not (b && true)) ≡ not b
-    pick true = refl
-    pick false = refl
-model_same limits (w ∷ v ∷ ws) = rw (lt-ltb 1 (length (w ∷ v ∷ ws)) (omega arith)) refl
-
-mixes_same : (rows : List (List ℕ)) (r : List ℕ) → not (eqb (row_end (get_or rows 0 r)) (row_end r)) ≡ ends_otherwise (option_map row_end (slice_get rows 0)) r
-mixes_same [] r = ap not (eq-eqb (row_end r) (row_end r) refl)
-mixes_same (q ∷ rows) r = refl
-
-row_fault_same : (c : Option Cover) (r : List ℕ) → row_fault c r ≡ row_fault_in (option_map summary c) r
-row_fault_same None r = refl
-row_fault_same (Some c) r = ap (λ (b : Bool). first_of ((not (is_row (length c.words - 1) r), fault.BadRow) ∷ (b, fault.MixedRows) ∷ [])) (mixes_same c.rows r)
-
-fault_same_before_end : (limits : NetLimits) (lines : List Said) (s : Said) → fault_before_end limits lines s ≡ fault_in limits (seen_by lines) s
-unfolding seen_by
-fault_same_before_end limits lines (Model ws) = ap (λ (b : Bool). first_of ((list_any is_model lines, fault.TwoModels) ∷ (b, fault.BadName) ∷ [])) (model_same limits ws)
-fault_same_before_end limits lines (Inputs ws) = refl
-fault_same_before_end limits lines (Outputs ws) = refl
-fault_same_before_end limits lines (Names ws) = refl
-fault_same_before_end limits lines End = refl
-fault_same_before_end limits lines Unsupported = refl
-fault_same_before_end limits lines Unknown = refl
-fault_same_before_end limits lines (Row r) = row_fault_same (open_cover None lines) r
-
 pub fault_same : (limits : NetLimits) (lines : List Said) (s : Said) → line_fault limits lines s ≡ line_fault_in limits (seen_by lines) s
-unfolding line_fault line_fault_in seen_by
-fault_same limits lines s = rw (fault_same_before_end limits lines s) refl
+unfolding line_fault
+fault_same limits lines s = refl
 
 -- ---- one more line
 

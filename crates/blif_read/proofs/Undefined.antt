@@ -6,11 +6,13 @@ use Rattle.ae_lex.specs.Words.{WordLine}
 use Rattle.ae_net.specs.Network.{Network}
 use Rattle.blif_read.specs.declared.fault.BlifFault.{BlifFault}
 use Rattle.blif_read.specs.declared.fault.BlifFault.TheVariants as fault
-use Rattle.blif_read.specs.Statement.{Said, said, gate_name, pin_names}
+use Rattle.blif_read.specs.Statement.{Said, said}
+use Rattle.blif_read.specs.Words.{gate_name, pin_names}
 use Rattle.blif_read.specs.Statement.Said.{Model, Inputs, Outputs, Names, End, Unsupported, Unknown, Row}
 use Rattle.blif_read.specs.Earlier.{output_words}
 use Rattle.blif_read.specs.Placing.{Unplaced}
-use Rattle.blif_read.specs.Says.{cover_of, covers, some_unknown, unless_faulty}
+use Rattle.blif_read.specs.Lines.{cover_of, covers, unless_faulty}
+use Rattle.blif_read.specs.Says.{some_unknown}
 use Rattle.blif_read.specs.Build.{rows_of, reads_unknown, shows_unknown, first_line, undefined}
 
 -- at the line of a cover

@@ -20,18 +20,18 @@ use Rattle.blif_read.specs.declared.fault.BlifFault.{BlifFault}
 use Rattle.blif_read.specs.declared.fault.BlifFault.TheVariants as fault
 use Rattle.blif_read.specs.declared.draft.Draft.{Draft}
 use Rattle.blif_read.specs.declared.seen.Seen.{Seen}
-use Rattle.blif_read.specs.Words.{most_lines, is_name_under, is_among}
+use Rattle.blif_read.specs.Words.{is_name_under}
+use Rattle.ae_base.specs.Twins.{is_among}
 use Rattle.blif_read.specs.Statement.{Said}
 use Rattle.blif_read.specs.Earlier.{inputs_of, outputs_of, driven_of, model_words}
 use Rattle.blif_read.specs.Placing.{Unplaced, outs, placed}
 use Rattle.ae_net.specs.Named.{net_of, place_of}
-use Rattle.blif_read.specs.Says.{covers, row_cube, is_on, named, model_of, lines_say, unless_faulty}
+use Rattle.blif_read.specs.Lines.{covers, row_cube, is_on, named, model_of, lines_say, unless_faulty}
 use Rattle.blif_read.proofs.Nets.{gate_in, net_in, net_named}
-use Rattle.blif_read.specs.Faults.{first_fault}
+use Rattle.blif_read.specs.Step.{first_fault, seen_by, says_of, IsFaultAt}
 use Rattle.blif_read.specs.Gives.{Gives}
 use Rattle.blif_read.specs.declared.fault.BlifErr.{BlifErr}
 use Rattle.blif_read.specs.declared.fault.BlifErr.TheVariants as errors
-use Rattle.blif_read.specs.Step.{seen_by, says_of, IsFaultAt}
 use Rattle.blif_read.specs.Build.{rows_of, AreSignals, AreFaultless, AreDrafted, AreBuildable, IsPlan, gates_among, renumbered, built, built_at, draft_at, cover_at, cover_front, port_of, drawn, net_or_cycle, placed_net, undefined, shows_unknown, reads_unknown, first_line}
 use Rattle.blif_read.proofs.Sound.{IsSound, SeenIsSound, sound_all}
 use Rattle.blif_read.proofs.Covers.{IsFit, covers_fit, outs_covers}
@@ -43,8 +43,8 @@ use Rattle.blif_read.proofs.Link.{gate_at, blank, out_at, AreKnown, known_at, ga
 use Rattle.blif_read.proofs.Placed.{order_below, order_short, AreRanks, ranks_below, one_left, none_left, renumber_same}
 use Rattle.blif_read.proofs.Ordered.{IsOrder, order_of_is}
 use Rattle.blif_read.proofs.Words.{name_under}
-use Rattle.blif_read.proofs.Network.{IsPlaced, in_order, is_valid, gates_ordered}
-use Rattle.blif_place.specs.Order as by_place
+use Rattle.blif_read.proofs.Network.{few_lines, IsPlaced, in_order, is_valid, gates_ordered}
+use Rattle.blif_order.specs.Order as by_place
 
 -- ---- lists
 
@@ -111,10 +111,6 @@ outs_are lines seen f = outs_covers lines ∙ sym (driven_are lines seen f)
 
 sound_is : (lines : List WordLine) (seen : Seen) (f : AreFaultless lines seen) → IsSound f.limits seen.inputs seen.outputs seen.driven
 sound_is lines seen f = subst (SeenIsSound f.limits) (sym f.seen_is) (sound_all f.limits lines f.none)
-
-few_lines : (limits : NetLimits) → most_lines limits < 128
-few_lines Source = omega arith
-few_lines Written = omega arith
 
 pub signals_are : (lines : List WordLine) (seen : Seen) → AreFaultless lines seen → AreSignals (seen.inputs ++ seen.driven)
 signals_are lines seen f =

@@ -6,10 +6,9 @@ use Rattle.std.proofs.lemmas.Bool.{and_parts, both_ways, cases_Bool}
 use Rattle.ae_base.specs.Name.{is_name}
 use Rattle.std.proofs.lemmas.List.{get_or-map, length-map, map_more, take-map}
 use Rattle.std.proofs.lemmas.List.Folds.{list_all_at, concat-append}
-use Rattle.blif_read.specs.Statement.{gate_name, pin_names}
+use Rattle.blif_read.specs.Words.{gate_name, pin_names, is_name_under}
 use Rattle.blif_read.specs.declared.fault.NetLimits.{NetLimits}
 use Rattle.blif_read.specs.declared.fault.NetLimits.TheVariants.{Source, Written}
-use Rattle.blif_read.specs.Words.{is_name_under}
 use Rattle.ae_lex.specs.Slices.{texts}
 
 pub name_under : (limits : NetLimits) (w : List ℕ) → is_name_under limits w ≡ true → is_name w ≡ true

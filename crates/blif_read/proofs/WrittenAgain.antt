@@ -6,7 +6,8 @@ use Rattle.std.proofs.lemmas.List.{append_assoc, append-nil, length-append, leng
 use Rattle.std.proofs.lemmas.List.Elements.{recursion_from_All}
 use Rattle.ae_base.specs.Name.{is_name}
 use Rattle.ae_base.proofs.Distinct.{each-append}
-use Rattle.ae_lex.specs.Words.{numbered, last_line, word_lines}
+use Rattle.ae_lex.specs.Words.{last_line, word_lines}
+use Rattle.ae_lex.specs.Written.{numbered}
 use Rattle.ae_lex.specs.declared.text.Style.TheVariants.{Blif}
 use Rattle.ae_lex.proofs.Written.{lines_written}
 use Rattle.ae_net.specs.declared.net.Gate.{Gate}
@@ -14,16 +15,20 @@ use Rattle.ae_net.specs.Network.{Network}
 use Rattle.ae_net.specs.Valid.{IsValid, IsDistinct}
 use Rattle.ae_net.specs.Blif.{signal_names, name_of, net_lines, blif_text}
 use Rattle.blif_read.specs.declared.fault.NetLimits.TheVariants.{Written}
-use Rattle.blif_read.specs.Words.{is_among}
+use Rattle.ae_base.specs.Twins.{is_among}
 use Rattle.blif_read.specs.Limits.{KeepsLimits}
 use Rattle.blif_read.specs.Statement.{Said}
 use Rattle.blif_read.specs.Statement.Said.{Model, Inputs, Outputs, Names, End}
 use Rattle.blif_read.specs.Earlier.{input_words, output_words, driven_words}
-use Rattle.blif_read.specs.Faults.{word_fault, output_fault, line_fault, first_fault}
+use Rattle.blif_read.specs.Faults.{declared_fault, word_fault}
+use Rattle.blif_read.specs.declared.fault.BlifFault.TheVariants as fault
+use Rattle.blif_read.specs.Step.{seen_by, line_fault, first_fault}
 use Rattle.blif_read.specs.Placing.{outs, placed}
 use Rattle.ae_net.specs.Named.{net_of, place_of}
-use Rattle.blif_read.specs.Says.{some_unknown, named, lines_say, blif_says}
+use Rattle.blif_read.specs.Says.{some_unknown, blif_says}
+use Rattle.blif_read.specs.Lines.{named, lines_say}
 use Rattle.blif_read.specs.Build.{shows_unknown, reads_unknown}
+use Rattle.blif_read.proofs.Bridge.{says_by_lines}
 use Rattle.blif_read.proofs.Nets.{gate_in, net_named}
 use Rattle.blif_read.proofs.Places.{AllBelow}
 use Rattle.blif_read.proofs.WrittenNames.{AreFresh, not_among, fresh, fresh_split, names_apart, places_back, signals_apart}
@@ -104,6 +109,7 @@ head_stands : (n : Network) → Stands (head_said n) n.inputs (map (name_of (sig
 head_stands n = record { on = refl; inputs_are = append-nil n.inputs; outputs_are = append-nil (map (name_of (signal_names n)) n.outputs); driven_are = refl }
 
 net_fine : (n : Network) → IsValid n → KeepsLimits Written n → IsKnown n → AreFine Written [] (net_said n)
+unfolding seen_by
 net_fine n v l k =
     let names = signal_names n in
     let outs = map (name_of names) n.outputs in
@@ -112,7 +118,7 @@ net_fine n v l k =
     let two : line_fault Written (Model (n.model ∷ []) ∷ []) (Inputs n.inputs) ≡ None = not_ended Written (Model (n.model ∷ []) ∷ []) (Inputs n.inputs) refl ∙ inputs_fine Written [] n.inputs k.inputs k.input_apart (omega (arith, l.few_inputs)) in
     let short : length outs ≡ length n.outputs = length-map n.outputs (name_of names) in
     let three : line_fault Written before (Outputs outs) ≡ None = not_ended Written before (Outputs outs) refl
-    ∙ ap (λ (i : List (List ℕ)). word_fault (output_fault Written i) [] outs) (append-nil n.inputs)
+    ∙ ap (λ (i : List (List ℕ)). word_fault (declared_fault Written fault.TooManyOutputs i []) [] outs) (append-nil n.inputs)
     ∙ outputs_fine Written n.inputs [] outs k.output_names k.output_others k.output_apart (omega (arith, short, l.few_outputs)) in
     (one, (two, (three, gates_fine names (head_said n) n.inputs outs [] n.gates (head_stands n) k.fit (omega (arith, v.few_gates)) (subst (λ (b : List (List ℕ)). AreFresh b (map (λ gate. gate.out) n.gates)) (sym (append-nil n.inputs)) k.gate_apart))))
 
@@ -171,10 +177,10 @@ net_back n k =
     ∙ ap₂ made (places_back names n.outputs k.apart k.outputs) (gates_back names (length n.inputs) 4 n.gates k.apart k.gates (omega (arith, k.size)))
 
 pub says_again : (n : Network) → IsValid n → KeepsLimits Written n → blif_says Written (blif_text n) ≡ Ok n
-unfolding blif_says blif_text
+unfolding blif_text
 says_again n v l =
     let k = known_of n v in
     let names = signal_names n in
     let read : word_lines Blif (blif_text n) ≡ numbered 1 (net_lines n) = lines_written Blif (net_lines n) (net_plain n v.model_named k.inputs k.output_names k.fit) in
     let fine : first_fault Written [] (numbered 1 (net_lines n)) ≡ None = fine_lines Written 1 [] (net_lines n) (subst (λ (ss : List Said). AreFine Written [] ss) (sym (said_net n)) (net_fine n v l k)) in
-    rw (read, fine) (net_lines_say n (last_line (blif_text n)) v k ∙ ap (λ (m : Network). Ok m) (net_back n k))
+    says_by_lines Written (blif_text n) ∙ rw (read, fine) (net_lines_say n (last_line (blif_text n)) v k ∙ ap (λ (m : Network). Ok m) (net_back n k))

@@ -1,5 +1,6 @@
 -- No line of a written gate is faulty.
 use Rattle.std.proofs.Common.{◌≡◌, ℕ, suc, ◌+◌, ◌<◌, ◌≤◌, Bool, false, Option, Some, None, List, [], ◌∷◌, ◌++◌, length, map, refl, sym, ap, subst, ◌∙◌, arith}
+use Rattle.std.specs.Option.{option_map}
 use Rattle.std.specs.List.{flat_map, list_any, AllByRecursion}
 use Rattle.std.proofs.lemmas.Bool.{or_from}
 use Rattle.std.proofs.lemmas.List.{append_assoc, append-nil, length-append, length-map}
@@ -10,11 +11,12 @@ use Rattle.ae_base.specs.Text.{digit}
 use Rattle.ae_net.specs.declared.net.Gate.{Gate}
 use Rattle.ae_net.specs.Blif.{name_of}
 use Rattle.blif_read.specs.declared.fault.NetLimits.TheVariants.{Written}
-use Rattle.blif_read.specs.Words.{is_among}
+use Rattle.ae_base.specs.Twins.{is_among}
 use Rattle.blif_read.specs.Statement.{Said}
 use Rattle.blif_read.specs.Statement.Said.{Names, End, Row}
 use Rattle.blif_read.specs.Earlier.{driven_of, is_end, Cover, cover_after}
-use Rattle.blif_read.specs.Faults.{names_fault, row_fault, line_fault}
+use Rattle.blif_read.specs.Faults.{names_fault}
+use Rattle.blif_read.specs.Step.{summary, seen_by, row_fault_in, line_fault}
 use Rattle.blif_read.proofs.WrittenNames.{AreFresh}
 use Rattle.blif_read.proofs.Steps.{open_cover, open-append}
 use Rattle.blif_read.proofs.WrittenLines.{AreFine, fine_append, Stands, stands_row, stands_names, not_ended, gate_name-snoc, names_fine, EndWith, end_more, row_fine}
@@ -26,10 +28,11 @@ use Rattle.blif_read.proofs.WrittenPlain.{IsFit}
 
 rows_fine : (before : List Said) (k : ℕ) (on : Bool) (ws rows : List (List ℕ)) (rest : List Product) → list_any is_end before ≡ false → length ws ≡ suc k → EndWith (digit on) rows
     → open_cover None before ≡ Some (record { words = ws; rows = rows }) → AreFine Written before (map (row_said k on) rest)
+unfolding seen_by
 rows_fine before k on ws rows [] ended e h o = tt
 rows_fine before k on ws rows (row ∷ rest) ended e h o =
     let r = row_chars k on row in (
-      not_ended Written before (Row r) ended ∙ ap (λ (c : Option Cover). row_fault c r) o ∙ row_fine k (digit on) r ws rows e (is_row-row_chars k on row) (row_end-row_chars k on row) h,
+      not_ended Written before (Row r) ended ∙ ap (λ (c : Option Cover). row_fault_in (option_map summary c) r) o ∙ row_fine k (digit on) r ws rows e (is_row-row_chars k on row) (row_end-row_chars k on row) h,
       rows_fine (before ++ Row r ∷ []) k on ws (rows ++ r ∷ []) rest
           (list_any-append is_end before (Row r ∷ []) ∙ or_from (list_any is_end before) false ended refl) e
           (end_more (digit on) rows r h (row_end-row_chars k on row))
@@ -59,6 +62,7 @@ stands_gates names before i o d (gate ∷ gates) h =
     rw (← append_assoc before (gate_said names gate) (flat_map (gate_said names) gates), ← append_assoc d (gate.out ∷ []) (map (λ gate. gate.out) gates)) rest
 
 gate_fine : (names : List (List ℕ)) (before : List Said) (i o d : List (List ℕ)) (gate : Gate) → Stands before i o d → IsFit names gate → length d < GATES → is_among gate.out (i ++ d) ≡ false → AreFine Written before (gate_said names gate)
+unfolding seen_by
 gate_fine names before i o d gate h fit room fresh =
     let ws = gate_words names gate in
     let k = length gate.pins in

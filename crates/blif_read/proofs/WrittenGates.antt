@@ -11,9 +11,10 @@ use Rattle.ae_base.proofs.Distinct.{each_weaker}
 use Rattle.ae_net.specs.declared.net.Gate.{Gate}
 use Rattle.ae_net.specs.Blif.{name_of}
 use Rattle.ae_net.specs.Valid.{IsGate, IsDistinct}
-use Rattle.blif_read.specs.Words.{is_among}
+use Rattle.ae_base.specs.Twins.{is_among}
 use Rattle.blif_read.specs.Placing.{outs}
-use Rattle.blif_read.specs.Says.{some_unknown, row_cube, is_on}
+use Rattle.blif_read.specs.Says.{some_unknown}
+use Rattle.blif_read.specs.Lines.{row_cube, is_on}
 use Rattle.blif_read.proofs.Nets.{gate_in}
 use Rattle.blif_read.proofs.Places.{AllBelow}
 use Rattle.blif_read.proofs.WrittenNames.{among_at, places_back}

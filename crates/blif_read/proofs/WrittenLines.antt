@@ -1,6 +1,6 @@
 -- Lines of which none is faulty, and what they say together.
 use Rattle.std.proofs.Common.{◌≡◌, ℕ, suc, ◌+◌, ◌-◌, ◌<◌, ◌≤◌, Bool, true, false, not, eqb, leb, ltb, Option, Some, None, Ok, List, [], ◌∷◌, ◌++◌, length, map, get_or, take, refl, sym, ap, subst, ◌∙◌, arith}
-use Rattle.std.specs.Prelude.{bytes_eq}
+use Rattle.std.specs.Prelude.{bytes_eq, slice_get}
 use Rattle.std.specs.List.{find, flat_map, list_any, list_all, AllByRecursion}
 use Rattle.std.specs.Option.{option_map, option_or}
 use Rattle.std.proofs.lemmas.Bool.{cond-false, or_from, or_parts, and_from, le-ltb, lt-leb, ne_eqb, eq-eqb}
@@ -8,17 +8,21 @@ use Rattle.std.proofs.lemmas.List.{append_assoc, append-nil, length-append, get_
 use Rattle.std.proofs.lemmas.List.Concat.{flat_map-append}
 use Rattle.std.proofs.lemmas.List.Folds.{list_any-append, list_all-append}
 use Rattle.ae_base.specs.declared.limits.TheConstants.{PINS, GATES}
-use Rattle.ae_lex.specs.Words.{WordLine, numbered}
+use Rattle.ae_lex.specs.Words.{WordLine}
+use Rattle.ae_lex.specs.Written.{numbered}
 use Rattle.blif_read.specs.declared.fault.NetLimits.{NetLimits}
 use Rattle.blif_read.specs.declared.fault.BlifFault.{BlifFault}
-use Rattle.blif_read.specs.Words.{most_lines, is_name_under, is_among}
-use Rattle.blif_read.specs.Statement.{Said, said, gate_name, pin_names, row_end, is_row}
+use Rattle.blif_read.specs.Words.{most_lines, is_name_under, gate_name, pin_names, row_end, is_row}
+use Rattle.ae_base.specs.Twins.{is_among}
+use Rattle.blif_read.specs.Statement.{Said, said}
 use Rattle.blif_read.specs.Statement.Said.{Names, Row}
 use Rattle.blif_read.specs.Earlier.{input_words, output_words, driven_words, inputs_of, outputs_of, driven_of, is_end}
-use Rattle.blif_read.specs.Faults.{input_fault, output_fault, word_fault, names_fault, row_fault, fault_before_end, fault_after_end, line_fault, first_fault}
+use Rattle.blif_read.specs.Faults.{declared_fault, word_fault, names_fault, fault_after_end}
+use Rattle.blif_read.specs.declared.fault.BlifFault.TheVariants as fault
+use Rattle.blif_read.specs.Step.{summary, seen_by, ends_otherwise, row_fault_in, fault_in, line_fault_in, line_fault, first_fault}
 use Rattle.blif_read.specs.Placing.{Unplaced, outs, placed}
 use Rattle.ae_net.specs.Named.{net_of}
-use Rattle.blif_read.specs.Says.{covers, named, model_of, lines_say}
+use Rattle.blif_read.specs.Lines.{covers, named, model_of, lines_say}
 use Rattle.blif_read.specs.Build.{shows_unknown, reads_unknown, first_line, net_or_cycle}
 use Rattle.blif_read.proofs.Undefined.{unknown_same}
 use Rattle.blif_read.proofs.WrittenNames.{AreFresh}
@@ -68,26 +72,26 @@ stands_names before ws w i o d h e =
     let m = stands_more before (Names ws) i o d h refl in
     record { on = m.on; inputs_are = m.inputs_are ∙ append-nil i; outputs_are = m.outputs_are ∙ append-nil o; driven_are = m.driven_are ∙ ap (λ (v : List ℕ). d ++ v ∷ []) e }
 
-pub not_ended : (limits : NetLimits) (before : List Said) (s : Said) → list_any is_end before ≡ false → line_fault limits before s ≡ fault_before_end limits before s
-unfolding line_fault
-not_ended limits before s h = cond-false (list_any is_end before) (fault_after_end s) (fault_before_end limits before s) h
+pub not_ended : (limits : NetLimits) (before : List Said) (s : Said) → list_any is_end before ≡ false → line_fault limits before s ≡ fault_in limits (seen_by before) s
+unfolding line_fault line_fault_in seen_by
+not_ended limits before s h = cond-false (list_any is_end before) (fault_after_end s) (fault_in limits (seen_by before) s) h
 
 -- ---- words of `.inputs` and `.outputs`
 
-pub inputs_fine : (limits : NetLimits) (had ws : List (List ℕ)) → AllByRecursion (λ w. is_name_under limits w ≡ true) ws → AreFresh had ws → length had + length ws ≤ most_lines limits → word_fault (input_fault limits [] []) had ws ≡ None
+pub inputs_fine : (limits : NetLimits) (had ws : List (List ℕ)) → AllByRecursion (λ w. is_name_under limits w ≡ true) ws → AreFresh had ws → length had + length ws ≤ most_lines limits → word_fault (declared_fault limits fault.TooManyInputs [] []) had ws ≡ None
 inputs_fine limits had [] names fresh few = refl
 inputs_fine limits had (w ∷ ws) names fresh few =
     let room : leb (most_lines limits) (length had) ≡ false = lt-leb (most_lines limits) (length had) (omega (arith, few)) in
-    let this : input_fault limits [] [] had w ≡ None = rw (names.0, fresh.0, room) refl in
-    ap (λ (o : Option BlifFault). option_or o (word_fault (input_fault limits [] []) (had ++ w ∷ []) ws)) this
+    let this : declared_fault limits fault.TooManyInputs [] [] had w ≡ None = rw (names.0, fresh.0, room) refl in
+    ap (λ (o : Option BlifFault). option_or o (word_fault (declared_fault limits fault.TooManyInputs [] []) (had ++ w ∷ []) ws)) this
     ∙ inputs_fine limits (had ++ w ∷ []) ws names.1 fresh.1 (omega (arith, length-append had (w ∷ []), few))
 
-pub outputs_fine : (limits : NetLimits) (inputs had ws : List (List ℕ)) → AllByRecursion (λ w. is_name_under limits w ≡ true) ws → AllByRecursion (λ w. is_among w inputs ≡ false) ws → AreFresh had ws → length had + length ws ≤ most_lines limits → word_fault (output_fault limits inputs) had ws ≡ None
+pub outputs_fine : (limits : NetLimits) (inputs had ws : List (List ℕ)) → AllByRecursion (λ w. is_name_under limits w ≡ true) ws → AllByRecursion (λ w. is_among w inputs ≡ false) ws → AreFresh had ws → length had + length ws ≤ most_lines limits → word_fault (declared_fault limits fault.TooManyOutputs inputs []) had ws ≡ None
 outputs_fine limits inputs had [] names others fresh few = refl
 outputs_fine limits inputs had (w ∷ ws) names others fresh few =
     let room : leb (most_lines limits) (length had) ≡ false = lt-leb (most_lines limits) (length had) (omega (arith, few)) in
-    let this : output_fault limits inputs had w ≡ None = rw (names.0, fresh.0, others.0, room) refl in
-    ap (λ (o : Option BlifFault). option_or o (word_fault (output_fault limits inputs) (had ++ w ∷ []) ws)) this
+    let this : declared_fault limits fault.TooManyOutputs inputs [] had w ≡ None = rw (names.0, fresh.0, others.0, room) refl in
+    ap (λ (o : Option BlifFault). option_or o (word_fault (declared_fault limits fault.TooManyOutputs inputs []) (had ++ w ∷ []) ws)) this
     ∙ outputs_fine limits inputs (had ++ w ∷ []) ws names.1 others.1 fresh.1 (omega (arith, length-append had (w ∷ []), few))
 
 -- ---- `.names`
@@ -127,11 +131,11 @@ pub end_more : (b : ℕ) (rows : List (List ℕ)) (r : List ℕ) → EndWith b r
 end_more b [] r h e = e
 end_more b (q ∷ rows) r h e = h
 
-unmixed : (b : ℕ) (rows : List (List ℕ)) (r : List ℕ) → EndWith b rows → row_end r ≡ b → not (eqb (row_end (get_or rows 0 r)) (row_end r)) ≡ false
-unmixed b [] r h e = ap not (eq-eqb (row_end r) (row_end r) refl)
+unmixed : (b : ℕ) (rows : List (List ℕ)) (r : List ℕ) → EndWith b rows → row_end r ≡ b → ends_otherwise (option_map row_end (slice_get rows 0)) r ≡ false
+unmixed b [] r h e = refl
 unmixed b (q ∷ rows) r h e = ap not (eq-eqb (row_end q) (row_end r) (h ∙ sym e))
 
-pub row_fine : (k b : ℕ) (r : List ℕ) (ws rows : List (List ℕ)) → length ws ≡ suc k → is_row k r ≡ true → row_end r ≡ b → EndWith b rows → row_fault (Some (record { words = ws; rows = rows })) r ≡ None
+pub row_fine : (k b : ℕ) (r : List ℕ) (ws rows : List (List ℕ)) → length ws ≡ suc k → is_row k r ≡ true → row_end r ≡ b → EndWith b rows → row_fault_in (Some (summary (record { words = ws; rows = rows }))) r ≡ None
 row_fine k b r ws rows e row end h =
     let wide : length ws - 1 ≡ k = omega (arith, e) in
     rw (wide, row, unmixed b rows r h end) refl

@@ -5,7 +5,7 @@ use Rattle.std.specs.List.{find, list_all, AllByRecursion}
 use Rattle.std.proofs.lemmas.Bool.{cond-true, cond-false, and_left, and_from, or_left, or_right, or_parts}
 use Rattle.std.proofs.lemmas.List.{append_assoc, append-nil, map-append}
 use Rattle.std.proofs.lemmas.List.Folds.{list_any-append}
-use Rattle.blif_read.specs.Words.{is_among}
+use Rattle.ae_base.specs.Twins.{is_among}
 use Rattle.blif_read.specs.Placing.{Unplaced, outs, can_go, place, placed}
 use Rattle.blif_read.proofs.WrittenNames.{AreFresh, bytes_same}
 

@@ -11,7 +11,8 @@ use Rattle.ae_base.specs.Name.{is_allowed, is_name}
 use Rattle.ae_base.specs.Text.{digit, literal_text, cube_text}
 use Rattle.ae_base.specs.declared.limits.TheConstants.{NAME_BYTES, PINS}
 use Rattle.ae_base.proofs.Distinct.{each-append, each_weaker}
-use Rattle.ae_lex.specs.Words.{is_plain, IsPlainLine}
+use Rattle.ae_base.specs.Plain.{is_plain}
+use Rattle.ae_lex.specs.Written.{IsPlainLine}
 use Rattle.ae_net.specs.declared.net.Gate.{Gate}
 use Rattle.ae_net.specs.Network.{Network}
 use Rattle.ae_net.specs.Blif.{signal_names, name_of, row_words, gate_lines, net_lines}

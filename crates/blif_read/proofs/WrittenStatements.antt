@@ -8,7 +8,7 @@ use Rattle.std.proofs.lemmas.List.Folds.{list_any-append}
 use Rattle.ae_base.specs.Mask.{has}
 use Rattle.ae_base.specs.Cube.{Product}
 use Rattle.ae_base.specs.Text.{digit, cube_text}
-use Rattle.ae_lex.specs.Words.{numbered}
+use Rattle.ae_lex.specs.Written.{numbered}
 use Rattle.ae_net.specs.declared.net.Gate.{Gate}
 use Rattle.ae_net.specs.Network.{Network}
 use Rattle.ae_net.specs.Blif.{signal_names, name_of, row_words, gate_lines, net_lines}
@@ -17,7 +17,7 @@ use Rattle.blif_read.specs.declared.head.Head.TheVariants as head
 use Rattle.blif_read.specs.Statement.{Said, said, said_by, head_of}
 use Rattle.blif_read.specs.Statement.Said.{Model, Inputs, Outputs, Names, End, Row}
 use Rattle.blif_read.specs.Placing.{Unplaced}
-use Rattle.blif_read.specs.Says.{rows_at, cover_of, covers}
+use Rattle.blif_read.specs.Lines.{rows_at, cover_of, covers}
 use Rattle.blif_read.specs.Step.{says_of}
 use Rattle.blif_read.specs.Build.{rows_of}
 use Rattle.blif_read.proofs.WrittenLines.{gate_name-snoc, pin_names-snoc}

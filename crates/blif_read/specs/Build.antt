@@ -13,16 +13,17 @@ use Rattle.blif_read.specs.declared.fault.BlifFault.{BlifFault}
 use Rattle.blif_read.specs.declared.fault.BlifFault.TheVariants as fault
 use Rattle.blif_read.specs.declared.fault.BlifErr.{BlifErr}
 use Rattle.blif_read.specs.declared.draft.Draft.{Draft}
-use Rattle.blif_read.specs.Words.{is_among}
-use Rattle.blif_read.specs.Statement.{Said, said, gate_name, pin_names}
+use Rattle.ae_base.specs.Twins.{is_among}
+use Rattle.blif_read.specs.Statement.{Said, said}
+use Rattle.blif_read.specs.Words.{gate_name, pin_names}
 use Rattle.blif_read.specs.Statement.Said.{Outputs, Names, Row}
 use Rattle.blif_read.specs.Earlier.{output_words}
-use Rattle.blif_read.specs.Faults.{first_fault}
-use Rattle.blif_place.specs.Order.{order_of}
+use Rattle.blif_read.specs.Step.{first_fault, seen_by, says_of, IsFaultAt}
+use Rattle.blif_order.specs.Order.{order_of}
 use Rattle.blif_read.specs.Placing.{Unplaced, outs, placed}
 use Rattle.ae_net.specs.Named.{place_of, net_of}
-use Rattle.blif_read.specs.Says.{rows_at, some_unknown, row_cube, is_on, covers, named, model_of, unless_faulty}
-use Rattle.blif_read.specs.Step.{seen_by, says_of, IsFaultAt}
+use Rattle.blif_read.specs.Lines.{rows_at, row_cube, is_on, covers, named, model_of, unless_faulty}
+use Rattle.blif_read.specs.Says.{some_unknown}
 
 -- the names of the signals in file order, few enough to be counted
 pub record AreSignals (known : List (List ℕ)) : Type 0 where

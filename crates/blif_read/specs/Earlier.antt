@@ -1,7 +1,8 @@
 -- What the lines before a line said, in file order.
 use Rattle.std.specs.Prelude.{ℕ, Bool, true, false, Option, Some, None, List, [], ◌∷◌, ◌++◌, option_map}
 use Rattle.std.specs.List.{flat_map}
-use Rattle.blif_read.specs.Statement.{Said, gate_name}
+use Rattle.blif_read.specs.Statement.{Said}
+use Rattle.blif_read.specs.Words.{gate_name}
 use Rattle.blif_read.specs.Statement.Said.{Model, Inputs, Outputs, Names, End, Row}
 
 -- of one line: the names of `.inputs`, those of `.outputs`, the gate of `.names`, and the name after `.model`

@@ -4,6 +4,7 @@ pub mod Earlier
 pub mod Faults
 pub mod Placing
 pub mod Says
+pub mod Lines
 pub mod Gives
 pub mod Limits
 pub mod Step

@@ -1,7 +1,7 @@
 -- The order in which gates are placed.
 use Rattle.std.specs.Prelude.{ℕ, zero, suc, Bool, not, ◌&&◌, Some, None, List, [], ◌∷◌, ◌++◌, length, map}
 use Rattle.std.specs.List.{list_all, find}
-use Rattle.blif_read.specs.Words.{is_among}
+use Rattle.ae_base.specs.Twins.{is_among}
 
 -- a `.names` with its rows and the number of its line
 pub record Unplaced : Type 0 where

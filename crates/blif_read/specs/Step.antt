@@ -1,6 +1,7 @@
 -- For private contracts alone: what the reader keeps between two lines, and what reading one more line does.
 use Rattle.std.specs.Prelude.{◌≡◌, ℕ, ◌-◌, ◌==◌, Bool, true, false, not, if◌then◌else◌, Option, Some, None, Result, Ok, Err, List, [], ◌∷◌, ◌++◌, length, map, slice_get, option_map, unwrap_or}
 use Rattle.std.specs.List.{list_any, flat_map, fold}
+use Rattle.std.specs.Option.{option_or}
 use Rattle.ae_lex.specs.First.{first_of}
 use Rattle.blif_read.specs.declared.fault.NetLimits.{NetLimits}
 use Rattle.blif_read.specs.declared.fault.BlifFault.{BlifFault}
@@ -10,13 +11,13 @@ use Rattle.blif_read.specs.declared.fault.BlifErr.{BlifErr}
 use Rattle.blif_read.specs.declared.fault.BlifErr.TheVariants as errors
 use Rattle.blif_read.specs.declared.seen.OpenCover.{OpenCover}
 use Rattle.blif_read.specs.declared.seen.Seen.{Seen}
-use Rattle.ae_lex.specs.declared.line_err.LineErr.{LineErr}
-use Rattle.ae_lex.specs.declared.line_err.LineErr.TheVariants as line
-use Rattle.blif_read.specs.Words.{is_name_under}
-use Rattle.blif_read.specs.Statement.{Said, said, gate_name, row_end, is_row}
+use Rattle.ae_lex.specs.declared.errors.LineErr.{LineErr}
+use Rattle.ae_lex.specs.declared.errors.LineErr.TheVariants as line
+use Rattle.blif_read.specs.Words.{is_name_under, gate_name, row_end, is_row}
+use Rattle.blif_read.specs.Statement.{Said, said}
 use Rattle.blif_read.specs.Statement.Said.{Model, Inputs, Outputs, Names, End, Unsupported, Unknown, Row}
 use Rattle.blif_read.specs.Earlier.{inputs_of, outputs_of, driven_of, is_model, is_end, model_words, Cover, cover_after}
-use Rattle.blif_read.specs.Faults.{input_fault, output_fault, word_fault, names_fault, fault_after_end, first_fault}
+use Rattle.blif_read.specs.Faults.{declared_fault, word_fault, names_fault, fault_after_end}
 
 -- of a cover: the number of its pins, and the last character of its first row
 abbrev pub summary : Cover → OpenCover
@@ -60,8 +61,8 @@ model_fault limits had ws = first_of ((had, fault.TwoModels) ∷ (not (is_model_
 
 abbrev pub fault_in : NetLimits → Seen → Said → Option BlifFault
 fault_in limits b (Model ws) = model_fault limits b.has_model ws
-fault_in limits b (Inputs ws) = word_fault (input_fault limits b.outputs b.driven) b.inputs ws
-fault_in limits b (Outputs ws) = word_fault (output_fault limits b.inputs) b.outputs ws
+fault_in limits b (Inputs ws) = word_fault (declared_fault limits fault.TooManyInputs b.outputs b.driven) b.inputs ws
+fault_in limits b (Outputs ws) = word_fault (declared_fault limits fault.TooManyOutputs b.inputs []) b.outputs ws
 fault_in limits b (Names ws) = names_fault limits b.inputs b.driven ws
 fault_in limits b End = None
 fault_in limits b Unsupported = Some fault.Unsupported
@@ -70,6 +71,16 @@ fault_in limits b (Row r) = row_fault_in b.cover r
 
 unfoldable pub line_fault_in : NetLimits → Seen → Said → Option BlifFault
 line_fault_in limits b s = if b.ended then fault_after_end s else fault_in limits b s
+
+-- the fault of a line after these lines
+unfoldable pub line_fault : NetLimits → List Said → Said → Option BlifFault
+line_fault limits before s = line_fault_in limits (seen_by before) s
+
+-- the number and the fault of the first faulty line, where these lines stand before
+unfoldable pub first_fault : NetLimits → List Said → List WordLine → Option (ℕ × BlifFault)
+first_fault limits before [] = None
+first_fault limits before (line ∷ lines) =
+    option_or (option_map (λ f. (line.number, f)) (line_fault limits before (said line.words))) (first_fault limits (before ++ said line.words ∷ []) lines)
 
 -- ---- what they say with one more line that has no fault
 

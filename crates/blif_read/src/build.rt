@@ -1,50 +1,28 @@
 //! Gates from their lines.
-ghost use Rattle.std.specs.Prelude.{◌≡◌, ℕ, ◌+◌, ◌<◌, ◌≤◌, ◌==◌, ◌^◌, length, map, drop, All, None, Some, option_map, slice_index, slice_index_or, IfOk, OnOk};
-ghost use Rattle.ae_base.specs.Mask.{where_below};
+ghost use Rattle.std.specs.Prelude.{◌≡◌, ℕ, ◌+◌, ◌<◌, ◌≤◌, ◌^◌, length, map, drop, All, None, Some, option_map, slice_index_or, IfOk, OnOk};
 ghost use Rattle.blif_read.specs.Statement as statement;
-ghost use Rattle.blif_read.specs.Says as says;
+ghost use Rattle.blif_read.specs.Lines as says;
 ghost use Rattle.blif_read.specs.Build as spec;
 
 use crate::draft::Draft;
 use crate::head::Head;
 use crate::statement::{head_of, joined, row_end};
-use ae_base::{Cube, Mask, Memory, Name, PINS, Seq};
+use ae_base::{Cube, Memory, Name, PINS, Seq, cube_of};
 use ae_lex::WordLine;
 use ae_net::{Gate, Pins};
 use std::alloc::Global;
 
-/// The character at a place of a row, and 0 past its end.
-fn char_at(chars: &[u8], place: u32) -> u8
-    ensures { result ≡ slice_index chars.now place }
-{
-    let place = place as usize;
-    if place < chars.len() { chars[place] } else { 0 }
-}
-
-/// Of so many pins those that have this character.
-fn pins_with(pins: u32, b: u8, chars: &[u8]) -> Mask
-    requires { pins ≤ PINS }
-    ensures { result ≡ where_below pins (λ j. slice_index chars.now j == b) }
-{
-    let mut found = Mask::empty();
-    for j in 0..pins {
-        if char_at(chars, j) == b {
-            found = found.with(j);
-        }
-    }
-    found
-}
-
 /// The cube of a row over so many pins.
-#[tactic(auto, using(crate::proofs::Cubes::row_is_product))]
+#[tactic(auto, using(std::proofs::lemmas::List::take_all))]
 fn row_cube(pins: u32, chars: &[u8]) -> Cube
     requires { pins ≤ PINS }
     ensures { result ≡ says.row_cube pins chars.now }
 {
-    Cube {
-        pos: pins_with(pins, b'1', chars),
-        neg: pins_with(pins, b'0', chars),
+    let pins = pins as usize;
+    if chars.len() <= pins {
+        return cube_of(chars);
     }
+    cube_of(&chars[..pins])
 }
 
 /// The characters of a line, if it is a row.
@@ -53,6 +31,7 @@ fn row_chars(alloc: Global, line: &WordLine<'_>) -> Result<Option<Seq<u8>>, Memo
     ensures { IfOk result (λ found. found ≡ spec.row_chars (statement.said line.now.words)) }
 {
     match line.words() {
+        [] => Ok(Some(Seq::new(alloc))),
         [first, others @ ..] if head_of(first) == Head::Row => {
             Ok(Some(Seq::from_vec(joined(alloc, first, others)?)))
         }

@@ -1,7 +1,8 @@
 //! The names that statements declare and drive.
 ghost use Rattle.std.specs.Prelude.{◌≡◌, ◌++◌, ◌∷◌, [], OnOk};
-ghost use Rattle.blif_read.specs.Statement.{gate_name};
+ghost use Rattle.blif_read.specs.Words.{gate_name};
 ghost use Rattle.blif_read.specs.Faults as faults;
+ghost use Rattle.blif_read.specs.declared.fault.BlifFault.TheVariants as fault;
 ghost use Rattle.blif_read.specs.Step.{GivesFault};
 ghost use Rattle.ae_lex.specs.Slices.{texts};
 
@@ -21,7 +22,7 @@ fn add_input(
     inputs: &mut NameTable,
     word: &[u8],
 ) -> Result<(), LineErr<BlifFault>>
-    ensures fault { GivesFault (faults.input_fault limits outputs.now driven.now inputs.old word.now) result }
+    ensures fault { GivesFault (faults.declared_fault limits fault.TooManyInputs outputs.now driven.now inputs.old word.now) result }
     ensures inputs { OnOk result (inputs.new ≡ inputs.old ++ word.now ∷ []) }
 {
     let Some(name) = read_name(alloc, limits, word)? else {
@@ -52,7 +53,7 @@ pub fn add_inputs(
     inputs: &mut NameTable,
     words: &[&[u8]],
 ) -> Result<(), LineErr<BlifFault>>
-    ensures fault { GivesFault (faults.word_fault (faults.input_fault limits outputs.now driven.now) inputs.old (texts words.now)) result }
+    ensures fault { GivesFault (faults.word_fault (faults.declared_fault limits fault.TooManyInputs outputs.now driven.now) inputs.old (texts words.now)) result }
     ensures inputs { OnOk result (inputs.new ≡ inputs.old ++ texts words.now) }
 {
     for word in words {
@@ -69,7 +70,7 @@ fn add_output(
     outputs: &mut NameTable,
     word: &[u8],
 ) -> Result<(), LineErr<BlifFault>>
-    ensures fault { GivesFault (faults.output_fault limits inputs.now outputs.old word.now) result }
+    ensures fault { GivesFault (faults.declared_fault limits fault.TooManyOutputs inputs.now [] outputs.old word.now) result }
     ensures outputs { OnOk result (outputs.new ≡ outputs.old ++ word.now ∷ []) }
 {
     let Some(name) = read_name(alloc, limits, word)? else {
@@ -96,7 +97,7 @@ pub fn add_outputs(
     outputs: &mut NameTable,
     words: &[&[u8]],
 ) -> Result<(), LineErr<BlifFault>>
-    ensures fault { GivesFault (faults.word_fault (faults.output_fault limits inputs.now) outputs.old (texts words.now)) result }
+    ensures fault { GivesFault (faults.word_fault (faults.declared_fault limits fault.TooManyOutputs inputs.now []) outputs.old (texts words.now)) result }
     ensures outputs { OnOk result (outputs.new ≡ outputs.old ++ texts words.now) }
 {
     for word in words {

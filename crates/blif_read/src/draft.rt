@@ -2,6 +2,7 @@
 ghost use Rattle.std.specs.Prelude.{◌≡◌, ◌++◌, ◌+◌, ◌<◌, ◌^◌, length, map, All, [], false, true, MatchOption, IfOk, IfSome};
 ghost use Rattle.ae_base.specs.Name.{is_name};
 ghost use Rattle.blif_read.specs.Statement as statement;
+ghost use Rattle.blif_read.specs.Words.{pin_names};
 ghost use Rattle.blif_read.specs.Step.{IsFaultAt};
 ghost use Rattle.blif_read.specs.Build as spec;
 ghost use Rattle.ae_lex.specs.Slices.{texts};
@@ -98,7 +99,7 @@ fn outputs_of<'a, 'b>(words: &'a [&'b [u8]]) -> Option<&'a [&'b [u8]]>
 /// Of the words after `.names` those of the pins.
 #[tactic(auto, using(crate::proofs::Words::pins_cut))]
 fn pin_words<'a, 'b>(words: &'a [&'b [u8]]) -> &'a [&'b [u8]]
-    ensures { texts result.now ≡ statement.pin_names (texts words.now) }
+    ensures { texts result.now ≡ pin_names (texts words.now) }
 {
     match words {
         [] => words,

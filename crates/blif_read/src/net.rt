@@ -2,8 +2,8 @@
 ghost use Rattle.std.specs.Prelude.{◌≡◌, ℕ, ◌+◌, ◌<◌, ◌≤◌, ◌^◌, ◌++◌, List, length, map, drop, All, true, None, unwrap_or, codes, IfOk};
 ghost use Rattle.ae_base.specs.Name.{is_name};
 ghost use Rattle.ae_net.specs.Valid.{IsValid};
-ghost use Rattle.blif_read.specs.Words.{is_among};
-ghost use Rattle.blif_read.specs.Says as says;
+ghost use Rattle.ae_base.specs.Twins.{is_among};
+ghost use Rattle.blif_read.specs.Lines as says;
 ghost use Rattle.blif_read.specs.Placing.{placed};
 ghost use Rattle.blif_read.specs.Gives.{Gives};
 ghost use Rattle.blif_read.specs.Step.{says_of};
@@ -17,7 +17,7 @@ use crate::seen::Seen;
 use ae_base::{Memory, Name, Seq, copies};
 use ae_lex::WordLine;
 use ae_net::{Gate, Net};
-use blif_place::order_of;
+use blif_order::order_of;
 use std::alloc::Global;
 
 /// The lines after a place.
@@ -206,7 +206,7 @@ fn net_drafted(
 }
 
 /// What lines without a fault say, in a text with so many physical lines.
-#[tactic(auto, unfolding(crate::specs::Says::lines_say))]
+#[tactic(auto, unfolding(crate::specs::Lines::lines_say))]
 pub fn net_said(
     alloc: Global,
     lines: &[WordLine<'_>],

@@ -1,8 +1,8 @@
 //! Reads a text line by line.
 ghost use Rattle.std.specs.Prelude.{◌≡◌, ◌≤◌, [], length};
-ghost use Rattle.blif_read.specs.Faults.{first_fault};
-ghost use Rattle.blif_read.specs.Step.{seen_by, TakesLine, Reads};
-ghost use Rattle.blif_read.specs.Says.{blif_says, lines_say, unless_faulty};
+ghost use Rattle.blif_read.specs.Step.{first_fault, seen_by, TakesLine, Reads};
+ghost use Rattle.blif_read.specs.Says.{blif_says};
+ghost use Rattle.blif_read.specs.Lines.{lines_say, unless_faulty};
 ghost use Rattle.blif_read.specs.Gives.{Gives};
 
 use crate::fault::{BlifErr, NetLimits};
@@ -67,7 +67,7 @@ fn net_of_lines(
 ///
 /// `At` carries the line and the kind of the first fault of the lines in order; where none has one, that of the whole text. `Memory` comes
 /// only for want of memory. What is read is combinational BLIF of one model, in the profile that `BlifFault` names.
-#[tactic(auto, unfolding(crate::specs::Says::blif_says))]
+#[tactic(auto, using(crate::proofs::Bridge::says_by_lines))]
 pub fn read_blif(alloc: Global, bytes: &[u8], limits: NetLimits) -> Result<Net, BlifErr>
     requires { length bytes.now ≤ TEXT_BYTES }
     ensures { Gives (blif_says limits bytes.now) result }

@@ -216,7 +216,7 @@ impl Seen {
         ensures { Takes (line_fault_in limits self.old (statement.said (texts words.now))) (with_line self.old (statement.said (texts words.now))) result self.new }
     {
         match words {
-            [] => self.read_line(alloc, limits, Head::Unknown, &[], &[]),
+            [] => self.read_line(alloc, limits, Head::Row, &[], &[]),
             [first, others @ ..] => { self.read_line(alloc, limits, head_of(first), first, others) }
         }
     }

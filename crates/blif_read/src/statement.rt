@@ -1,6 +1,7 @@
 //! What the words of a line are.
-ghost use Rattle.std.specs.Prelude.{◌≡◌, ◌==◌, ◌||◌, ◌∷◌, slice_index, if◌then◌else◌, Some, None, IfOk};
+ghost use Rattle.std.specs.Prelude.{◌≡◌, ◌∷◌, slice_index, if◌then◌else◌, Some, None, IfOk};
 ghost use Rattle.std.specs.List.{list_all, concat};
+ghost use Rattle.ae_base.specs.Twins.{is_among};
 ghost use Rattle.blif_read.specs.Words as words;
 ghost use Rattle.blif_read.specs.Statement as spec;
 ghost use Rattle.blif_read.specs.declared.head.Head.TheVariants as head;
@@ -8,7 +9,9 @@ ghost use Rattle.ae_lex.specs.Slices.{texts};
 
 use crate::fault::NetLimits;
 use crate::head::Head;
-use ae_base::{Memory, Name, SOURCE_LINES, WRITTEN_LINES, is_name, is_source_name};
+use ae_base::{
+    Memory, Name, SOURCE_LINES, WRITTEN_LINES, are_literals, is_bit, is_name, is_source_name,
+};
 use ae_lex::is_one_of;
 use std::alloc::Global;
 
@@ -84,7 +87,7 @@ static UNSUPPORTED: [&[u8]; 19] = [
 
 /// What a statement with this first word is, if it is not read.
 fn unread_statement(word: &[u8]) -> Head
-    ensures { result ≡ (if words.is_among word.now spec.unsupported then head.Unsupported else head.Unknown) }
+    ensures { result ≡ (if is_among word.now words.unsupported then head.Unsupported else head.Unknown) }
 {
     if is_one_of(word, &UNSUPPORTED) {
         Head::Unsupported
@@ -127,21 +130,9 @@ pub fn joined(alloc: Global, first: &[u8], others: &[&[u8]]) -> Result<Vec<u8>, 
     Ok(chars)
 }
 
-fn is_digit(b: u8) -> bool
-    ensures { result ≡ spec.is_digit b }
-{
-    b == b'0' || b == b'1'
-}
-
-fn are_literals(chars: &[u8]) -> bool
-    ensures { result ≡ list_all (λ b. spec.is_digit b || b == 45) chars.now }
-{
-    chars.iter().all(|b| is_digit(*b) || *b == b'-')
-}
-
 /// Whether these are the characters of a row over so many pins.
 pub fn is_row(pins: usize, chars: &[u8]) -> bool
-    ensures { result ≡ spec.is_row pins chars.now }
+    ensures { result ≡ words.is_row pins chars.now }
 {
     if chars.is_empty() {
         return false;
@@ -152,12 +143,12 @@ pub fn is_row(pins: usize, chars: &[u8]) -> bool
     if !are_literals(&chars[..pins]) {
         return false;
     }
-    is_digit(chars[pins])
+    is_bit(chars[pins])
 }
 
 /// The last character.
 pub fn row_end(chars: &[u8]) -> u8
-    ensures { result ≡ spec.row_end chars.now }
+    ensures { result ≡ words.row_end chars.now }
 {
     if chars.is_empty() {
         return 0;

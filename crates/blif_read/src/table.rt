@@ -1,6 +1,6 @@
 //! Different names, in order, found by what they are.
 ghost use Rattle.std.specs.Prelude.{◌≡◌, ◌++◌, ◌∷◌, ◌<◌, [], false, length, if◌then◌else◌, Some, None, IfSome, OnOk, OnErr};
-ghost use Rattle.blif_read.specs.Words.{is_among};
+ghost use Rattle.ae_base.specs.Twins.{is_among};
 ghost use Rattle.ae_net.specs.Named.{place_of};
 
 use ae_base::{Memory, Name};

@@ -9,11 +9,12 @@ use Rattle.ae_net.specs.Lead.{lead}
 use Rattle.ae_net.specs.Names.{Names, IsNames, inner}
 use Rattle.ae_net.specs.Valid.{IsValid}
 use Rattle.ae_net.specs.declared.net.Gate.{Gate}
-use Rattle.expansion.specs.Terms.{Terms, IsTerms, cost}
+use Rattle.expansion.specs.Terms.{Terms, cost}
+use Rattle.expansion.specs.Kept.{IsTerms}
 use Rattle.cascade.specs.Plan.{IsPlan}
-use Rattle.cascade.specs.Reddy.{lines, turned, inverters, control_gates, wide_terms, and_place, chain_place, and_gates, chains, ends, gates, reddy_net}
-use Rattle.cascade.specs.Shows.{Fits}
-use Rattle.cascade.specs.declared.limits.TheConstants.{REDDY_TERMS}
+use Rattle.cascade.specs.Reddy.{lines, turned, inverters, control_gates, wide_terms, and_place, chain_place, and_gates, chains, ends, gates}
+use Rattle.cascade.specs.Shows.{Fits, reddy_net}
+use Rattle.ae_base.specs.declared.limits.TheConstants.{REDDY_TERMS}
 use Rattle.cascade.specs.declared.signals.Plan.{Plan}
 use Rattle.cascade.proofs.GatesValid.{turned_below}
 use Rattle.cascade.proofs.Law.{Stands, length-control_gates}

@@ -15,7 +15,7 @@ use Rattle.ae_net.specs.declared.net.Gate.{Gate}
 use Rattle.expansion.specs.Terms.{Terms, cost}
 use Rattle.cascade.specs.Plan.{IsChain, HasRoom}
 use Rattle.cascade.specs.Reddy.{lines, start, rest, inner_gates, chain, chains, ends, gates_for, place_of}
-use Rattle.cascade.specs.declared.limits.TheConstants.{REDDY_TERMS}
+use Rattle.ae_base.specs.declared.limits.TheConstants.{REDDY_TERMS}
 use Rattle.cascade.specs.declared.parts.Chain.{Chain}
 use Rattle.cascade.proofs.Law.{length-chain}
 use Rattle.cascade.proofs.NamesApart.{all_inner}

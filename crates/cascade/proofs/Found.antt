@@ -9,7 +9,8 @@ use Rattle.ae_base.proofs.InOrder.{in_order-order, any-in_order}
 use Rattle.ae_base.proofs.Order.{less_apart}
 use Rattle.ae_base.proofs.Distinct.{Distinct, Distinct-from_AllPairs}
 use Rattle.ae_base.proofs.Elements.{any_flat, All-get, any_filter_parts, any_found, each_at}
-use Rattle.expansion.specs.Terms.{Terms, IsTerms}
+use Rattle.expansion.specs.Terms.{Terms}
+use Rattle.expansion.specs.Kept.{IsTerms}
 use Rattle.cascade.specs.Reddy.{place_of, is_wide, wide_terms}
 use Rattle.cascade.proofs.Law.{Stands}
 

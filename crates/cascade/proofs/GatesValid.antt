@@ -8,6 +8,7 @@ use Rattle.std.proofs.lemmas.List.{length-map}
 use Rattle.std.proofs.lemmas.List.Elements.{All-from_recursion, All-map, All-weaker}
 use Rattle.ae_base.specs.Mask.{Set, has, empty, first, inside, members}
 use Rattle.ae_base.proofs.Members.{members-has, first_member, length-members}
+use Rattle.ae_base.proofs.EachAt.{EachAt, EachAt-join}
 use Rattle.ae_net.specs.Valid.{IsGate}
 use Rattle.expansion.specs.Terms.{Terms}
 use Rattle.ae_base.specs.declared.limits.TheConstants.{NET_LINES, SOURCE_NAME_BYTES}
@@ -18,7 +19,7 @@ use Rattle.ae_base.proofs.Distinct.{each_weaker}
 use Rattle.ae_net.specs.Lead.{IsLetter}
 use Rattle.ae_net.specs.Names.{inner}
 use Rattle.ae_net.proofs.InnerAreNames.{letter_is_name, numbered_is_name}
-use Rattle.ae_net.proofs.GatesValid.{AreGates, AreGates-append, IsGate-inverter, IsGate-buffer, IsGate-exor, IsGate-and}
+use Rattle.ae_net.proofs.GatesValid.{IsGate-inverter, IsGate-buffer, IsGate-exor, IsGate-and}
 use Rattle.cascade.proofs.NamesApart.{all_inner}
 use Rattle.ae_net.specs.Gates.{inverter, and_gate}
 use Rattle.expansion.specs.Terms.{is_used}
@@ -72,8 +73,8 @@ IsGate-term s e out t named few low stands below =
 -- ---- the parts of the network
 
 pub AreGates-inverters : (k i : ℕ) (e : Terms) (js : List ℕ) (s : ℕ) → k ≤ SOURCE_NAME_BYTES + 1 → s + length js < 2 ^ 64 → AllByRecursion (λ j. j < s) js
-    → AreGates s (gates_for (λ _ j. inverter (inner k (codes "i" ++ decimal (suc j))) j) i js)
-unfolding AreGates
+    → EachAt IsGate s (gates_for (λ _ j. inverter (inner k (codes "i" ++ decimal (suc j))) j) i js)
+unfolding EachAt
 AreGates-inverters k i e [] s short small h = tt
 AreGates-inverters k i e (j ∷ js) s short small (h, hs) = (
   IsGate-inverter s (inner k (105 ∷ decimal (suc j))) j (numbered k 105 (suc j) short (omega arith, omega arith) (omega (arith, h, small))) h,
@@ -84,8 +85,8 @@ pub turned_below : (e : Terms) → AllByRecursion (λ j. j < lines e) (turned e)
 unfolding turned
 turned_below e = range_below _ 0 e.polarity.n (lines e) (omega arith)
 
-pub AreGates-control : (k : ℕ) (e : Terms) (s : ℕ) → k ≤ SOURCE_NAME_BYTES + 1 → lines e ≤ s → AreGates s (control_gates k e)
-unfolding AreGates control_gates
+pub AreGates-control : (k : ℕ) (e : Terms) (s : ℕ) → k ≤ SOURCE_NAME_BYTES + 1 → lines e ≤ s → EachAt IsGate s (control_gates k e)
+unfolding EachAt control_gates
 AreGates-control k e s short l =
     elim (cases_Bool (list_any has_one e.outs)) [
       | inl b ↦ rw b (IsGate-inverter s (inner k (109 ∷ [])) e.polarity.n (letter_is_name k 109 (inner k (109 ∷ [])) refl short (omega arith, omega arith)) (omega arith), tt)
@@ -93,8 +94,8 @@ AreGates-control k e s short l =
     ]
 
 pub AreGates-ands : (k i : ℕ) (e : Terms) (ts : List Set) (s : ℕ) → k ≤ SOURCE_NAME_BYTES + 1 → i + length ts < 2 ^ 64 → e.polarity.n ≤ NET_LINES → lines e + and_place e ≤ s → AllStand e ts
-    → AreGates s (gates_for (λ i t. and_gate (inner k (codes "t" ++ decimal (suc i))) (map (literal_signal e) (members t))) i ts)
-unfolding AreGates
+    → EachAt IsGate s (gates_for (λ i t. and_gate (inner k (codes "t" ++ decimal (suc i))) (map (literal_signal e) (members t))) i ts)
+unfolding EachAt
 AreGates-ands k i e [] s short small few low h = tt
 AreGates-ands k i e (t ∷ ts) s short small few low ((stands, below), hs) = (
   IsGate-term s e (inner k (116 ∷ decimal (suc i))) t (numbered k 116 (suc i) short (omega arith, omega arith) (omega (arith, small))) few low stands below,
@@ -121,8 +122,8 @@ term_below e t stands below some = by_width (is_wide t) refl
 
 -- a chain's gates, where its start and its terms are earlier signals
 AreGates-links : (k : ℕ) (e : Terms) (out : List ℕ) (c i y : ℕ) (t : Set) (ts : List Set) → k ≤ SOURCE_NAME_BYTES + 1 → is_name out ≡ true → c + length ts < 2 ^ 64 → y < lines e + i
-    → AllByRecursion (λ u. term_signal e u < lines e + i) (t ∷ ts) → AreGates (lines e + i) (links k e out c i y t ts)
-unfolding AreGates
+    → AllByRecursion (λ u. term_signal e u < lines e + i) (t ∷ ts) → EachAt IsGate (lines e + i) (links k e out c i y t ts)
+unfolding EachAt
 AreGates-links k e out c i y t [] short named small l (h, _) = (IsGate-exor (lines e + i) out y (term_signal e t) named l h, tt)
 AreGates-links k e out c i y t (u ∷ us) short named small l (h, hs) =
     let z : lines e + suc i ≡ suc (lines e + i) = omega arith in (
@@ -131,8 +132,8 @@ AreGates-links k e out c i y t (u ∷ us) short named small l (h, hs) =
     )
 
 AreGates-chain : (k : ℕ) (e : Terms) (out : List ℕ) (c i y : ℕ) (ts : List Set) → k ≤ SOURCE_NAME_BYTES + 1 → is_name out ≡ true → c + (length ts - 1) < 2 ^ 64 → y < lines e + i
-    → AllByRecursion (λ u. term_signal e u < lines e + i) ts → AreGates (lines e + i) (chain k e out c i y ts)
-unfolding AreGates
+    → AllByRecursion (λ u. term_signal e u < lines e + i) ts → EachAt IsGate (lines e + i) (chain k e out c i y ts)
+unfolding EachAt
 AreGates-chain k e out c i y [] short named small l h = (IsGate-buffer (lines e + i) out y named l, tt)
 AreGates-chain k e out c i y (t ∷ ts) short named small l h =
     let z : suc (length ts) - 1 ≡ length ts = omega arith in
@@ -144,12 +145,12 @@ pub record Reads (e : Terms) (ts : List Set) : Type 0 where
   pub terms : AllByRecursion (λ t. term_signal e t < lines e + chain_place e) (rest ts)
 
 pub AreGates-chains : (k : ℕ) (e : Terms) (c i : ℕ) (tss : List (List Set)) (outs : List (List ℕ)) → k ≤ SOURCE_NAME_BYTES + 1 → AllByRecursion (λ o. is_name o ≡ true) outs → c + all_inner tss < 2 ^ 64
-    → chain_place e ≤ i → AllByRecursion (Reads e) tss → AreGates (lines e + i) (chains k e c i tss outs)
-unfolding AreGates
+    → chain_place e ≤ i → AllByRecursion (Reads e) tss → EachAt IsGate (lines e + i) (chains k e c i tss outs)
+unfolding EachAt
 AreGates-chains k e c i [] outs short named small l h = tt
 AreGates-chains k e c i (ts ∷ tss) [] short named small l h = tt
 AreGates-chains k e c i (ts ∷ tss) (out ∷ outs) short (here, named) small l (h, hs) =
     let z : lines e + i + length (chain k e out c i (start e ts) (rest ts)) ≡ lines e + suc (i + inner_gates ts) = omega (arith, length-chain k e out c i (start e ts) (rest ts)) in
-    AreGates-append (lines e + i) (chain k e out c i (start e ts) (rest ts)) _
+    EachAt-join IsGate (lines e + i) (chain k e out c i (start e ts) (rest ts)) _
     (AreGates-chain k e out c i (start e ts) (rest ts) short here (omega (arith, small)) (omega (arith, h.begins)) (each_weaker (λ t. term_signal e t < lines e + chain_place e) (λ t. term_signal e t < lines e + i) (λ t m. omega arith) (rest ts) h.terms))
     (rw z (AreGates-chains k e (c + inner_gates ts) (suc (i + inner_gates ts)) tss outs short named (omega (arith, small)) (omega arith) hs))

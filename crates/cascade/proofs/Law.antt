@@ -13,6 +13,7 @@ use Rattle.std.proofs.lemmas.Map.Keys.{any_passes_from_place}
 use Rattle.ae_base.specs.Mask.{Set, differ, has, empty, first, inside, len, members, cmp_terms}
 use Rattle.ae_base.proofs.Sets.{has-empty, has-where_below, inside-below}
 use Rattle.ae_base.proofs.Members.{members-has, cmp_same, len-members, len-none, no_members}
+use Rattle.ae_base.proofs.EachAt.{EachAt, EachAt-split}
 use Rattle.ae_net.specs.declared.net.Gate.{Gate}
 use Rattle.ae_net.specs.declared.net.Fault.{Fault}
 use Rattle.ae_net.specs.Network.{Network}
@@ -20,7 +21,8 @@ use Rattle.ae_net.specs.Valid.{IsValid}
 use Rattle.ae_net.specs.Out.{run, out}
 use Rattle.ae_net.specs.Run.{value_of, IsRun}
 use Rattle.ae_net.proofs.Runs.{IsRun-run, out_of_run}
-use Rattle.expansion.specs.Terms.{Terms, IsTerms}
+use Rattle.expansion.specs.Terms.{Terms}
+use Rattle.expansion.specs.Kept.{IsTerms}
 use Rattle.ae_base.specs.Terms.{IsInOrder, literal, product, exor_of, value}
 use Rattle.ae_base.proofs.InOrder.{in_order-tail, any-in_order}
 use Rattle.ae_base.proofs.Truth.{differ-front, differ-past}
@@ -30,11 +32,12 @@ use Rattle.ae_net.specs.Lead.{lead}
 use Rattle.ae_net.specs.Names.{Names, inner}
 use Rattle.ae_net.specs.Gates.{and_gate}
 use Rattle.expansion.specs.Terms.{is_used}
-use Rattle.cascade.specs.Reddy.{place_of, gates_for, lines, turned, literal_signal, inverters, has_one, control_gates, start, is_wide, wide_terms, and_place, chain_place, term_signal, and_gates, chain, links, rest, inner_gates, chains, ends, gates, reddy_net}
-use Rattle.cascade.specs.Shows.{Fits as FitsNames}
-use Rattle.ae_net.proofs.Follow.{EachGate, EachGate-append, Fits, Follows, Follows-run}
+use Rattle.cascade.specs.Reddy.{place_of, gates_for, lines, turned, literal_signal, inverters, has_one, control_gates, start, is_wide, wide_terms, and_place, chain_place, term_signal, and_gates, chain, links, rest, inner_gates, chains, ends, gates}
+use Rattle.cascade.specs.Shows.{Fits as FitsNames, reddy_net}
+use Rattle.ae_net.specs.Follows.{Fits, Follows}
+use Rattle.ae_net.proofs.Follow.{Follows-run}
 use Rattle.ae_net.proofs.Tables.{table-inverter, table-and, all_see-none}
-use Rattle.cascade.proofs.Values.{EachGate-gates_for, Shows, value-chain}
+use Rattle.cascade.proofs.Values.{EachAt-gates_for, Shows, value-chain}
 
 -- some output has the term
 abbrev pub Stands : Terms → Set → Type 0
@@ -82,7 +85,7 @@ value-literal k e x w parts j l used = by_sign (has e.polarity.plain j) refl
     by_sign : (b : Bool) → has e.polarity.plain j ≡ b → value_of w (cond b j (lines e + place_of (turned e) j)) ≡ cond b (has x j) (not (has x j))
     by_sign true p = parts.inputs j (omega arith)
     by_sign false p =
-        rw (zero-add (place_of (turned e) j)) at (EachGate-gates_for (Fits None w (lines e)) 0 0 _ (turned e) parts.inverted j (turned_stands e j l used p))
+        rw (zero-add (place_of (turned e) j)) at (EachAt-gates_for (Fits None w (lines e)) 0 0 _ (turned e) parts.inverted j (turned_stands e j l used p))
         ∙ table-inverter None w (place_of (turned e) j) _ j
         ∙ ap not (parts.inputs j (omega arith))
 
@@ -90,7 +93,7 @@ pub and_fits : (fault : Option Fault) (k : ℕ) (e : Terms) (w : List Bool) → 
     → Fits fault w (lines e) (and_place e + place_of (wide_terms e) t) (and_of k e (place_of (wide_terms e) t) t)
 and_fits fault k e w h t stands wide =
     subst (λ i. Fits fault w (lines e) (and_place e + place_of (wide_terms e) t) (and_of k e i t)) (zero-add (place_of (wide_terms e) t))
-    (EachGate-gates_for (Fits fault w (lines e)) (and_place e) 0 (and_of k e) (wide_terms e) h t (wide_stands e t stands wide))
+    (EachAt-gates_for (Fits fault w (lines e)) (and_place e) 0 (and_of k e) (wide_terms e) h t (wide_stands e t stands wide))
 
 -- each literal shows its value at the point
 abbrev pub Literals : Terms → Set → List Bool → Type 0
@@ -167,7 +170,7 @@ value-rest e x (t ∷ ts) order =
 -- ---- the start of a chain
 
 pub value-start : (k : ℕ) (e : Terms) (c : Bool) (w : List Bool) → value_of w e.polarity.n ≡ c → Follows None w (lines e) (length (turned e)) (control_gates k e) → (o : ℕ) (ts : List Set) → slice_get e.outs o ≡ Some ts → value_of w (start e ts) ≡ differ (has_one ts) c
-unfolding start control_gates EachGate
+unfolding start control_gates EachAt
 value-start k e c w control inverted o ts there = by_one (has_one ts) refl
   where
     by_one : (b : Bool) → has_one ts ≡ b → value_of w (cond b (lines e + length (turned e)) e.polarity.n) ≡ differ b c
@@ -192,10 +195,10 @@ value-port k e w f c i [] outs h same o ts there shows = cc
 value-port k e w f c i (us ∷ tss) [] h same o ts there shows = absurd (omega (arith, same))
 value-port k e w f c i (us ∷ tss) (out ∷ outs) h same zero ts there shows =
     let e0 : us ≡ ts = cc in
-    let parts = EachGate-append (Fits None w (lines e)) i (chain k e out c i (start e us) (rest us)) _ h in
+    let parts = EachAt-split (Fits None w (lines e)) i (chain k e out c i (start e us) (rest us)) _ h in
     rw e0 (value-chain k e w f out c i (start e ts) (rest ts) (rw e0 at parts.0) shows)
 value-port k e w f c i (us ∷ tss) (out ∷ outs) h same (suc o) ts there shows =
-    let parts = EachGate-append (Fits None w (lines e)) i (chain k e out c i (start e us) (rest us)) _ h in
+    let parts = EachAt-split (Fits None w (lines e)) i (chain k e out c i (start e us) (rest us)) _ h in
     let z : i + length (chain k e out c i (start e us) (rest us)) ≡ suc (i + inner_gates us) = omega (arith, length-chain k e out c i (start e us) (rest us)) in
     value-port k e w f (c + inner_gates us) (suc (i + inner_gates us)) tss outs (subst (λ p. Follows None w (lines e) p (chains k e (c + inner_gates us) (suc (i + inner_gates us)) tss outs)) z parts.1) (omega (arith, same)) o ts there shows
 
@@ -213,23 +216,23 @@ length-control_gates k e = elim (cases_Bool (list_any has_one e.outs)) [ inl b �
 
 -- the network is built of these parts, in this order
 pub record Built (P : ℕ → Gate → Type 0) (k : ℕ) (names : Names) (e : Terms) : Type 0 where
-  pub inverted : EachGate P 0 (inverters k e)
-  pub control : EachGate P (length (turned e)) (control_gates k e)
-  pub ands : EachGate P (and_place e) (and_gates k e)
-  pub outputs : EachGate P (chain_place e) (chains k e 0 (chain_place e) e.outs names.outputs)
+  pub inverted : EachAt P 0 (inverters k e)
+  pub control : EachAt P (length (turned e)) (control_gates k e)
+  pub ands : EachAt P (and_place e) (and_gates k e)
+  pub outputs : EachAt P (chain_place e) (chains k e 0 (chain_place e) e.outs names.outputs)
 
-pub built : (P : ℕ → Gate → Type 0) (k : ℕ) (names : Names) (e : Terms) → EachGate P 0 (gates k names e) → Built P k names e
+pub built : (P : ℕ → Gate → Type 0) (k : ℕ) (names : Names) (e : Terms) → EachAt P 0 (gates k names e) → Built P k names e
 unfolding gates chain_place
 built P k names e all =
-    let one = EachGate-append P 0 (inverters k e) _ all in
+    let one = EachAt-split P 0 (inverters k e) _ all in
     let z1 : 0 + length (inverters k e) ≡ length (turned e) = zero-add _ ∙ length-gates_for _ 0 (turned e) in
-    let two = EachGate-append P (length (turned e)) (control_gates k e) _ (subst (λ p. EachGate P p (control_gates k e ++ (and_gates k e ++ chains k e 0 (and_place e + length (wide_terms e)) e.outs names.outputs))) z1 one.1) in
-    let three = EachGate-append P (and_place e) (and_gates k e) _ (subst (λ p. EachGate P p (and_gates k e ++ chains k e 0 (and_place e + length (wide_terms e)) e.outs names.outputs)) (length-control_gates k e) two.1) in
+    let two = EachAt-split P (length (turned e)) (control_gates k e) _ (subst (λ p. EachAt P p (control_gates k e ++ (and_gates k e ++ chains k e 0 (and_place e + length (wide_terms e)) e.outs names.outputs))) z1 one.1) in
+    let three = EachAt-split P (and_place e) (and_gates k e) _ (subst (λ p. EachAt P p (and_gates k e ++ chains k e 0 (and_place e + length (wide_terms e)) e.outs names.outputs)) (length-control_gates k e) two.1) in
     record {
       inverted = one.0;
       control = two.0;
       ands = three.0;
-      outputs = subst (λ p. EachGate P p (chains k e 0 (and_place e + length (wide_terms e)) e.outs names.outputs)) (ap (λ n. and_place e + n) (length-gates_for _ 0 (wide_terms e))) three.1;
+      outputs = subst (λ p. EachAt P p (chains k e 0 (and_place e + length (wide_terms e)) e.outs names.outputs)) (ap (λ n. and_place e + n) (length-gates_for _ 0 (wide_terms e))) three.1;
     }
 
 -- output o shows its function, complemented where the control is 1

@@ -6,12 +6,12 @@ use Rattle.ae_net.specs.declared.net.Gate.{Gate}
 use Rattle.expansion.specs.Terms.{Terms}
 use Rattle.ae_net.specs.Lead.{lead}
 use Rattle.ae_net.specs.Names.{Names, inner}
-use Rattle.cascade.specs.Reddy.{lines, inverters, control_gates, start, wide_terms, and_place, chain_place, and_gates, links, chain, rest, inner_gates, chains, ends, gates, reddy_net}
+use Rattle.cascade.specs.Reddy.{lines, inverters, control_gates, start, wide_terms, and_place, chain_place, and_gates, links, chain, rest, inner_gates, chains, ends, gates}
 use Rattle.ae_net.specs.Network.{Network, gate_at}
 use Rattle.ae_net.specs.Implements.{port_names}
 use Rattle.std.proofs.lemmas.List.{length-map, get_or-map, ext_get_or}
 use Rattle.std.proofs.lemmas.Option.{slice_get-get_or}
-use Rattle.cascade.specs.Shows.{Fits, HasPortNames}
+use Rattle.cascade.specs.Shows.{Fits, HasPortNames, reddy_net}
 use Rattle.cascade.proofs.Law.{length-chain, length-control_gates, length-ends}
 use Rattle.cascade.proofs.Valid.{length-inverters, length-and_gates}
 

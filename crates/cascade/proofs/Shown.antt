@@ -8,8 +8,7 @@ use Rattle.ae_net.specs.Names.{Names, inner}
 use Rattle.ae_net.specs.Out.{out}
 use Rattle.ae_net.specs.Valid.{IsValid}
 use Rattle.expansion.specs.Terms.{Terms}
-use Rattle.cascade.specs.Reddy.{reddy_net}
-use Rattle.cascade.specs.Shows.{CanBuild, ShowsFunctions, ShowsComplements, HasInputNames, HasPortNames}
+use Rattle.cascade.specs.Shows.{CanBuild, ShowsFunctions, ShowsComplements, HasInputNames, HasPortNames, reddy_net}
 use Rattle.cascade.proofs.Law.{shows}
 use Rattle.cascade.proofs.Ports.{port_names_are}
 use Rattle.cascade.proofs.Valid as made

@@ -8,24 +8,25 @@ use Rattle.std.proofs.lemmas.List.Elements.{All-from_recursion, recursion_from_A
 use Rattle.std.proofs.lemmas.List.Concat.{length-flat_map}
 use Rattle.std.proofs.lemmas.List.FromFn.{length-range_with_len}
 use Rattle.ae_base.specs.Mask.{Set, has, empty, first, inside, cmp_terms}
-use Rattle.ae_net.specs.Valid.{IsValid}
-use Rattle.expansion.specs.Terms.{Terms, IsTerms, cost, is_used}
+use Rattle.ae_base.proofs.EachAt.{EachAt, EachAt-get, EachAt-join}
+use Rattle.ae_net.specs.Valid.{IsGate, IsValid}
+use Rattle.expansion.specs.Terms.{Terms, cost, is_used}
+use Rattle.expansion.specs.Kept.{IsTerms}
 use Rattle.ae_net.specs.Lead.{lead}
 use Rattle.ae_net.specs.Names.{Names, IsNames, inner}
-use Rattle.cascade.specs.Reddy.{lines, turned, inverters, has_one, control_gates, start, is_wide, wide_terms, and_place, chain_place, term_signal, and_gates, chain, rest, inner_gates, chains, ends, gates, reddy_net}
-use Rattle.cascade.specs.Shows.{Fits}
+use Rattle.cascade.specs.Reddy.{lines, turned, inverters, has_one, control_gates, start, is_wide, wide_terms, and_place, chain_place, term_signal, and_gates, chain, rest, inner_gates, chains, ends, gates}
+use Rattle.cascade.specs.Shows.{Fits, reddy_net}
 use Rattle.ae_net.proofs.LeadLemmas.{lead_is_lead, lead_few}
 use Rattle.ae_net.proofs.InnerAreNames.{letter_is_name}
-use Rattle.ae_base.specs.declared.limits.TheConstants.{NET_LINES, SOURCE_NAME_BYTES}
+use Rattle.ae_base.specs.declared.limits.TheConstants.{NET_LINES, SOURCE_NAME_BYTES, SOURCE_LINES}
 use Rattle.ae_base.specs.Name.{is_name}
 use Rattle.ae_base.proofs.InOrder.{each_placed}
 use Rattle.ae_base.proofs.Elements.{length_filter_le}
-use Rattle.ae_base.proofs.Distinct.{each_front, Distinct, AllPairs-from_Distinct, Distinct-from_AllPairs, each_weaker, each-append, each-filter}
+use Rattle.ae_base.proofs.Distinct.{each_front, Distinct, AllPairs-from_Distinct, each_weaker, each-append, each-filter}
 use Rattle.ae_base.specs.Terms.{placed, in_order}
-use Rattle.cascade.specs.declared.limits.TheConstants.{REDDY_TERMS}
+use Rattle.ae_base.specs.declared.limits.TheConstants.{REDDY_TERMS}
 use Rattle.cascade.proofs.NamesApart.{names_apart, all_inner}
 use Rattle.cascade.proofs.Law.{Stands, length-chain, length-gates_for, length-control_gates, length-ends}
-use Rattle.ae_net.proofs.GatesValid.{AreGates, IsGate-at, AreGates-append}
 use Rattle.cascade.proofs.GatesValid.{AllStand, AreGates-inverters, turned_below, AreGates-control, AreGates-ands, start_below, term_below, Reads, AreGates-chains}
 
 -- ---- sizes
@@ -134,15 +135,15 @@ pub few_of_all : (e : Terms) → all_inner e.outs ≤ cost e
 few_of_all e = omega (arith, few_inner e.outs, length-flat_map (λ (ts : List Set). ts) e.outs)
 
 AreGates-gates : (k : ℕ) (names : Names) (e : Terms) → k ≤ SOURCE_NAME_BYTES + 1 → e.polarity.n ≤ NET_LINES → cost e ≤ REDDY_TERMS → AllByRecursion (λ o. is_name o ≡ true) names.outputs → AllByRecursion (AllStand e) e.outs
-    → AreGates (lines e) (gates k names e)
+    → EachAt IsGate (lines e) (gates k names e)
 unfolding gates chain_place
 AreGates-gates k names e short few cheap named stand =
     let z1 : lines e + length (inverters k e) ≡ lines e + length (turned e) = ap (λ n. lines e + n) (length-inverters k e) in
     let z2 : lines e + length (turned e) + length (control_gates k e) ≡ lines e + and_place e = omega (arith, length-control_gates k e) in
     let z3 : lines e + and_place e + length (and_gates k e) ≡ lines e + (and_place e + length (wide_terms e)) = omega (arith, length-and_gates k e) in
-    AreGates-append (lines e) (inverters k e) _ (AreGates-inverters k 0 e (turned e) (lines e) short (omega (arith, few_turned e, few)) (turned_below e))
-    (rw z1 (AreGates-append _ (control_gates k e) _ (AreGates-control k e _ short (omega arith))
-    (rw z2 (AreGates-append _ (and_gates k e) _ (AreGates-ands k 0 e (wide_terms e) _ short (omega (arith, few_wide e, cheap)) few (omega arith) (wide_stand e stand))
+    EachAt-join IsGate (lines e) (inverters k e) _ (AreGates-inverters k 0 e (turned e) (lines e) short (omega (arith, few_turned e, few)) (turned_below e))
+    (rw z1 (EachAt-join IsGate _ (control_gates k e) _ (AreGates-control k e _ short (omega arith))
+    (rw z2 (EachAt-join IsGate _ (and_gates k e) _ (AreGates-ands k 0 e (wide_terms e) _ short (omega (arith, few_wide e, cheap)) few (omega arith) (wide_stand e stand))
     (rw z3 (AreGates-chains k e 0 (and_place e + length (wide_terms e)) e.outs names.outputs short named (omega (arith, few_of_all e, cheap)) (omega arith) (all_read e e.outs (λ q m. m) stand)))))))
 
 -- ---- ports
@@ -182,16 +183,16 @@ valid names e named terms fits cheap =
     let inputs : length (names.inputs ++ inner k (codes "c") ∷ []) ≡ lines e = omega (arith, length-append names.inputs (inner k (codes "c") ∷ []), fits.inputs) in
     let all : length (gates k names e) ≡ chain_place e + (all_inner e.outs + length e.outs) = omega (arith, length-gates k names e fits, fits.outputs) in
     let stand : AllByRecursion (AllStand e) e.outs = all_stand e e.outs (λ q m. m) (recursion_from_All _ e.outs terms.below) in
-    let small : e.polarity.n ≤ 64 = omega (arith, fits.inputs, named.few_inputs) in
+    let small : e.polarity.n ≤ SOURCE_LINES = omega (arith, fits.inputs, named.few_inputs) in
     let outs : length (ends e (chain_place e) e.outs) ≡ length e.outs = length-ends e (chain_place e) e.outs in
     record {
       model_named = named.model_named;
       inputs_named = All-from_recursion _ _ (each-append _ names.inputs (inner k (codes "c") ∷ []) ins_outs.0 (letter_is_name k 99 (inner k (99 ∷ [])) refl short (omega arith, omega arith), tt));
       some_input = omega arith;
       few_inputs = omega arith;
-      names = AllPairs-from_Distinct _ (names_apart k names e free (Distinct-from_AllPairs _ named.distinct) (omega arith) (omega (arith, few_wide e)) (omega (arith, few_of_all e)));
+      names = names_apart k names e free named.distinct (omega arith) (omega (arith, few_wide e)) (omega (arith, few_of_all e));
       few_gates = omega (arith, few_before e, few_of_all e, fits.outputs, named.few_outputs);
-      gates = λ i gate there. rw inputs (IsGate-at (lines e) (gates k names e) (AreGates-gates k names e short (omega arith) cheap ins_outs.1 stand) i gate there);
+      gates = λ i gate there. rw inputs (EachAt-get IsGate (lines e) (gates k names e) (AreGates-gates k names e short (omega arith) cheap ins_outs.1 stand) i gate there);
       some_output = omega (arith, fits.outputs, named.some_output);
       few_outputs = omega (arith, fits.outputs, named.few_outputs);
       ports = rw (inputs, all) (All-from_recursion _ _ (each_weaker (λ s. (lines e + chain_place e ≤ s) × (s < lines e + (chain_place e + (all_inner e.outs + length e.outs)))) (λ s. (lines e ≤ s) × (s < lines e + (chain_place e + (all_inner e.outs + length e.outs)))) (λ s h. (omega (arith, h.0), h.1)) _ (ends_within e (chain_place e) e.outs)));

@@ -2,8 +2,9 @@
 use Rattle.std.specs.Prelude.{◌≡◌, ℕ, ◌+◌, ◌<◌, ◌≤◌, true, List, length, All}
 use Rattle.ae_base.specs.declared.limits.TheConstants.{GATES, NET_LINES, SOURCE_NAME_BYTES}
 use Rattle.ae_base.specs.Mask.{Set, inside, first}
-use Rattle.expansion.specs.Terms.{Terms, IsTerms}
-use Rattle.cascade.specs.declared.limits.TheConstants.{REDDY_TERMS}
+use Rattle.expansion.specs.Terms.{Terms}
+use Rattle.expansion.specs.Kept.{IsTerms}
+use Rattle.ae_base.specs.declared.limits.TheConstants.{REDDY_TERMS}
 use Rattle.cascade.specs.declared.signals.Plan.{Plan}
 use Rattle.cascade.specs.declared.parts.Chain.{Chain}
 use Rattle.cascade.specs.Reddy.{turned, wide_terms, and_place, start, rest}

@@ -7,7 +7,6 @@ use Rattle.ae_base.specs.Terms.{in_order}
 use Rattle.ae_net.specs.declared.net.Gate.{Gate}
 use Rattle.ae_net.specs.Network.{Network}
 use Rattle.expansion.specs.Terms.{Terms, is_used}
-use Rattle.ae_net.specs.Lead.{lead}
 use Rattle.ae_net.specs.Names.{Names, inner}
 use Rattle.ae_net.specs.Gates.{inverter, buffer, exor, and_gate}
 
@@ -118,7 +117,3 @@ reddy_over k names e = record {
   outputs = ends e (chain_place e) e.outs;
   gates = gates k names e;
 }
-
--- the network whose inner names have the least free number of underscores
-unfoldable pub reddy_net : Names → Terms → Network
-reddy_net names e = reddy_over (lead names) names e

@@ -1,13 +1,20 @@
--- What the Reddy network shows.
+-- The Reddy network of names and expansions, and what it shows. For private contracts alone.
 use Rattle.std.specs.Prelude.{◌≡◌, ℕ, ◌≤◌, true, false, not, Some, None, List, [], ◌∷◌, ◌++◌, length, slice_get}
 use Rattle.ae_base.specs.Mask.{Set, has}
 use Rattle.ae_base.specs.Terms.{value}
 use Rattle.ae_net.specs.Implements.{port_names}
+use Rattle.ae_net.specs.Lead.{lead}
 use Rattle.ae_net.specs.Names.{Names, IsNames}
 use Rattle.ae_net.specs.Network.{Network}
 use Rattle.ae_net.specs.Out.{out}
-use Rattle.expansion.specs.Terms.{Terms, IsTerms, cost}
-use Rattle.cascade.specs.declared.limits.TheConstants.{REDDY_TERMS}
+use Rattle.expansion.specs.Terms.{Terms, cost}
+use Rattle.expansion.specs.Kept.{IsTerms}
+use Rattle.ae_base.specs.declared.limits.TheConstants.{REDDY_TERMS}
+use Rattle.cascade.specs.Reddy.{reddy_over}
+
+-- the network whose inner names have the least free number of underscores
+unfoldable pub reddy_net : Names → Terms → Network
+reddy_net names e = reddy_over (lead names) names e
 
 -- one expansion for each output name, over as many inputs as there are input names
 pub record Fits (names : Names) (e : Terms) : Type 0 where

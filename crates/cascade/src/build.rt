@@ -5,15 +5,13 @@ ghost use Rattle.expansion.specs.Terms.{Terms, cost};
 ghost use Rattle.ae_net.specs.Lead as lead_spec;
 ghost use Rattle.cascade.specs.Plan.{IsPlan};
 ghost use Rattle.cascade.specs.Reddy as spec;
-ghost use Rattle.cascade.specs.Reddy.{reddy_net};
-ghost use Rattle.cascade.specs.Shows.{Fits, CanBuild, ShowsFunctions, ShowsComplements};
+ghost use Rattle.cascade.specs.Shows.{Fits, CanBuild, ShowsFunctions, ShowsComplements, reddy_net};
 
 use crate::laws::reddy_law;
-use crate::limits::REDDY_TERMS;
 use crate::parts::{chain_of, push_ands, push_chain, push_control, push_inverters};
 use crate::signals::Plan;
 use crate::terms::{some_one, turned, wide_terms};
-use ae_base::{Memory, NET_LINES, Name, SOURCE_NAME_BYTES, Seq, Term, copies};
+use ae_base::{Memory, NET_LINES, Name, REDDY_TERMS, SOURCE_NAME_BYTES, Seq, Term, copies};
 use ae_net::{Net, NetBuilder, NetNames, Sig, lead, letter_name};
 use expansion::Expansion;
 use std::alloc::Global;
@@ -108,7 +106,7 @@ fn push_gates(
 }
 
 /// The Reddy network, `lead` being the number of underscores that inner names begin with.
-#[tactic(auto, unfolding(crate::specs::Reddy::reddy_net))]
+#[tactic(auto, unfolding(crate::specs::Shows::reddy_net))]
 fn reddy_with(alloc: Global, lead: u32, names: &NetNames, e: &Expansion) -> Result<Net, Memory>
     requires lead { lead ≡ lead_spec.lead names.now }
     requires short { lead ≤ SOURCE_NAME_BYTES + 1 }

@@ -2,8 +2,7 @@
 ghost use Rattle.ae_net.specs.Names.{Names};
 ghost use Rattle.ae_net.specs.Valid.{IsValid};
 ghost use Rattle.expansion.specs.Terms.{Terms};
-ghost use Rattle.cascade.specs.Reddy.{reddy_net};
-ghost use Rattle.cascade.specs.Shows.{CanBuild, ShowsFunctions, ShowsComplements, HasInputNames, HasPortNames};
+ghost use Rattle.cascade.specs.Shows.{CanBuild, ShowsFunctions, ShowsComplements, HasInputNames, HasPortNames, reddy_net};
 
 /// The Reddy network is valid. With the control at 0 its outputs are the functions of the expansions, and with it at 1 their
 /// complements. Its inputs have the names of the source's inputs, and one more is the control. Its ports have the names of the outputs.

@@ -3,7 +3,6 @@
 
 mod build;
 mod laws;
-mod limits;
 mod parts;
 mod signals;
 mod terms;
@@ -11,5 +10,4 @@ mod vectors;
 
 pub use build::reddy;
 pub use laws::reddy_law;
-pub use limits::REDDY_TERMS;
 pub use vectors::{first_vectors, literals_high};

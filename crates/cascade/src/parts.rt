@@ -9,11 +9,10 @@ ghost use Rattle.cascade.specs.Left.{links_of};
 ghost use Rattle.cascade.specs.Plan.{IsPlan, IsChain, HasRoom, AreOver};
 ghost use Rattle.cascade.specs.Reddy as spec;
 
-use crate::limits::REDDY_TERMS;
 use crate::signals::{Plan, literal_signal, start, term_signal};
 use crate::terms::{rest, some_one};
-use ae_base::{GATES, Memory, NET_LINES, Name, Term};
-use ae_net::{NetBuilder, Pins, Sig, letter_name, numbered_name};
+use ae_base::{GATES, Memory, NET_LINES, Name, REDDY_TERMS, Term};
+use ae_net::{Cell, NetBuilder, Pins, Sig, letter_name, numbered_name};
 use std::alloc::Global;
 
 /// The chain of an output.
@@ -50,7 +49,7 @@ fn push_inverter(alloc: Global, plan: &Plan<'_>, j: u32, net: &mut NetBuilder) -
     ensures inputs { net.new.inputs ≡ net.old.inputs }
 {
     let name = numbered_name(alloc, plan.lead, b'i', j as usize + 1)?;
-    net.inverter(name, j)?;
+    net.push(name, &Cell::Inverter(j))?;
     Ok(())
 }
 
@@ -78,7 +77,7 @@ pub fn push_control(alloc: Global, plan: &Plan<'_>, net: &mut NetBuilder) -> Res
 {
     if some_one(plan.expansion.lists()) {
         let name = letter_name(alloc, plan.lead, b'm')?;
-        net.inverter(name, plan.expansion.inputs())?;
+        net.push(name, &Cell::Inverter(plan.expansion.inputs()))?;
     }
     Ok(())
 }
@@ -101,7 +100,7 @@ fn push_and(
 {
     let name = numbered_name(alloc, plan.lead, b't', i + 1)?;
     let pins = pins_of(alloc, plan, t)?;
-    net.and(name, pins)?;
+    net.push(name, &Cell::And(pins))?;
     Ok(())
 }
 
@@ -174,7 +173,7 @@ fn push_links(
     let mut line = chain.start;
     for d in 0..terms.len() {
         let name = link_name(alloc, plan, chain, d)?;
-        line = net.exor(name, line, term_signal(plan, terms[d]))?;
+        line = net.push(name, &Cell::Exor(line, term_signal(plan, terms[d])))?;
     }
     Ok(line)
 }
@@ -195,7 +194,7 @@ pub fn push_chain(
     ensures last { IfOk result (λ signal. suc signal ≡ next net.new) }
 {
     if chain.terms.is_empty() {
-        return net.buffer(chain.out.copy(alloc)?, chain.start);
+        return net.push(chain.out.copy(alloc)?, &Cell::Buffer(chain.start));
     }
     push_links(alloc, plan, chain, net)
 }

@@ -1,6 +1,7 @@
 //! The first four vectors of the Reddy form.
-ghost use Rattle.std.specs.Prelude.{◌≡◌, ◌==◌, ◌++◌, ◌∷◌, [], if◌then◌else◌, false, true, IfOk, OnOk};
+ghost use Rattle.std.specs.Prelude.{◌≡◌, ◌<◌, ◌==◌, ◌++◌, ◌∷◌, [], if◌then◌else◌, false, true, IfOk, OnOk};
 ghost use Rattle.std.specs.List.{list_any};
+ghost use Rattle.ae_base.specs.declared.limits.TheConstants.{WIDTH};
 ghost use Rattle.expansion.specs.Terms.{used_inputs};
 ghost use Rattle.cascade.specs.FirstVectors as spec;
 
@@ -26,9 +27,10 @@ pub fn literals_low(e: &Expansion) -> Point
 
 /// The first four vectors of the Reddy form, of which one that is equal to an earlier one is left out: control 0 and all literals 0,
 /// control 0 and all literals 1, control 1 and all literals 0, control 1 and all literals 1. The control is the number after the inputs,
-/// and the literals are those of the used inputs. An input that is not used is 0.
+/// which a `Mask` has to be able to hold, and the literals are those of the used inputs. An input that is not used is 0.
 #[tactic(auto, using(crate::proofs::VectorLemmas::four), unfolding(crate::specs::FirstVectors::first_vectors))]
 pub fn first_vectors(alloc: Global, e: &Expansion) -> Result<Vec<Point>, Memory>
+    requires control { e.now.polarity.n < WIDTH }
     ensures { IfOk result (λ list. list.items ≡ spec.first_vectors e.now.polarity (used_inputs e.now)) }
 {
     let control = e.inputs();

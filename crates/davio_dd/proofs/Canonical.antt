@@ -1,5 +1,5 @@
 -- Places of a diagram with the same value at each point are the same place.
-use Rattle.std.proofs.Common.{◌≡◌, ◌≢◌, ℕ, zero, suc, ◌+◌, ◌<◌, Bool, not, ◌&&◌, cond, ◌⊎◌, inl, inr, List, Some, sym, subst, ap, ap₂, ◌∙◌, arith}
+use Rattle.std.proofs.Common.{◌≡◌, ℕ, zero, suc, ◌+◌, ◌<◌, Bool, not, ◌&&◌, ◌⊎◌, inl, inr, List, Some, sym, subst, ap, ap₂, ◌∙◌, arith}
 use Rattle.std.proofs.lemmas.Bool.{cases_order, false≢true}
 use Rattle.std.proofs.lemmas.Option.{slice_get_within}
 use Rattle.ae_base.specs.Mask.{Set, differ, has, empty}
@@ -7,9 +7,9 @@ use Rattle.ae_base.specs.Cube.{Signs}
 use Rattle.ae_base.specs.Terms.{IsPoint, literal}
 use Rattle.ae_base.proofs.Sets.{has-empty, inside-from}
 use Rattle.ae_base.proofs.Truth.{differ-same, differ-false, differ-assoc}
-use Rattle.fn_store.specs.Davio.{put, low, high}
-use Rattle.fn_store.proofs.Coefficients.{put-other, literal-low, literal-high}
-use Rattle.fn_store.proofs.Products.{inside-put}
+use Rattle.ae_base.specs.Points.{put}
+use Rattle.ae_base.proofs.Points.{literal-put, literal-low, literal-high, inside-put}
+use Rattle.fn_store.specs.Davio.{low, high}
 use Rattle.davio_dd.specs.declared.node.Node.{Node}
 use Rattle.davio_dd.specs.Diagram.{place_value, top, IsDiagram, IsPlace}
 use Rattle.davio_dd.proofs.Places.{value-zero, value-one, value-node, top-zero, top-one, top-node, IsNodeAt, place-cases}
@@ -67,9 +67,6 @@ each_place n nodes is P on_zero on_one on_node at place = below (suc at) at (ome
 
 -- ---- a place does not look at inputs before its top
 
-pub literal-other : (p : Signs) (j k : ℕ) (v : Bool) (x : Set) → (k ≢ j) → literal p k (put j v x) ≡ literal p k x
-literal-other p j k v x apart = ap (λ b. cond (has p.plain k) b (not b)) (put-other j k v x apart)
-
 pub value-put : (p : Signs) (nodes : List Node) → IsDiagram p.n nodes → (at j : ℕ) (v : Bool) (x : Set) → IsPlace nodes at → j < top p.n nodes at → place_value p nodes at (put j v x) ≡ place_value p nodes at x
 value-put p nodes is at j v x place =
     each_place p.n nodes is (λ at. j < top p.n nodes at → place_value p nodes at (put j v x) ≡ place_value p nodes at x)
@@ -79,7 +76,7 @@ value-put p nodes is at j v x place =
     let q = parts p.n nodes is at c in
     let before : j < c.node.input = omega (arith, l, top-place p.n nodes is at c) in
     value-place p nodes is at c (put j v x)
-    ∙ ap₂ differ (low (omega (arith, q.over_low))) (ap₂ (λ a b. a && b) (literal-other p j c.node.input v x (λ e. absurd (omega (arith, before, e)))) (high (omega (arith, q.over_high))))
+    ∙ ap₂ differ (low (omega (arith, q.over_low))) (ap₂ (λ a b. a && b) (literal-put p j c.node.input v x (λ e. absurd (omega (arith, before, e)))) (high (omega (arith, q.over_high))))
     ∙ sym (value-place p nodes is at c x))
     at place
 

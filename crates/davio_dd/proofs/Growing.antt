@@ -13,7 +13,7 @@ use Rattle.ae_base.specs.Terms.{literal}
 use Rattle.davio_dd.specs.declared.node.Node.{Node}
 use Rattle.davio_dd.specs.declared.node.Question.{Question}
 use Rattle.davio_dd.specs.Diagram.{place_value, place_terms, top, IsDiagram, IsPlace, IsAnswer, AllRight}
-use Rattle.davio_dd.specs.Scratch.{Grows, IsAdded}
+use Rattle.davio_dd.specs.Scratch.{Grows, IsAdded, IsLater}
 use Rattle.davio_dd.proofs.Places.{entry-grows, value-zero, value-node, top-node}
 
 pub top-grows : (n : ℕ) (before after : List Node) → Grows before after → (at : ℕ) → IsPlace before at → top n after at ≡ top n before at
@@ -30,9 +30,6 @@ terms-grows before after g at place = ap (λ (ns : List Node). place_terms ns at
 
 pub length-grows : (before after : List Node) → Grows before after → length before ≤ length after
 length-grows before after g = omega (arith, ap length g.1, length-append before g.0)
-
-pub Grows-refl : (nodes : List Node) → Grows nodes nodes
-Grows-refl nodes = ([], sym (append-nil nodes))
 
 pub Grows-trans : (a b c : List Node) → Grows a b → Grows b c → Grows a c
 Grows-trans a b c g h = (g.0 ++ h.0, h.1 ∙ ap (λ l. l ++ h.0) g.1 ∙ append_assoc a g.0 h.0)
@@ -99,6 +96,30 @@ answer-grows op p before after g a b r h =
 
 pub right-grows : (op : Bool → Bool → Bool) (p : Signs) (before after : List Node) (known : Question → Option ℕ) → Grows before after → AllRight op p before known → AllRight op p after known
 right-grows op p before after known g right q r got = answer-grows op p before after g q.left q.right r (right q r got)
+
+-- ---- the polarity too
+
+-- the polarity is the same, and the list begins with the other
+abbrev pub Moved : Signs → List Node → Signs → List Node → Type 0
+Moved p n q m = (q ≡ p) × Grows n m
+
+pub Moved-trans : (p q r : Signs) (n m l : List Node) → Moved p n q m → Moved q m r l → Moved p n r l
+Moved-trans p q r n m l (e, g) (f, h) = (f ∙ e, Grows-trans n m l g h)
+
+pub place-moved : (p q : Signs) (n m : List Node) → Moved p n q m → (at : ℕ) → IsPlace n at → IsPlace m at
+place-moved p q n m (e, g) at place = omega (arith, length-grows n m g)
+
+pub top-moved : (p q : Signs) (n m : List Node) → Moved p n q m → (at : ℕ) → IsPlace n at → top q.n m at ≡ top p.n n at
+top-moved p q n m (e, g) at place = ap (λ (s : Signs). top s.n m at) e ∙ top-grows p.n n m g at place
+
+pub value-moved : (p q : Signs) (n m : List Node) → Moved p n q m → (at : ℕ) → IsPlace n at → (x : Set) → place_value q m at x ≡ place_value p n at x
+value-moved p q n m (e, g) at place x = ap (λ (s : Signs). place_value s m at x) e ∙ value-grows p n m g at place x
+
+pub answer-moved : (op : Bool → Bool → Bool) (p q : Signs) (n m : List Node) → Moved p n q m → (a b r : ℕ) → IsAnswer op p n a b r → IsAnswer op q m a b r
+answer-moved op p q n m (e, g) a b r is = rw e (answer-grows op p n m g a b r is)
+
+pub later-moved : (p q : Signs) (n m : List Node) → Moved p n q m → (i at : ℕ) → IsLater p.n n i at → IsLater q.n m i at
+later-moved p q n m moved i at is = record { place = place-moved p q n m moved at is.place; over = omega (arith, is.over, top-moved p q n m moved at is.place) }
 
 -- ---- the place of a node that is there
 

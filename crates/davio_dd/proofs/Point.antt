@@ -6,15 +6,14 @@ use Rattle.ae_base.specs.Cube.{Signs}
 use Rattle.ae_base.specs.Terms.{IsPoint, literal}
 use Rattle.ae_base.proofs.Sets.{same_set, has-first, has-both, has-xor, inside-from, inside-above}
 use Rattle.ae_base.proofs.Truth.{differ-false}
+use Rattle.ae_base.proofs.Points.{literal-put, literal-low, literal-high, inside-put}
 use Rattle.fn_store.specs.Davio.{low, high}
-use Rattle.fn_store.proofs.Coefficients.{literal-low, literal-high}
-use Rattle.fn_store.proofs.Products.{inside-put}
 use Rattle.davio_dd.specs.declared.node.Node.{Node}
 use Rattle.fn_store.specs.Functions.{AgreeAt, IsBefore, IsLeastPoint}
 use Rattle.davio_dd.specs.Diagram.{place_value, top, IsDiagram, IsPlace}
 use Rattle.davio_dd.specs.Scratch.{IsNode, all_zero, path_point}
 use Rattle.davio_dd.proofs.Places.{entry-zero, entry-one, entry-node, value-zero, value-one, IsNodeAt, node_at}
-use Rattle.davio_dd.proofs.Canonical.{top-place, value-place, parts, each_place, literal-other, value-put}
+use Rattle.davio_dd.proofs.Canonical.{top-place, value-place, parts, each_place, value-put}
 
 -- ---- all literals 0
 
@@ -92,7 +91,7 @@ walked-high p nodes is at c x none w = record {
     on_high y = value-place p nodes is at c y ∙ ap (λ b. differ b (literal p c.node.input y && place_value p nodes c.node.high y)) (ap (λ (a : ℕ). place_value p nodes a y) none ∙ value-zero p nodes y)
 
     earlier : (k : ℕ) → k < p.n → k < c.node.input → literal p k (high p c.node.input x) ≡ false
-    earlier k l h = literal-other p c.node.input k (has p.plain c.node.input) x (λ e. absurd (omega (arith, h, e))) ∙ w.zeros k l (omega (arith, h, (parts p.n nodes is at c).over_high))
+    earlier k l h = literal-put p c.node.input k (has p.plain c.node.input) x (λ e. absurd (omega (arith, h, e))) ∙ w.zeros k l (omega (arith, h, (parts p.n nodes is at c).over_high))
 
     by_order : (y : Set) → IsPoint p.n y → (literal p c.node.input y ≡ true) × (place_value p nodes c.node.high y ≡ true) → (h : IsBefore p y (high p c.node.input x))
         → (h.input ≡ c.node.input) ⊎ ((h.input < c.node.input) ⊎ (c.node.input < h.input)) → ⊥
@@ -106,16 +105,16 @@ walked-high p nodes is at c x none w = record {
           input = h.input;
           is_input = h.is_input;
           same = λ j m. agree j m (cases_eq j c.node.input);
-          low = literal-other p c.node.input h.input (not (has p.plain c.node.input)) y (λ e. absurd (omega (arith, l, e))) ∙ h.low;
-          high = sym (literal-other p c.node.input h.input (has p.plain c.node.input) x (λ e. absurd (omega (arith, l, e)))) ∙ h.high;
+          low = literal-put p c.node.input h.input (not (has p.plain c.node.input)) y (λ e. absurd (omega (arith, l, e))) ∙ h.low;
+          high = sym (literal-put p c.node.input h.input (has p.plain c.node.input) x (λ e. absurd (omega (arith, l, e)))) ∙ h.high;
         })
       where
         agree : (j : ℕ) → j < h.input → (j ≡ c.node.input) ⊎ (j ≢ c.node.input) → literal p j (low p c.node.input y) ≡ literal p j x
         agree j m (inl e) = ap (λ i. literal p i (low p c.node.input y)) e ∙ literal-low p c.node.input y ∙ sym (w.zeros c.node.input (parts p.n nodes is at c).below (parts p.n nodes is at c).over_high) ∙ ap (λ i. literal p i x) (sym e)
         agree j m (inr apart) =
-            literal-other p c.node.input j (not (has p.plain c.node.input)) y apart
+            literal-put p c.node.input j (not (has p.plain c.node.input)) y apart
             ∙ h.same j m
-            ∙ literal-other p c.node.input j (has p.plain c.node.input) x apart
+            ∙ literal-put p c.node.input j (has p.plain c.node.input) x apart
 
 -- ---- the point along the path
 

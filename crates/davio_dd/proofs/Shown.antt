@@ -5,16 +5,15 @@ use Rattle.std.proofs.Math.Bool.{and-true}
 use Rattle.std.proofs.lemmas.Bool.{false≢true, ltb-true}
 use Rattle.ae_base.specs.Mask.{Set, differ}
 use Rattle.ae_base.specs.Cube.{Signs}
-use Rattle.ae_base.specs.Terms.{literal, value, in_order}
+use Rattle.ae_base.specs.Terms.{IsPoint, literal, value, in_order}
 use Rattle.fn_store.specs.declared.store.FnRef.{FnRef}
 use Rattle.fn_store.specs.Functions.{IsLive, Shows, Keeps, AllShow, AgreeAt}
 use Rattle.fn_store.proofs.Expansions.{means}
 use Rattle.davio_dd.specs.declared.node.Node.{Node}
 use Rattle.davio_dd.specs.Diagram.{place_value, place_terms, IsDiagram, IsPlace, IsAnswer, functions_of}
-use Rattle.davio_dd.specs.Scratch.{Grows}
 use Rattle.davio_dd.proofs.Places.{value-zero, value-one}
 use Rattle.davio_dd.proofs.Canonical.{same_place}
-use Rattle.davio_dd.proofs.Growing.{value-grows, terms-grows, length-grows}
+use Rattle.davio_dd.proofs.Growing.{Moved, place-moved, value-moved, terms-grows}
 use Rattle.davio_dd.proofs.Terms.{terms-once, value-in_order, place-expansion}
 use Rattle.davio_dd.proofs.Once.{length-in_order}
 
@@ -48,23 +47,22 @@ one-Shows p nodes is = Shows-value p nodes is (record { at = 1 }) (omega arith) 
 
 -- ---- while nodes are added
 
-pub Keeps-grows : (p p1 : Signs) (n0 n1 : List Node) → p1 ≡ p → Grows n0 n1 → Keeps (functions_of p n0) (functions_of p1 n1)
-Keeps-grows p p1 n0 n1 e g = record {
-  polarity = e;
-  live = λ r l. place-live p1 n1 r (omega (arith, length-grows n0 n1 g, live-place p n0 r l));
-  terms = λ r l. ap in_order (terms-grows n0 n1 g r.at (live-place p n0 r l));
+pub Keeps-moved : (p p1 : Signs) (n0 n1 : List Node) → Moved p n0 p1 n1 → Keeps (functions_of p n0) (functions_of p1 n1)
+Keeps-moved p p1 n0 n1 m = record {
+  polarity = m.0;
+  live = λ r l. place-live p1 n1 r (place-moved p p1 n0 n1 m r.at (live-place p n0 r l));
+  terms = λ r l. ap in_order (terms-grows n0 n1 m.1 r.at (live-place p n0 r l));
 }
 
 -- the answer to an operation of two places shows the operation of their functions
-pub answer-Shows : (op : Bool → Bool → Bool) (p p1 : Signs) (n0 n1 : List Node) → IsDiagram p.n n0 → IsDiagram p1.n n1 → p1 ≡ p → Grows n0 n1 → (a b r : FnRef) → IsAnswer op p1 n1 a.at b.at r.at
+pub answer-Shows : (op : Bool → Bool → Bool) (p p1 : Signs) (n0 n1 : List Node) → IsDiagram p.n n0 → IsDiagram p1.n n1 → Moved p n0 p1 n1 → (a b r : FnRef) → IsAnswer op p1 n1 a.at b.at r.at
     → (f g : Set → Bool) → Shows (functions_of p n0) a f → Shows (functions_of p n0) b g → Shows (functions_of p1 n1) r (λ x. op (f x) (g x))
-answer-Shows op p p1 n0 n1 is0 is1 e g a b r answer f h shows_a shows_b =
-    let first : IsAnswer op p n1 a.at b.at r.at = rw e at answer in
-    let is : IsDiagram p.n n1 = rw e at is1 in
-    rw e (Shows-value p n1 is r first.place (λ x. op (f x) (h x)) (λ x point.
-    first.is x
-    ∙ ap₂ op (value-grows p n0 n1 g a.at (live-place p n0 a shows_a.live) x ∙ value-Shows p n0 is0 a f shows_a x point)
-    (value-grows p n0 n1 g b.at (live-place p n0 b shows_b.live) x ∙ value-Shows p n0 is0 b h shows_b x point)))
+answer-Shows op p p1 n0 n1 is0 is1 m a b r answer f h shows_a shows_b =
+    Shows-value p1 n1 is1 r answer.place (λ x. op (f x) (h x)) (λ x point.
+    let at : IsPoint p.n x = rw m.0 at point in
+    answer.is x
+    ∙ ap₂ op (value-moved p p1 n0 n1 m a.at (live-place p n0 a shows_a.live) x ∙ value-Shows p n0 is0 a f shows_a x at)
+    (value-moved p p1 n0 n1 m b.at (live-place p n0 b shows_b.live) x ∙ value-Shows p n0 is0 b h shows_b x at))
 
 -- the node of an input over the two constants shows the literal
 pub literal-Shows : (p p1 : Signs) (n0 n1 : List Node) → IsDiagram p1.n n1 → p1 ≡ p → (j : ℕ) (r : FnRef) → IsPlace n1 r.at

@@ -1,18 +1,17 @@
 -- Two places by their first input, and the operations by the parts.
-use Rattle.std.proofs.Common.{◌≡◌, ◌≢◌, ℕ, ◌+◌, ◌-◌, ◌*◌, ◌<◌, ◌≤◌, min, Bool, true, false, ◌&&◌, ◌⊎◌, inl, inr, List, refl, ap, ap₂, sym, ◌∙◌, arith, rules}
+use Rattle.std.proofs.Common.{◌≡◌, ◌≢◌, ℕ, ◌+◌, ◌-◌, ◌*◌, ◌<◌, ◌≤◌, min, Bool, true, false, not, ◌&&◌, ◌⊎◌, inl, inr, List, refl, ap, ap₂, sym, ◌∙◌, arith, rules}
 use Rattle.std.proofs.Math.Bool.{and-true, and_self}
 use Rattle.std.proofs.lemmas.Bool.{and_right, cases_lt}
 use Rattle.ae_base.specs.Mask.{Set, differ}
 use Rattle.ae_base.specs.Cube.{Signs}
 use Rattle.ae_base.specs.Terms.{literal}
-use Rattle.ae_base.proofs.Truth.{differ-same, differ-false}
-use Rattle.ae_base.proofs.Truth.{differ-swap, and-differ}
+use Rattle.ae_base.proofs.Truth.{differ-same, differ-false, differ-swap, and-differ}
 use Rattle.davio_dd.specs.declared.node.Node.{Node}
 use Rattle.davio_dd.specs.Diagram.{place_value, top, IsDiagram, IsPlace, IsAnswer, product}
-use Rattle.davio_dd.specs.Scratch.{Grows, IsNode, IsPart, IsSplit, IsLater, IsHalf, IsHigh}
+use Rattle.davio_dd.specs.Scratch.{AreParts, IsNode, IsPart, IsSplit, IsLater, IsHigh}
 use Rattle.davio_dd.proofs.Places.{value-zero, value-one, top-zero, top-one, IsNodeAt, node_at, place-cases}
 use Rattle.davio_dd.proofs.Canonical.{top-place, value-place, parts, differ-twice}
-use Rattle.davio_dd.proofs.Growing.{top-grows, value-grows, length-grows, Grows-trans, answer-grows}
+use Rattle.davio_dd.proofs.Growing.{Moved, Moved-trans, place-moved, top-moved, value-moved, answer-moved, later-moved}
 
 -- ---- tops
 
@@ -105,218 +104,179 @@ split-parts p nodes a b input al ah bl bh first below l r = record {
     by_first (inl e) = omega (arith, l.low_falls e, r.low_le)
     by_first (inr e) = omega (arith, r.low_falls e, l.low_le)
 
+-- the parts test later inputs alone
+pub later-parts : (p : Signs) (nodes : List Node) (a b i al ah bl bh : ℕ) → IsSplit p nodes a b i al ah bl bh → IsPlace nodes a → IsPlace nodes b → AreParts p.n nodes i al ah bl bh
+later-parts p nodes a b i al ah bl bh s pa pb = record {
+  below = s.below;
+  left_low = record { place = omega (arith, pa, s.left.low_le); over = s.left.over_low };
+  left_high = record { place = omega (arith, pa, s.left.high_le); over = s.left.over_high };
+  right_low = record { place = omega (arith, pb, s.right.low_le); over = s.right.over_low };
+  right_high = record { place = omega (arith, pb, s.right.high_le); over = s.right.over_high };
+}
+
+pub parts-moved : (p q : Signs) (n m : List Node) → Moved p n q m → (i al ah bl bh : ℕ) → AreParts p.n n i al ah bl bh → AreParts q.n m i al ah bl bh
+parts-moved p q n m moved i al ah bl bh are = record {
+  below = rw moved.0 are.below;
+  left_low = later-moved p q n m moved i al are.left_low;
+  left_high = later-moved p q n m moved i ah are.left_high;
+  right_low = later-moved p q n m moved i bl are.right_low;
+  right_high = later-moved p q n m moved i bh are.right_high;
+}
+
 -- ---- answers
 
--- an answer tests inputs after those that come before both places
-pub answer-over : (op : Bool → Bool → Bool) (p : Signs) (n0 n1 n2 : List Node) (u v r i : ℕ) → Grows n0 n1 → Grows n1 n2 → IsPlace n0 u → IsPlace n0 v → i < top p.n n0 u → i < top p.n n0 v → IsAnswer op p n1 u v r → i < top p.n n2 r
-answer-over op p n0 n1 n2 u v r i g h pu pv lu lv is =
-    omega (arith, top-grows p.n n1 n2 h r is.place, is.over i (omega (arith, top-grows p.n n0 n1 g u pu)) (omega (arith, top-grows p.n n0 n1 g v pv)))
+module _ (op : Bool → Bool → Bool) (p : Signs) (nodes : List Node) where
+  -- one of the two places, or the constant 0, where its value is that of the operation
+  pub answer-left : (a b : ℕ) → IsPlace nodes a → IsPlace nodes b → ((x : Set) → op (place_value p nodes a x) (place_value p nodes b x) ≡ place_value p nodes a x) → IsAnswer op p nodes a b a
+  answer-left a b pa pb is = record { left_place = pa; right_place = pb; place = pa; is = λ x. sym (is x); over = λ j la lb. la }
 
-pub over-step : (op : Bool → Bool → Bool) (p p1 p2 : Signs) (n0 n1 n2 : List Node) (a b u v r i : ℕ) → p1 ≡ p → p2 ≡ p1 → Grows n0 n1 → Grows n1 n2 → IsPlace n0 a → IsPlace n0 b → u ≤ a → v ≤ b
-    → i < top p.n n0 u → i < top p.n n0 v → IsAnswer op p1 n1 u v r → i < top p2.n n2 r
-over-step op p p1 p2 n0 n1 n2 a b u v r i e1 e2 g h pa pb ua vb lu lv is =
-    let first : IsAnswer op p n1 u v r = rw e1 at is in
-    rw (e2, e1) (answer-over op p n0 n1 n2 u v r i g h (omega arith) (omega arith) lu lv first)
+  pub answer-right : (a b : ℕ) → IsPlace nodes a → IsPlace nodes b → ((x : Set) → op (place_value p nodes a x) (place_value p nodes b x) ≡ place_value p nodes b x) → IsAnswer op p nodes a b b
+  answer-right a b pa pb is = record { left_place = pa; right_place = pb; place = pb; is = λ x. sym (is x); over = λ j la lb. lb }
 
--- what an answer is, later, by the values at first
-pub answer-later : (op : Bool → Bool → Bool) (p : Signs) (n0 n1 n2 : List Node) (u v r : ℕ) → Grows n0 n1 → Grows n1 n2 → IsPlace n0 u → IsPlace n0 v → IsAnswer op p n1 u v r
-    → (x : Set) → place_value p n2 r x ≡ op (place_value p n0 u x) (place_value p n0 v x)
-answer-later op p n0 n1 n2 u v r g h pu pv is x = value-grows p n1 n2 h r is.place x ∙ is.is x ∙ ap₂ op (value-grows p n0 n1 g u pu x) (value-grows p n0 n1 g v pv x)
+  pub answer-zero : (a b : ℕ) → IsDiagram p.n nodes → IsPlace nodes a → IsPlace nodes b → ((x : Set) → op (place_value p nodes a x) (place_value p nodes b x) ≡ false) → IsAnswer op p nodes a b 0
+  answer-zero a b diagram pa pb is = record {
+    left_place = pa;
+    right_place = pb;
+    place = omega arith;
+    is = λ x. value-zero p nodes x ∙ sym (is x);
+    over = λ j la lb. omega (arith, top-zero p.n nodes, top-within p.n nodes diagram a pa);
+  }
 
--- a node whose parts are right for the parts of two places is right for the two
-pub combine : (op : Bool → Bool → Bool) (lo hi : Bool → Bool → Bool → Bool → Bool)
-    → ((l al ah bl bh : Bool) → differ (lo al ah bl bh) (l && hi al ah bl bh) ≡ op (differ al (l && ah)) (differ bl (l && bh)))
-    → (p : Signs) (nodes after : List Node) (a b i al ah bl bh r : ℕ) → IsSplit p nodes a b i al ah bl bh → IsPlace nodes a → IsPlace nodes b → Grows nodes after → IsPlace after r → i ≤ top p.n after r
-    → ((x : Set) → place_value p after r x ≡ differ (lo (place_value p nodes al x) (place_value p nodes ah x) (place_value p nodes bl x) (place_value p nodes bh x))
-    (literal p i x && hi (place_value p nodes al x) (place_value p nodes ah x) (place_value p nodes bl x) (place_value p nodes bh x)))
-    → IsAnswer op p after a b r
-combine op lo hi law p nodes after a b i al ah bl bh r s pa pb g place over h =
-    let more = length-grows nodes after g in
+  -- the answer for later places is later
+  pub answer-later : (i u v r : ℕ) → IsLater p.n nodes i u → IsLater p.n nodes i v → IsAnswer op p nodes u v r → IsLater p.n nodes i r
+  answer-later i u v r lu lv is = record { place = is.place; over = is.over i lu.over lv.over }
+
+-- so it is when some nodes more were added
+pub answer-over : (op : Bool → Bool → Bool) (p p1 p2 : Signs) (n0 n1 n2 : List Node) → Moved p n0 p1 n1 → Moved p1 n1 p2 n2 → (i u v r : ℕ) → IsLater p.n n0 i u → IsLater p.n n0 i v → IsAnswer op p1 n1 u v r → i < top p2.n n2 r
+answer-over op p p1 p2 n0 n1 n2 m1 m2 i u v r lu lv is =
+    (later-moved p1 p2 n1 n2 m2 i r (answer-later op p1 n1 i u v r (later-moved p p1 n0 n1 m1 i u lu) (later-moved p p1 n0 n1 m1 i v lv) is)).over
+
+-- the value of a place, by its parts as they are later
+part-value : (p p2 p3 : Signs) (n0 n2 n3 : List Node) → Moved p n0 p2 n2 → Moved p2 n2 p3 n3 → (at i low high : ℕ) → IsPart p n0 at i low high → IsPlace n0 at
+    → (x : Set) → place_value p3 n3 at x ≡ differ (place_value p2 n2 low x) (literal p2 i x && place_value p2 n2 high x)
+part-value p p2 p3 n0 n2 n3 m2 m3 at i low high part place x =
+    value-moved p p3 n0 n3 (Moved-trans p p2 p3 n0 n2 n3 m2 m3) at place x
+    ∙ part.is x
+    ∙ sym (ap (λ (s : Signs). differ (place_value p2 n2 low x) (literal s i x && place_value p2 n2 high x)) m2.0
+    ∙ ap₂ (λ u v. differ u (literal p i x && v)) (value-moved p p2 n0 n2 m2 low (omega (arith, place, part.low_le)) x) (value-moved p p2 n0 n2 m2 high (omega (arith, place, part.high_le)) x))
+
+-- an operation by the parts of its operands
+by_literal : (op : Bool → Bool → Bool) (l al ah bl bh : Bool) → differ (op al bl) (l && differ (op al bl) (op (differ al ah) (differ bl bh))) ≡ op (differ al (l && ah)) (differ bl (l && bh))
+by_literal op false al ah bl bh = differ-false _ ∙ sym (ap₂ op (differ-false al) (differ-false bl))
+by_literal op true al ah bl bh = differ-twice _ _
+
+-- A node over the answer for the low parts and over the high part of the operation is the answer for the places.
+pub answer-step : (op : Bool → Bool → Bool) (p p1 p2 p3 : Signs) (n0 n1 n2 n3 : List Node) (a b i al ah bl bh low high r : ℕ) → Moved p n0 p1 n1 → Moved p1 n1 p2 n2 → Moved p2 n2 p3 n3
+    → IsSplit p n0 a b i al ah bl bh → IsPlace n0 a → IsPlace n0 b → IsAnswer op p1 n1 al bl low → IsHigh op p2 n2 i al ah bl bh high → IsPlace n3 r → i ≤ top p3.n n3 r
+    → ((x : Set) → place_value p3 n3 r x ≡ differ (place_value p2 n2 low x) (literal p2 i x && place_value p2 n2 high x)) → IsAnswer op p3 n3 a b r
+answer-step op p p1 p2 p3 n0 n1 n2 n3 a b i al ah bl bh low high r m1 m2 m3 s pa pb is_low is_high place over value =
+    let m12 = Moved-trans p p1 p2 n0 n1 n2 m1 m2 in
+    let m = Moved-trans p p2 p3 n0 n2 n3 m12 m3 in
+    let low_is = answer-moved op p1 p2 n1 n2 m2 al bl low is_low in
     record {
-      left_place = omega arith;
-      right_place = omega arith;
+      left_place = place-moved p p3 n0 n3 m a pa;
+      right_place = place-moved p p3 n0 n3 m b pb;
       place = place;
       is = λ x.
-          h x
-          ∙ law (literal p i x) (place_value p nodes al x) (place_value p nodes ah x) (place_value p nodes bl x) (place_value p nodes bh x)
-          ∙ ap₂ op (sym (s.left.is x) ∙ sym (value-grows p nodes after g a pa x)) (sym (s.right.is x) ∙ sym (value-grows p nodes after g b pb x));
-      over = λ j la lb. omega (arith, s.least j (omega (arith, top-grows p.n nodes after g a pa)) (omega (arith, top-grows p.n nodes after g b pb)));
+          value x
+          ∙ ap₂ (λ u v. differ u (literal p2 i x && v)) (low_is.is x) (is_high.is x)
+          ∙ by_literal op (literal p2 i x) (place_value p2 n2 al x) (place_value p2 n2 ah x) (place_value p2 n2 bl x) (place_value p2 n2 bh x)
+          ∙ ap₂ op (sym (part-value p p2 p3 n0 n2 n3 m12 m3 a i al ah s.left pa x)) (sym (part-value p p2 p3 n0 n2 n3 m12 m3 b i bl bh s.right pb x));
+      over = λ j la lb. omega (arith, over, s.least j (omega (arith, la, top-moved p p3 n0 n3 m a pa)) (omega (arith, lb, top-moved p p3 n0 n3 m b pb)));
     }
 
 -- ---- EXOR
 
+at-zero : (p : Signs) (nodes : List Node) (a : ℕ) → a ≡ 0 → (x : Set) → place_value p nodes a x ≡ false
+at-zero p nodes a e x = ap (λ (c : ℕ). place_value p nodes c x) e ∙ value-zero p nodes x
+
+at-one : (p : Signs) (nodes : List Node) (a : ℕ) → a ≡ 1 → (x : Set) → place_value p nodes a x ≡ true
+at-one p nodes a e x = ap (λ (c : ℕ). place_value p nodes c x) e ∙ value-one p nodes x
+
 pub sum-same : (p : Signs) (nodes : List Node) → IsDiagram p.n nodes → (a b : ℕ) → IsPlace nodes a → IsPlace nodes b → a ≡ b → IsAnswer differ p nodes a b 0
-sum-same p nodes is a b pa pb e = record {
-  left_place = pa;
-  right_place = pb;
-  place = omega arith;
-  is = λ x. value-zero p nodes x ∙ sym (ap (λ (c : ℕ). differ (place_value p nodes c x) (place_value p nodes b x)) e ∙ differ-same (place_value p nodes b x));
-  over = λ j la lb. omega (arith, top-zero p.n nodes, top-within p.n nodes is a pa);
-}
+sum-same p nodes is a b pa pb e = answer-zero differ p nodes a b is pa pb (λ x. ap (λ (c : ℕ). differ (place_value p nodes c x) (place_value p nodes b x)) e ∙ differ-same (place_value p nodes b x))
 
 pub sum-left : (p : Signs) (nodes : List Node) (a b : ℕ) → IsPlace nodes a → IsPlace nodes b → a ≡ 0 → IsAnswer differ p nodes a b b
-sum-left p nodes a b pa pb e = record {
-  left_place = pa;
-  right_place = pb;
-  place = pb;
-  is = λ x. sym (ap (λ (v : Bool). differ v (place_value p nodes b x)) (ap (λ (c : ℕ). place_value p nodes c x) e ∙ value-zero p nodes x));
-  over = λ j la lb. lb;
-}
+sum-left p nodes a b pa pb e = answer-right differ p nodes a b pa pb (λ x. ap (λ v. differ v (place_value p nodes b x)) (at-zero p nodes a e x))
 
 pub sum-right : (p : Signs) (nodes : List Node) (a b : ℕ) → IsPlace nodes a → IsPlace nodes b → b ≡ 0 → IsAnswer differ p nodes a b a
-sum-right p nodes a b pa pb e = record {
-  left_place = pa;
-  right_place = pb;
-  place = pa;
-  is = λ x. sym (ap (differ (place_value p nodes a x)) (ap (λ (c : ℕ). place_value p nodes c x) e ∙ value-zero p nodes x) ∙ differ-false _);
-  over = λ j la lb. la;
+sum-right p nodes a b pa pb e = answer-left differ p nodes a b pa pb (λ x. ap (differ (place_value p nodes a x)) (at-zero p nodes b e x) ∙ differ-false _)
+
+-- the EXOR of the high parts is the high part of the EXOR
+high-sum : (p : Signs) (nodes : List Node) (i al ah bl bh r : ℕ) → AreParts p.n nodes i al ah bl bh → IsAnswer differ p nodes ah bh r → IsHigh differ p nodes i al ah bl bh r
+high-sum p nodes i al ah bl bh r parts is = record {
+  later = answer-later differ p nodes i ah bh r parts.left_high parts.right_high is;
+  is = λ x. is.is x ∙ sym (swapped (place_value p nodes al x) (place_value p nodes ah x) (place_value p nodes bl x) (place_value p nodes bh x));
 }
+  where
+    swapped : (al ah bl bh : Bool) → differ (differ al bl) (differ (differ al ah) (differ bl bh)) ≡ differ ah bh
+    swapped al ah bl bh = ap (differ (differ al bl)) (differ-swap al ah bl bh) ∙ differ-twice (differ al bl) (differ ah bh)
 
-pub and_differ : (l a b : Bool) → (l && differ a b) ≡ differ (l && a) (l && b)
-and_differ true a b = refl
-and_differ false a b = refl
-
-sum_law : (l al ah bl bh : Bool) → differ (differ al bl) (l && differ ah bh) ≡ differ (differ al (l && ah)) (differ bl (l && bh))
-sum_law l al ah bl bh = ap (differ (differ al bl)) (and_differ l ah bh) ∙ differ-swap al bl (l && ah) (l && bh)
-
-pub sum-step : (p p1 p2 p3 : Signs) (n0 n1 n2 n3 : List Node) (a b i al ah bl bh low high r : ℕ) → p1 ≡ p → p2 ≡ p1 → p3 ≡ p2 → IsSplit p n0 a b i al ah bl bh → IsPlace n0 a → IsPlace n0 b
-    → Grows n0 n1 → Grows n1 n2 → Grows n2 n3 → IsAnswer differ p1 n1 al bl low → IsAnswer differ p2 n2 ah bh high → IsPlace n3 r → i ≤ top p3.n n3 r
+-- so the step of EXOR asks for the answer for the high parts
+pub sum-step : (p p1 p2 p3 : Signs) (n0 n1 n2 n3 : List Node) (a b i al ah bl bh low high r : ℕ) → Moved p n0 p1 n1 → Moved p1 n1 p2 n2 → Moved p2 n2 p3 n3
+    → IsSplit p n0 a b i al ah bl bh → IsPlace n0 a → IsPlace n0 b → IsAnswer differ p1 n1 al bl low → IsAnswer differ p2 n2 ah bh high → IsPlace n3 r → i ≤ top p3.n n3 r
     → ((x : Set) → place_value p3 n3 r x ≡ differ (place_value p2 n2 low x) (literal p2 i x && place_value p2 n2 high x)) → IsAnswer differ p3 n3 a b r
-sum-step p p1 p2 p3 n0 n1 n2 n3 a b i al ah bl bh low high r e1 e2 e3 s pa pb g1 g2 g3 is_low is_high place over value =
-    let f2 : p2 ≡ p = e2 ∙ e1 in
-    let f3 : p3 ≡ p = e3 ∙ f2 in
-    let first : IsAnswer differ p n1 al bl low = rw e1 at is_low in
-    let second : IsAnswer differ p n2 ah bh high = rw f2 at is_high in
-    let g : Grows n0 n2 = Grows-trans n0 n1 n2 g1 g2 in
-    let pal : IsPlace n0 al = omega (arith, s.left.low_le) in
-    let pah : IsPlace n0 ah = omega (arith, s.left.high_le) in
-    let pbl : IsPlace n0 bl = omega (arith, s.right.low_le) in
-    let pbh : IsPlace n0 bh = omega (arith, s.right.high_le) in
-    let at_r : (x : Set) → place_value p n3 r x ≡ differ (place_value p n2 low x) (literal p i x && place_value p n2 high x) = rw (f3, f2) at value in
-    let later : i ≤ top p.n n3 r = rw f3 at over in
-    rw f3 (combine differ (λ (al ah bl bh : Bool). differ al bl) (λ (al ah bl bh : Bool). differ ah bh) sum_law p n0 n3 a b i al ah bl bh r s pa pb (Grows-trans n0 n2 n3 g g3) place later
-    (λ x. at_r x ∙ ap₂ (λ u v. differ u (literal p i x && v)) (answer-later differ p n0 n1 n2 al bl low g1 g2 pal pbl first x) (second.is x ∙ ap₂ differ (value-grows p n0 n2 g ah pah x) (value-grows p n0 n2 g bh pbh x))))
+sum-step p p1 p2 p3 n0 n1 n2 n3 a b i al ah bl bh low high r m1 m2 m3 s pa pb is_low is_high =
+    let now = parts-moved p p2 n0 n2 (Moved-trans p p1 p2 n0 n1 n2 m1 m2) i al ah bl bh (later-parts p n0 a b i al ah bl bh s pa pb) in
+    answer-step differ p p1 p2 p3 n0 n1 n2 n3 a b i al ah bl bh low high r m1 m2 m3 s pa pb is_low (high-sum p2 n2 i al ah bl bh high now is_high)
 
 -- ---- products
 
 pub product-same : (p : Signs) (nodes : List Node) (a b : ℕ) → IsPlace nodes a → IsPlace nodes b → (a ≡ b) ⊎ ((a ≢ b) × (b ≡ 1)) → IsAnswer product p nodes a b a
-product-same p nodes a b pa pb either = record { left_place = pa; right_place = pb; place = pa; is = λ x. by_case either x; over = λ j la lb. la }
+product-same p nodes a b pa pb either = answer-left product p nodes a b pa pb (by_case either)
   where
-    by_case : (a ≡ b) ⊎ ((a ≢ b) × (b ≡ 1)) → (x : Set) → place_value p nodes a x ≡ (place_value p nodes a x && place_value p nodes b x)
-    by_case (inl e) x = sym (ap (λ (c : ℕ). place_value p nodes a x && place_value p nodes c x) (sym e) ∙ and_self (place_value p nodes a x))
-    by_case (inr (apart, e)) x = sym (ap (λ (v : Bool). place_value p nodes a x && v) (ap (λ (c : ℕ). place_value p nodes c x) e ∙ value-one p nodes x) ∙ and-true (place_value p nodes a x))
+    by_case : (a ≡ b) ⊎ ((a ≢ b) × (b ≡ 1)) → (x : Set) → (place_value p nodes a x && place_value p nodes b x) ≡ place_value p nodes a x
+    by_case (inl e) x = ap (λ (c : ℕ). place_value p nodes a x && place_value p nodes c x) (sym e) ∙ and_self (place_value p nodes a x)
+    by_case (inr (apart, e)) x = ap (λ v. place_value p nodes a x && v) (at-one p nodes b e x) ∙ and-true (place_value p nodes a x)
 
 pub product-left_one : (p : Signs) (nodes : List Node) (a b : ℕ) → IsPlace nodes a → IsPlace nodes b → a ≡ 1 → IsAnswer product p nodes a b b
-product-left_one p nodes a b pa pb e = record {
-  left_place = pa;
-  right_place = pb;
-  place = pb;
-  is = λ x. sym (ap (λ (v : Bool). v && place_value p nodes b x) (ap (λ (c : ℕ). place_value p nodes c x) e ∙ value-one p nodes x));
-  over = λ j la lb. lb;
-}
+product-left_one p nodes a b pa pb e = answer-right product p nodes a b pa pb (λ x. ap (λ v. v && place_value p nodes b x) (at-one p nodes a e x))
 
 pub product-zero : (p : Signs) (nodes : List Node) → IsDiagram p.n nodes → (a b : ℕ) → IsPlace nodes a → IsPlace nodes b → (a ≡ 0) ⊎ ((a ≢ 0) × (b ≡ 0)) → IsAnswer product p nodes a b 0
-product-zero p nodes is a b pa pb either = record {
-  left_place = pa;
-  right_place = pb;
-  place = omega arith;
-  is = λ x. value-zero p nodes x ∙ sym (by_case either x);
-  over = λ j la lb. omega (arith, top-zero p.n nodes, top-within p.n nodes is a pa);
-}
+product-zero p nodes is a b pa pb either = answer-zero product p nodes a b is pa pb (by_case either)
   where
     by_case : (a ≡ 0) ⊎ ((a ≢ 0) × (b ≡ 0)) → (x : Set) → (place_value p nodes a x && place_value p nodes b x) ≡ false
-    by_case (inl e) x = ap (λ (v : Bool). v && place_value p nodes b x) (ap (λ (c : ℕ). place_value p nodes c x) e ∙ value-zero p nodes x)
-    by_case (inr (apart, e)) x = and_right _ _ (ap (λ (c : ℕ). place_value p nodes c x) e ∙ value-zero p nodes x)
+    by_case (inl e) x = ap (λ v. v && place_value p nodes b x) (at-zero p nodes a e x)
+    by_case (inr (apart, e)) x = and_right _ _ (at-zero p nodes b e x)
 
-product_law : (l al ah bl bh : Bool) → differ (al && bl) (l && differ (al && bl) (differ al ah && differ bl bh)) ≡ (differ al (l && ah) && differ bl (l && bh))
-product_law false al ah bl bh = differ-false _ ∙ sym (ap₂ (λ a b. a && b) (differ-false al) (differ-false bl))
-product_law true al ah bl bh = differ-twice _ _
-
--- what is later stays so, and an answer stays right
-later-grows : (p p1 : Signs) (n0 n1 : List Node) (i at : ℕ) → p1 ≡ p → Grows n0 n1 → IsLater p.n n0 i at → IsLater p1.n n1 i at
-later-grows p p1 n0 n1 i at e g h = rw e (record { place = omega (arith, length-grows n0 n1 g, h.place); over = omega (arith, top-grows p.n n0 n1 g at h.place, h.over) })
-
-carry : (op : Bool → Bool → Bool) (p p1 : Signs) (n0 n1 : List Node) (u v r : ℕ) → p1 ≡ p → Grows n0 n1 → IsAnswer op p n0 u v r → IsAnswer op p1 n1 u v r
-carry op p p1 n0 n1 u v r e g h = rw e (answer-grows op p n0 n1 g u v r h)
-
-pub half-from : (p p1 : Signs) (n0 n1 : List Node) (a b i al ah bl bh low : ℕ) → p1 ≡ p → Grows n0 n1 → IsPlace n0 a → IsPlace n0 b → IsSplit p n0 a b i al ah bl bh → IsAnswer product p1 n1 al bl low
-    → IsHalf p1 n1 i al ah bl bh low
-half-from p p1 n0 n1 a b i al ah bl bh low e g pa pb s is = record {
-  below = rw e s.below;
-  left_low = later-grows p p1 n0 n1 i al e g (record { place = omega (arith, pa, s.left.low_le); over = s.left.over_low });
-  left_high = later-grows p p1 n0 n1 i ah e g (record { place = omega (arith, pa, s.left.high_le); over = s.left.over_high });
-  right_low = later-grows p p1 n0 n1 i bl e g (record { place = omega (arith, pb, s.right.low_le); over = s.right.over_low });
-  right_high = later-grows p p1 n0 n1 i bh e g (record { place = omega (arith, pb, s.right.high_le); over = s.right.over_high });
-  is_low = is;
-}
-
--- the answer to an operation of later places is later
-answer-later_place : (op : Bool → Bool → Bool) (p : Signs) (nodes : List Node) (i u v r : ℕ) → IsLater p.n nodes i u → IsLater p.n nodes i v → IsAnswer op p nodes u v r → IsLater p.n nodes i r
-answer-later_place op p nodes i u v r lu lv is = record { place = is.place; over = is.over i lu.over lv.over }
-
-pub high-right_none : (p p1 : Signs) (n0 n1 : List Node) (i al ah bl bh low r : ℕ) → p1 ≡ p → Grows n0 n1 → IsHalf p n0 i al ah bl bh low → bh ≡ 0 → IsAnswer product p1 n1 ah bl r → IsHigh p1 n1 i al ah bl bh r
-high-right_none p p1 n0 n1 i al ah bl bh low r e g h none is = record {
-  later = answer-later_place product p1 n1 i ah bl r (later-grows p p1 n0 n1 i ah e g h.left_high) (later-grows p p1 n0 n1 i bl e g h.right_low) is;
-  is = λ x.
-      is.is x
-      ∙ sym (ap (λ b. differ (place_value p1 n1 al x && place_value p1 n1 bl x) (differ (place_value p1 n1 al x) (place_value p1 n1 ah x) && differ (place_value p1 n1 bl x) b)) (ap (λ (c : ℕ). place_value p1 n1 c x) none ∙ value-zero p1 n1 x)
-      ∙ left (place_value p1 n1 al x) (place_value p1 n1 ah x) (place_value p1 n1 bl x));
+-- The high part of a product: where one high part is the constant 0, the product of the other one with that place's low part,
+pub high-right_none : (p p1 : Signs) (n0 n1 : List Node) (i al ah bl bh r : ℕ) → Moved p n0 p1 n1 → AreParts p.n n0 i al ah bl bh → bh ≡ 0 → IsAnswer product p1 n1 ah bl r → IsHigh product p1 n1 i al ah bl bh r
+high-right_none p p1 n0 n1 i al ah bl bh r m parts none is = record {
+  later = let now = parts-moved p p1 n0 n1 m i al ah bl bh parts in answer-later product p1 n1 i ah bl r now.left_high now.right_low is;
+  is = λ x. is.is x ∙ sym (at_none (place_value p1 n1 al x) (place_value p1 n1 ah x) (place_value p1 n1 bl x) (place_value p1 n1 bh x) (at-zero p1 n1 bh none x));
 }
   where
-    left : (al ah bl : Bool) → differ (al && bl) (differ al ah && differ bl false) ≡ (ah && bl)
-    left al ah bl = ap (λ b. differ (al && bl) (differ al ah && b)) (differ-false bl) ∙ ap (differ (al && bl)) (and-differ al ah bl) ∙ differ-twice (al && bl) (ah && bl)
+    at_none : (al ah bl bh : Bool) → bh ≡ false → differ (al && bl) (differ al ah && differ bl bh) ≡ (ah && bl)
+    at_none al ah bl bh e = ap (λ b. differ (al && bl) (differ al ah && b)) (ap (differ bl) e ∙ differ-false bl) ∙ ap (differ (al && bl)) (and-differ al ah bl) ∙ differ-twice (al && bl) (ah && bl)
 
-pub high-left_none : (p p1 : Signs) (n0 n1 : List Node) (i al ah bl bh low r : ℕ) → p1 ≡ p → Grows n0 n1 → IsHalf p n0 i al ah bl bh low → ah ≡ 0 → IsAnswer product p1 n1 al bh r → IsHigh p1 n1 i al ah bl bh r
-high-left_none p p1 n0 n1 i al ah bl bh low r e g h none is = record {
-  later = answer-later_place product p1 n1 i al bh r (later-grows p p1 n0 n1 i al e g h.left_low) (later-grows p p1 n0 n1 i bh e g h.right_high) is;
-  is = λ x.
-      is.is x
-      ∙ sym (ap (λ b. differ (place_value p1 n1 al x && place_value p1 n1 bl x) (differ (place_value p1 n1 al x) b && differ (place_value p1 n1 bl x) (place_value p1 n1 bh x))) (ap (λ (c : ℕ). place_value p1 n1 c x) none ∙ value-zero p1 n1 x)
-      ∙ right (place_value p1 n1 al x) (place_value p1 n1 bl x) (place_value p1 n1 bh x));
+pub high-left_none : (p p1 : Signs) (n0 n1 : List Node) (i al ah bl bh r : ℕ) → Moved p n0 p1 n1 → AreParts p.n n0 i al ah bl bh → ah ≡ 0 → IsAnswer product p1 n1 al bh r → IsHigh product p1 n1 i al ah bl bh r
+high-left_none p p1 n0 n1 i al ah bl bh r m parts none is = record {
+  later = let now = parts-moved p p1 n0 n1 m i al ah bl bh parts in answer-later product p1 n1 i al bh r now.left_low now.right_high is;
+  is = λ x. is.is x ∙ sym (at_none (place_value p1 n1 al x) (place_value p1 n1 ah x) (place_value p1 n1 bl x) (place_value p1 n1 bh x) (at-zero p1 n1 ah none x));
 }
   where
-    right : (al bl bh : Bool) → differ (al && bl) (differ al false && differ bl bh) ≡ (al && bh)
-    right al bl bh = ap (λ a. differ (al && bl) (a && differ bl bh)) (differ-false al) ∙ ap (differ (al && bl)) (and_differ al bl bh) ∙ differ-twice (al && bl) (al && bh)
+    at_none : (al ah bl bh : Bool) → ah ≡ false → differ (al && bl) (differ al ah && differ bl bh) ≡ (al && bh)
+    at_none true ah bl bh e = ap (λ a. differ bl (not a && differ bl bh)) e ∙ differ-twice bl bh
+    at_none false ah bl bh e = ap (λ a. a && differ bl bh) e
 
-pub high-both : (p p1 p2 p3 p4 : Signs) (n0 n1 n2 n3 n4 : List Node) (i al ah bl bh low a_one b_one one r : ℕ) → p1 ≡ p → p2 ≡ p1 → p3 ≡ p2 → p4 ≡ p3 → Grows n0 n1 → Grows n1 n2 → Grows n2 n3 → Grows n3 n4
-    → IsHalf p n0 i al ah bl bh low → IsAnswer differ p1 n1 al ah a_one → IsAnswer differ p2 n2 bl bh b_one → IsAnswer product p3 n3 a_one b_one one → IsAnswer differ p4 n4 low one r → IsHigh p4 n4 i al ah bl bh r
-high-both p p1 p2 p3 p4 n0 n1 n2 n3 n4 i al ah bl bh low a_one b_one one r e1 e2 e3 e4 g1 g2 g3 g4 h is_a is_b is_one is =
-    let g24 = Grows-trans n2 n3 n4 g3 g4 in
-    let g14 = Grows-trans n1 n2 n4 g2 g24 in
-    let g04 = Grows-trans n0 n1 n4 g1 g14 in
-    let e : p4 ≡ p = e4 ∙ e3 ∙ e2 ∙ e1 in
-    let first = carry product p p4 n0 n4 al bl low e g04 h.is_low in
-    let left = carry differ p1 p4 n1 n4 al ah a_one (e4 ∙ e3 ∙ e2) g14 is_a in
-    let right = carry differ p2 p4 n2 n4 bl bh b_one (e4 ∙ e3) g24 is_b in
-    let both = carry product p3 p4 n3 n4 a_one b_one one e4 g4 is_one in
-    let later = λ (at : ℕ) (l : IsLater p.n n0 i at). later-grows p p4 n0 n4 i at e g04 l in
-    let later_a = answer-later_place differ p4 n4 i al ah a_one (later al h.left_low) (later ah h.left_high) left in
-    let later_b = answer-later_place differ p4 n4 i bl bh b_one (later bl h.right_low) (later bh h.right_high) right in
+-- else by the two products
+pub high-both : (p p1 p2 p3 p4 : Signs) (n0 n1 n2 n3 n4 : List Node) (i al ah bl bh low a_one b_one one r : ℕ) → Moved p n0 p1 n1 → Moved p1 n1 p2 n2 → Moved p2 n2 p3 n3 → Moved p3 n3 p4 n4 → AreParts p.n n0 i al ah bl bh
+    → IsAnswer product p n0 al bl low → IsAnswer differ p1 n1 al ah a_one → IsAnswer differ p2 n2 bl bh b_one → IsAnswer product p3 n3 a_one b_one one → IsAnswer differ p4 n4 low one r → IsHigh product p4 n4 i al ah bl bh r
+high-both p p1 p2 p3 p4 n0 n1 n2 n3 n4 i al ah bl bh low a_one b_one one r m1 m2 m3 m4 parts is_low is_a is_b is_one is =
+    let m24 = Moved-trans p2 p3 p4 n2 n3 n4 m3 m4 in
+    let m14 = Moved-trans p1 p2 p4 n1 n2 n4 m2 m24 in
+    let m04 = Moved-trans p p1 p4 n0 n1 n4 m1 m14 in
+    let now = parts-moved p p4 n0 n4 m04 i al ah bl bh parts in
+    let first = answer-moved product p p4 n0 n4 m04 al bl low is_low in
+    let left = answer-moved differ p1 p4 n1 n4 m14 al ah a_one is_a in
+    let right = answer-moved differ p2 p4 n2 n4 m24 bl bh b_one is_b in
+    let both = answer-moved product p3 p4 n3 n4 m4 a_one b_one one is_one in
+    let later_a = answer-later differ p4 n4 i al ah a_one now.left_low now.left_high left in
+    let later_b = answer-later differ p4 n4 i bl bh b_one now.right_low now.right_high right in
     record {
-      later = answer-later_place differ p4 n4 i low one r (answer-later_place product p4 n4 i al bl low (later al h.left_low) (later bl h.right_low) first) (answer-later_place product p4 n4 i a_one b_one one later_a later_b both) is;
+      later = answer-later differ p4 n4 i low one r (answer-later product p4 n4 i al bl low now.left_low now.right_low first) (answer-later product p4 n4 i a_one b_one one later_a later_b both) is;
       is = λ x. is.is x ∙ ap₂ differ (first.is x) (both.is x ∙ ap₂ (λ u v. u && v) (left.is x) (right.is x));
     }
-
-pub product-step : (p p1 p2 p3 : Signs) (n0 n1 n2 n3 : List Node) (a b i al ah bl bh low high r : ℕ) → p1 ≡ p → p2 ≡ p1 → p3 ≡ p2 → IsSplit p n0 a b i al ah bl bh → IsPlace n0 a → IsPlace n0 b
-    → Grows n0 n1 → Grows n1 n2 → Grows n2 n3 → IsAnswer product p1 n1 al bl low → IsHigh p2 n2 i al ah bl bh high → IsPlace n3 r → i ≤ top p3.n n3 r
-    → ((x : Set) → place_value p3 n3 r x ≡ differ (place_value p2 n2 low x) (literal p2 i x && place_value p2 n2 high x)) → IsAnswer product p3 n3 a b r
-product-step p p1 p2 p3 n0 n1 n2 n3 a b i al ah bl bh low high r e1 e2 e3 s pa pb g1 g2 g3 is_low is_high place over value =
-    let f2 : p2 ≡ p = e2 ∙ e1 in
-    let f3 : p3 ≡ p = e3 ∙ f2 in
-    let first : IsAnswer product p n1 al bl low = rw e1 at is_low in
-    let second : IsHigh p n2 i al ah bl bh high = rw f2 at is_high in
-    let g : Grows n0 n2 = Grows-trans n0 n1 n2 g1 g2 in
-    let pal : IsPlace n0 al = omega (arith, s.left.low_le) in
-    let pah : IsPlace n0 ah = omega (arith, s.left.high_le) in
-    let pbl : IsPlace n0 bl = omega (arith, s.right.low_le) in
-    let pbh : IsPlace n0 bh = omega (arith, s.right.high_le) in
-    let at_r : (x : Set) → place_value p n3 r x ≡ differ (place_value p n2 low x) (literal p i x && place_value p n2 high x) = rw (f3, f2) at value in
-    let later : i ≤ top p.n n3 r = rw f3 at over in
-    rw f3 (combine product (λ (al ah bl bh : Bool). al && bl) (λ (al ah bl bh : Bool). differ (al && bl) (differ al ah && differ bl bh)) product_law p n0 n3 a b i al ah bl bh r s pa pb (Grows-trans n0 n2 n3 g g3) place later
-    (λ x. at_r x ∙ ap₂ (λ u v. differ u (literal p i x && v)) (answer-later product p n0 n1 n2 al bl low g1 g2 pal pbl first x)
-    (second.is x ∙ ap₂ differ
-    (ap₂ (λ u v. u && v) (value-grows p n0 n2 g al pal x) (value-grows p n0 n2 g bl pbl x))
-    (ap₂ (λ u v. u && v) (ap₂ differ (value-grows p n0 n2 g al pal x) (value-grows p n0 n2 g ah pah x)) (ap₂ differ (value-grows p n0 n2 g bl pbl x) (value-grows p n0 n2 g bh pbh x))))))
 
 -- ---- the tops rise
 
@@ -336,14 +296,12 @@ deeper-low n s t i u v below least lu lv = elim (cases_lt i (min s t)) [ inl l �
 pub deeper : (n i u v : ℕ) → i < n → i < u → i < v → depth n u v < high_depth n i
 deeper n i u v below lu lv = omega (arith, below, lu, lv)
 
-pub both-later : (p p1 p2 : Signs) (n0 n1 n2 : List Node) (i al ah bl bh low a_one b_one : ℕ) → p1 ≡ p → p2 ≡ p1 → Grows n0 n1 → Grows n1 n2 → IsHalf p n0 i al ah bl bh low → IsAnswer differ p1 n1 al ah a_one → IsAnswer differ p2 n2 bl bh b_one
+pub both-later : (p p1 p2 : Signs) (n0 n1 n2 : List Node) (i al ah bl bh a_one b_one : ℕ) → Moved p n0 p1 n1 → Moved p1 n1 p2 n2 → AreParts p.n n0 i al ah bl bh → IsAnswer differ p1 n1 al ah a_one → IsAnswer differ p2 n2 bl bh b_one
     → (depth p2.n (top p2.n n2 a_one) (top p2.n n2 b_one) < high_depth p.n i) × (IsPlace n2 a_one × IsPlace n2 b_one)
-both-later p p1 p2 n0 n1 n2 i al ah bl bh low a_one b_one e1 e2 g1 g2 h is_a is_b =
-    let e : p2 ≡ p = e2 ∙ e1 in
-    let g : Grows n0 n2 = Grows-trans n0 n1 n2 g1 g2 in
-    let later = λ (at : ℕ) (l : IsLater p.n n0 i at). later-grows p p2 n0 n2 i at e g l in
-    let later_a = answer-later_place differ p2 n2 i al ah a_one (later al h.left_low) (later ah h.left_high) (carry differ p1 p2 n1 n2 al ah a_one e2 g2 is_a) in
-    let later_b = answer-later_place differ p2 n2 i bl bh b_one (later bl h.right_low) (later bh h.right_high) is_b in
-    let inputs : p2.n ≡ p.n = ap (λ (q : Signs). q.n) e in
-    let below : i < p2.n = omega (arith, inputs, h.below) in
-    (omega (arith, inputs, deeper p2.n i (top p2.n n2 a_one) (top p2.n n2 b_one) below later_a.over later_b.over), (later_a.place, later_b.place))
+both-later p p1 p2 n0 n1 n2 i al ah bl bh a_one b_one m1 m2 parts is_a is_b =
+    let m = Moved-trans p p1 p2 n0 n1 n2 m1 m2 in
+    let now = parts-moved p p2 n0 n2 m i al ah bl bh parts in
+    let later_a = answer-later differ p2 n2 i al ah a_one now.left_low now.left_high (answer-moved differ p1 p2 n1 n2 m2 al ah a_one is_a) in
+    let later_b = answer-later differ p2 n2 i bl bh b_one now.right_low now.right_high is_b in
+    let inputs : p2.n ≡ p.n = ap (λ (q : Signs). q.n) m.0 in
+    (omega (arith, inputs, deeper p2.n i (top p2.n n2 a_one) (top p2.n n2 b_one) now.below later_a.over later_b.over), (later_a.place, later_b.place))

@@ -19,7 +19,6 @@ use Rattle.davio_dd.specs.declared.node.Node.{Node}
 use Rattle.davio_dd.specs.Diagram.{place_value, place_terms, top, IsDiagram, IsPlace}
 use Rattle.davio_dd.proofs.Places.{entry-zero, entry-one, entry-node, value-zero, value-one, IsNodeAt}
 use Rattle.davio_dd.proofs.Canonical.{top-place, value-place, parts, each_place}
-use Rattle.davio_dd.proofs.Splits.{and_differ}
 use Rattle.davio_dd.proofs.Once.{IsOnce, once-one, once-append, exor_of-in_order}
 
 -- ---- terms by the parts
@@ -37,6 +36,10 @@ unfolding place_terms
 terms-place n nodes is at c = ap (place_terms nodes) c.place ∙ entry-node [] (empty ∷ []) _ nodes c.k c.node c.got (is.low c.k c.node c.got) (is.high c.k c.node c.got)
 
 -- ---- the value of the terms
+
+and_differ : (l a b : Bool) → (l && differ a b) ≡ differ (l && a) (l && b)
+and_differ true a b = refl
+and_differ false a b = refl
 
 value-with : (p : Signs) (i : ℕ) (ts : List Set) (x : Set) → value p (map (λ t. with t i) ts) x ≡ (literal p i x && value p ts x)
 value-with p i [] x = sym (and_right (literal p i x) false refl)

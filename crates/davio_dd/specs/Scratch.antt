@@ -1,11 +1,11 @@
 -- Words of private contracts alone.
-use Rattle.std.specs.Prelude.{◌≡◌, ◌≢◌, ◌==◌, ℕ, ◌+◌, ◌-◌, ◌<◌, ◌≤◌, ◌&&◌, if◌then◌else◌, ◌⊎◌, List, [], ◌∷◌, ◌++◌, slice_get, Some}
+use Rattle.std.specs.Prelude.{◌≡◌, ◌≢◌, ◌==◌, ℕ, ◌+◌, ◌-◌, ◌<◌, ◌≤◌, Bool, ◌&&◌, if◌then◌else◌, ◌⊎◌, List, [], ◌∷◌, ◌++◌, slice_get, Some}
 use Rattle.ae_base.specs.Mask.{Set, differ, first, both, xor}
 use Rattle.ae_base.specs.Cube.{Signs}
 use Rattle.ae_base.specs.Terms.{literal}
 use Rattle.fn_store.specs.Davio.{high}
 use Rattle.davio_dd.specs.declared.node.Node.{Node}
-use Rattle.davio_dd.specs.Diagram.{entry, place_value, top, IsPlace, IsAnswer, product}
+use Rattle.davio_dd.specs.Diagram.{entry, place_value, top, IsPlace}
 
 -- the node at a place, which stands behind its parts and tests one of n inputs
 pub record IsNode (n : ℕ) (nodes : List Node) (at : ℕ) (node : Node) : Type 0 where
@@ -46,20 +46,20 @@ pub record IsLater (n : ℕ) (nodes : List Node) (input at : ℕ) : Type 0 where
   pub place : IsPlace nodes at
   pub over : input < top n nodes at
 
--- the parts of two places by an input, and the product of the two low ones
-pub record IsHalf (p : Signs) (nodes : List Node) (input a_low a_high b_low b_high low : ℕ) : Type 0 where
-  pub below : input < p.n
-  pub left_low : IsLater p.n nodes input a_low
-  pub left_high : IsLater p.n nodes input a_high
-  pub right_low : IsLater p.n nodes input b_low
-  pub right_high : IsLater p.n nodes input b_high
-  pub is_low : IsAnswer product p nodes a_low b_low low
+-- the parts of two places by an input test later inputs alone
+pub record AreParts (n : ℕ) (nodes : List Node) (input a_low a_high b_low b_high : ℕ) : Type 0 where
+  pub below : input < n
+  pub left_low : IsLater n nodes input a_low
+  pub left_high : IsLater n nodes input a_high
+  pub right_low : IsLater n nodes input b_low
+  pub right_high : IsLater n nodes input b_high
 
--- the high part of the product of two places: the product with the literal at 0, EXOR the one with the literal at 1
-pub record IsHigh (p : Signs) (nodes : List Node) (input a_low a_high b_low b_high high : ℕ) : Type 0 where
+-- the high part of an operation on two places: where the literal is 0 it is the operation on the low parts, where it is 1 that on the EXORs
+-- of both parts, and the high part is the EXOR of the two
+pub record IsHigh (op : Bool → Bool → Bool) (p : Signs) (nodes : List Node) (input a_low a_high b_low b_high high : ℕ) : Type 0 where
   pub later : IsLater p.n nodes input high
-  pub is : (x : Set) → place_value p nodes high x ≡ differ (place_value p nodes a_low x && place_value p nodes b_low x)
-      (differ (place_value p nodes a_low x) (place_value p nodes a_high x) && differ (place_value p nodes b_low x) (place_value p nodes b_high x))
+  pub is : (x : Set) → place_value p nodes high x ≡ differ (op (place_value p nodes a_low x) (place_value p nodes b_low x))
+      (op (differ (place_value p nodes a_low x) (place_value p nodes a_high x)) (differ (place_value p nodes b_low x) (place_value p nodes b_high x)))
 
 -- the point at which every literal is 0
 unfoldable pub all_zero : Signs → Set

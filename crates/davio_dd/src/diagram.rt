@@ -21,7 +21,7 @@ pub struct Davio {
     nodes: IndexSet<Node>,
     sums: IndexMap<Question, usize>,
     products: IndexMap<Question, usize>,
-    ghost narrow: { polarity.n < WIDTH },
+    ghost narrow: { polarity.n ≤ WIDTH },
     ghost is_diagram: { IsDiagram polarity.n nodes.keys },
     ghost sums_right: { AllRight differ polarity nodes.keys (get ⟦<Question as PartialEq>⟧.eq sums) },
     ghost products_right: { AllRight product polarity nodes.keys (get ⟦<Question as PartialEq>⟧.eq products) },

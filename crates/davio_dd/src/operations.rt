@@ -2,7 +2,7 @@
 ghost use Rattle.std.specs.Prelude.{◌≡◌, IfOk};
 ghost use Rattle.ae_base.specs.Mask.{differ};
 ghost use Rattle.davio_dd.specs.Diagram.{IsPlace, IsAnswer, product};
-ghost use Rattle.davio_dd.specs.Scratch.{Grows, IsHalf, IsHigh};
+ghost use Rattle.davio_dd.specs.Scratch.{AreParts, Grows, IsHigh};
 
 use crate::diagram::{Davio, Split};
 use crate::node::Node;
@@ -78,10 +78,11 @@ impl Davio {
     /// is 1. Where only one of the two tests the input, it is the AND of that one's high part with the other.
     #[cycle(product)]
     fn product_high(&mut self, split: Split, low: usize) -> Result<usize, Memory>
-        requires { IsHalf self.old.polarity self.old.nodes.keys split.input split.a_low split.a_high split.b_low split.b_high low }
+        requires parts { AreParts self.old.polarity.n self.old.nodes.keys split.input split.a_low split.a_high split.b_low split.b_high }
+        requires low { IsAnswer product self.old.polarity self.old.nodes.keys split.a_low split.b_low low }
         ensures polarity { self.new.polarity ≡ self.old.polarity }
         ensures grows { Grows self.old.nodes.keys self.new.nodes.keys }
-        ensures high { IfOk result (IsHigh self.new.polarity self.new.nodes.keys split.input split.a_low split.a_high split.b_low split.b_high) }
+        ensures high { IfOk result (IsHigh product self.new.polarity self.new.nodes.keys split.input split.a_low split.a_high split.b_low split.b_high) }
     {
         if split.b_high == 0 {
             return self.product(split.a_high, split.b_low);

@@ -5,7 +5,7 @@ use Rattle.std.proofs.lemmas.List.Concat.{flat_map-append}
 use Rattle.std.proofs.lemmas.List.FromFn.{map-range_with_len_more}
 use Rattle.ae_base.specs.Text.{text_of, spaced}
 use Rattle.ae_base.proofs.Written.{pushed}
-use Rattle.polarity.specs.Proposals.{after_draws, drawn, stepped}
+use Rattle.polarity.specs.Draws.{after_draws, drawn, stepped}
 use Rattle.demo_source.specs.Demo.{draw, characters, input_char, output_char, demo_row}
 use Rattle.demo_source.specs.Rows.{row_from}
 

@@ -9,32 +9,31 @@ use Rattle.ae_base.specs.Text.{text_of}
 use Rattle.ae_base.proofs.Distinct.{each_always, each-map}
 use Rattle.ae_cover.specs.Cover.{Table, source_of}
 use Rattle.ae_cover.specs.declared.cover.TheConstants.{PLA_ROWS}
-use Rattle.ae_lex.specs.Words.{word_lines, IsPlainLine, numbered}
+use Rattle.ae_lex.specs.Words.{word_lines}
+use Rattle.ae_lex.specs.Written.{IsPlainLine, numbered}
 use Rattle.ae_lex.specs.declared.text.Style.TheVariants.{Pla}
 use Rattle.expansion.specs.Functions.{AreExpansions}
 use Rattle.expansion.specs.Terms.{Terms, cost}
 use Rattle.fn_store.specs.Davio.{IsExpansion}
-use Rattle.pla_read.specs.Words.{share, value, is_number}
-use Rattle.pla_read.specs.Pla.{default_names, pla_says, table_of}
+use Rattle.ae_base.specs.Twins.{share}
+use Rattle.pla_read.specs.Pla.{default_names, pla_says}
 use Rattle.pla_read.specs.declared.fault.PlaFault.{PlaFault}
-use Rattle.vec_text.specs.declared.file.Form.{Form}
-use Rattle.vec_text.specs.declared.file.Form.TheVariants.{Reddy, Factored}
+use Rattle.ae_base.specs.declared.form.Form.{Form}
+use Rattle.ae_base.specs.declared.form.Form.TheVariants.{Reddy, Factored}
 use Rattle.demo_source.specs.Demo.{demo_inputs, demo_outputs, demo_rows, demo_row, demo_text}
 use Rattle.demo_source.specs.Says.{SaysCover, most_terms}
-use Rattle.demo_source.proofs.Lines.{IsNumber, IsRowLine, front_says, row_line, seen_of}
+use Rattle.demo_source.proofs.Lines.{IsNumber, IsRowLine, front_says, row_line, cover}
 use Rattle.demo_source.proofs.Lengths.{length-text}
 use Rattle.demo_source.proofs.Terms.{few_terms}
 
 -- ---- the sizes
 
 inputs_number : (form : Form) → IsNumber (demo_inputs form)
-unfolding value is_number digits
-inputs_number Reddy = record { some = lit< tt; says = refl; number = refl; few = refl; plain = refl }
-inputs_number Factored = record { some = lit< tt; says = refl; number = refl; few = refl; plain = refl }
+inputs_number Reddy = record { some = lit< tt; few = lit≤ tt }
+inputs_number Factored = record { some = lit< tt; few = lit≤ tt }
 
 outputs_number : IsNumber demo_outputs
-unfolding value is_number digits
-outputs_number = record { some = lit< tt; says = refl; number = refl; few = refl; plain = refl }
+outputs_number = record { some = lit< tt; few = lit≤ tt }
 
 few_rows : (form : Form) → demo_rows form ≤ PLA_ROWS
 few_rows Reddy = lit≤ tt
@@ -44,14 +43,9 @@ names_apart : (form : Form) → share (default_names 120 (demo_inputs form)) (de
 names_apart Reddy = refl
 names_apart Factored = refl
 
-input_names : (form : Form) (rows : List (List (List ℕ))) → length (table_of (seen_of (demo_inputs form) demo_outputs rows)).inputs ≡ demo_inputs form
-unfolding table_of
-input_names Reddy rows = refl
-input_names Factored rows = refl
-
-output_names : (n : ℕ) (rows : List (List (List ℕ))) → length (table_of (seen_of n demo_outputs rows)).outputs ≡ demo_outputs
-unfolding table_of
-output_names n rows = refl
+input_names : (form : Form) → length (default_names 120 (demo_inputs form)) ≡ demo_inputs form
+input_names Reddy = refl
+input_names Factored = refl
 
 few_bytes : (form : Form) → length (decimal (demo_inputs form)) + length (decimal demo_outputs) + demo_rows form * (demo_inputs form + demo_outputs + 2) + 11 < 2000
 unfolding digits
@@ -79,10 +73,10 @@ says_cover written seed form =
     let b = outputs_number in
     let count : length rows ≡ demo_rows form = length-map-range_with_len (demo_row n m (seed % 2 ^ 31)) 0 (demo_rows form) in
     record {
-      table = table_of (seen_of n m rows);
+      table = cover n m rows;
       says = front_says n m rows written a b (names_apart form) (each_row n m (seed % 2 ^ 31) (range_with_len 0 (demo_rows form)) a.some b.some) (omega (arith, count, few_rows form));
-      inputs = input_names form rows;
-      outputs = output_names n rows;
+      inputs = input_names form;
+      outputs = refl;
     }
 
 -- and it is short

@@ -3,7 +3,7 @@ use Rattle.std.proofs.Common.{◌≡◌, ℕ, ◌%◌, ◌^◌, List, [], ◌∷
 use Rattle.std.specs.List.{range_with_len}
 use Rattle.std.specs.Fmt.{decimal}
 use Rattle.ae_base.specs.Text.{text_of}
-use Rattle.vec_text.specs.declared.file.Form.{Form}
+use Rattle.ae_base.specs.declared.form.Form.{Form}
 use Rattle.demo_source.specs.Demo.{demo_inputs, demo_outputs, demo_rows, demo_row, demo_text}
 use Rattle.demo_source.proofs.Draws.{lines_more}
 

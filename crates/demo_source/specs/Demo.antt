@@ -2,23 +2,21 @@
 use Rattle.std.specs.Prelude.{ℕ, suc, ◌+◌, ◌*◌, ◌%◌, ◌^◌, ◌==◌, if◌then◌else◌, List, [], ◌∷◌, ◌++◌, map, codes}
 use Rattle.std.specs.List.{range_with_len}
 use Rattle.std.specs.Fmt.{decimal}
+use Rattle.ae_base.specs.Form.{features_of}
 use Rattle.ae_base.specs.Text.{text_of}
-use Rattle.polarity.specs.Proposals.{after_draws, drawn}
-use Rattle.vec_text.specs.declared.file.Form.{Form}
-use Rattle.vec_text.specs.declared.file.Form.TheVariants.{Reddy, Factored}
+use Rattle.polarity.specs.Draws.{after_draws, drawn}
+use Rattle.ae_base.specs.declared.form.Form.{Form}
 
 -- ---- sizes
 
 abbrev pub demo_inputs : Form → ℕ
-demo_inputs Reddy = 9
-demo_inputs Factored = 7
+demo_inputs form = if (features_of form).cubes then 7 else 9
 
 abbrev pub demo_outputs : ℕ
 demo_outputs = 8
 
 abbrev pub demo_rows : Form → ℕ
-demo_rows Reddy = 64
-demo_rows Factored = 24
+demo_rows form = if (features_of form).cubes then 24 else 64
 
 -- ---- characters
 

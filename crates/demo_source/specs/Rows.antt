@@ -1,6 +1,6 @@
 -- For private contracts alone: rows by the state that they begin at.
 use Rattle.std.specs.Prelude.{ℕ, List, [], ◌∷◌}
-use Rattle.polarity.specs.Proposals.{after_draws}
+use Rattle.polarity.specs.Draws.{after_draws}
 use Rattle.demo_source.specs.Demo.{characters, input_char, output_char}
 
 -- the row of n inputs and m outputs that is drawn from a state on

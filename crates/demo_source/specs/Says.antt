@@ -2,7 +2,7 @@
 use Rattle.std.specs.Prelude.{◌≡◌, ℕ, ◌*◌, ◌^◌, Ok, length}
 use Rattle.ae_cover.specs.Cover.{Table}
 use Rattle.pla_read.specs.Pla.{pla_says}
-use Rattle.vec_text.specs.declared.file.Form.{Form}
+use Rattle.ae_base.specs.declared.form.Form.{Form}
 use Rattle.demo_source.specs.Demo.{demo_inputs, demo_outputs, demo_text}
 
 -- The text says a cover of as many inputs and outputs as the form has.

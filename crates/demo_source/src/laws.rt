@@ -5,7 +5,7 @@ ghost use Rattle.ae_cover.specs.Cover.{Table, source_of};
 ghost use Rattle.expansion.specs.Functions.{AreExpansions};
 ghost use Rattle.expansion.specs.Terms.{Terms, PassesAt, cost};
 ghost use Rattle.pla_read.specs.Pla.{pla_says};
-ghost use Rattle.vec_text.specs.declared.file.Form.{Form};
+ghost use Rattle.ae_base.specs.declared.form.Form.{Form};
 ghost use Rattle.demo_source.specs.Demo.{demo_text};
 ghost use Rattle.demo_source.specs.Says.{SaysCover, most_terms};
 

@@ -2,7 +2,7 @@
 ghost use Rattle.std.specs.Prelude.{◌≡◌, ◌+◌, ◌*◌, ◌++◌, ◌∷◌, [], map, OnOk};
 ghost use Rattle.std.specs.List.{range_with_len};
 ghost use Rattle.ae_base.specs.Text.{text_of};
-ghost use Rattle.polarity.specs.Proposals.{after_draws};
+ghost use Rattle.polarity.specs.Draws.{after_draws};
 ghost use Rattle.demo_source.specs.Demo as spec;
 ghost use Rattle.demo_source.specs.Rows.{row_from};
 

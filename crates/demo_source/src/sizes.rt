@@ -2,7 +2,7 @@
 ghost use Rattle.std.specs.Prelude.{◌≡◌};
 ghost use Rattle.demo_source.specs.Demo as spec;
 
-use vec_text::Form;
+use ae_base::Form;
 
 /// How many inputs, outputs and rows a demo has.
 #[derive(Clone, Copy, Debug)]
@@ -12,13 +12,15 @@ pub struct Sizes {
     pub rows: u32,
 }
 
-const REDDY: Sizes = Sizes {
+/// That of a form without cubes.
+const LARGE: Sizes = Sizes {
     inputs: 9,
     outputs: 8,
     rows: 64,
 };
 
-const FACTORED: Sizes = Sizes {
+/// That of a form with cubes, of fewer terms.
+const SMALL: Sizes = Sizes {
     inputs: 7,
     outputs: 8,
     rows: 24,
@@ -29,8 +31,5 @@ pub fn sizes_of(form: Form) -> Sizes
     ensures outputs { result.outputs ≡ spec.demo_outputs }
     ensures rows { result.rows ≡ spec.demo_rows form }
 {
-    match form {
-        Form::Reddy => REDDY,
-        Form::Factored => FACTORED,
-    }
+    if form.features().cubes { SMALL } else { LARGE }
 }

@@ -6,10 +6,9 @@ ghost use Rattle.demo_source.specs.Demo as spec;
 
 use crate::rows::push_rows;
 use crate::sizes::sizes_of;
-use ae_base::{Memory, push_word};
+use ae_base::{Form, Memory, push_word};
 use polarity::Generator;
 use std::alloc::Global;
-use vec_text::Form;
 
 /// Writes a line of a header and a number.
 fn push_header(alloc: Global, out: &mut Vec<u8>, header: &[u8], number: u32) -> Result<(), Memory>

@@ -16,8 +16,10 @@ use Rattle.ae_base.proofs.Literals.{product-literals, literals-product}
 use Rattle.ae_base.proofs.Products.{holds-has, has-holds}
 use Rattle.ae_base.proofs.Sets.{has-both, has-xor, has-inside, inside-has, inside-above, inside-from}
 use Rattle.ae_base.proofs.Truth.{same_truth}
-use Rattle.expansion.specs.Terms.{Terms, IsTerms}
-use Rattle.esop.specs.Esop.{Cubes, IsCubes, HasSameValue, HasValueOf, esop_value, cube_of, esop_of}
+use Rattle.expansion.specs.Terms.{Terms}
+use Rattle.expansion.specs.Kept.{IsTerms}
+use Rattle.esop.specs.Esop.{Cubes, HasValueOf, esop_value, cube_of, esop_of}
+use Rattle.esop.specs.Kept.{IsCubes, HasSameValue}
 use Rattle.esop.specs.Order.{in_order}
 use Rattle.esop.specs.Rewriting.{rewritten, rewritten_lists}
 use Rattle.esop.specs.Search.{IsOrdered}

@@ -13,6 +13,7 @@ use Rattle.ae_base.specs.Cube.{Product}
 use Rattle.ae_base.specs.Text.{cmp_text}
 use Rattle.ae_base.proofs.Texts.{cmp_text_total}
 use Rattle.esop.specs.Order.{placed, in_order}
+use Rattle.ae_base.proofs.Truth.{or-front}
 
 -- the test by which a cube is placed
 abbrev pub precedes : Product → Product → Bool
@@ -26,18 +27,12 @@ length-placed c (d ∷ ds) = by (precedes c d) (length-placed c ds)
     by true h = ap suc h
     by false h = refl
 
-or_past : (a b c : Bool) → (b || (a || c)) ≡ (a || (b || c))
-or_past true true c = refl
-or_past true false c = refl
-or_past false true c = refl
-or_past false false c = refl
-
 pub any-placed : (q : Product → Bool) (c : Product) (ds : List Product) → list_any q (placed c ds) ≡ (q c || list_any q ds)
 any-placed q c [] = refl
 any-placed q c (d ∷ ds) = by (precedes c d) (any-placed q c ds)
   where
     by : (b : Bool) → list_any q (placed c ds) ≡ (q c || list_any q ds) → list_any q (cond b (d ∷ placed c ds) (c ∷ d ∷ ds)) ≡ (q c || (q d || list_any q ds))
-    by true h = ap (λ b. q d || b) h ∙ or_past (q c) (q d) (list_any q ds)
+    by true h = ap (λ b. q d || b) h ∙ or-front (q d) (q c) (list_any q ds)
     by false h = refl
 
 pub each_placed : (P : Product → Type 0) (c : Product) (ds : List Product) → P c → AllByRecursion P ds → AllByRecursion P (placed c ds)

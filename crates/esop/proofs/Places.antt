@@ -6,7 +6,8 @@ use Rattle.std.specs.Option.{option_or}
 use Rattle.std.proofs.lemmas.Bool.{cases_eq}
 use Rattle.std.proofs.lemmas.List.Folds.{find-append}
 use Rattle.std.proofs.lemmas.Option.{none-some}
-use Rattle.esop.specs.Rewriting.{IsFirstPair, pairs}
+use Rattle.esop.specs.Rewriting.{pairs}
+use Rattle.esop.specs.Search.{IsFirstPair}
 
 -- ---- the first number of a range
 

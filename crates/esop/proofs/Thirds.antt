@@ -8,7 +8,7 @@ use Rattle.ae_base.specs.Cube.{Product, IsProduct, IsOver, EachHolds, holds, dis
 use Rattle.ae_base.proofs.Members.{least-first, members-has, members-increasing, len-members, len-none, len-zero}
 use Rattle.ae_base.proofs.Products.{holds-has, has-holds}
 use Rattle.ae_base.proofs.Sets.{same_set, has-with, has-without, has-either, has-xor, has-inside, inside-has, inside-below, has-first}
-use Rattle.ae_base.proofs.Truth.{same_truth, differ-flip, differ-same, and-differ, equal_values, differ_true_else}
+use Rattle.ae_base.proofs.Truth.{same_truth, differ-flip, differ-same, and-differ, equal_values, differ_true_else, and-over_differ}
 use Rattle.esop.specs.Links.{apart, with_third, merge, Link, link, links, links_at}
 
 -- ---- literals as two tests: whether the literal is plain, and whether it is complemented
@@ -231,13 +231,9 @@ cancel false true false = refl
 cancel false false true = refl
 cancel false false false = refl
 
-and_over : (a b c : Bool) → (a && differ b c) ≡ differ (a && b) (a && c)
-and_over true b c = refl
-and_over false b c = refl
-
 link_xor : (a b a' b' r : Bool) → differ (differ a b && (a' && r)) (b && (differ b' a' && r)) ≡ differ (a && (a' && r)) (b && (b' && r))
 link_xor a b a' b' r =
-    ap₂ differ (and-differ a b (a' && r)) (ap (λ y. b && y) (and-differ b' a' r) ∙ and_over b (b' && r) (a' && r)) ∙ cancel (a && (a' && r)) (b && (a' && r)) (b && (b' && r))
+    ap₂ differ (and-differ a b (a' && r)) (ap (λ y. b && y) (and-differ b' a' r) ∙ and-over_differ b (b' && r) (a' && r)) ∙ cancel (a && (a' && r)) (b && (a' && r)) (b && (b' && r))
 
 -- the EXOR of a link is that of its cubes
 module _ (c d : Product) (p q : ℕ) (x : Set) (hc : IsProduct c) (hd : IsProduct d) (ne : p ≢ q) (ep : has (apart c d) p ≡ true) (eq : has (apart c d) q ≡ true)

@@ -11,13 +11,7 @@ use Rattle.esop.specs.Esop.{esop_value}
 use Rattle.esop.specs.Order.{placed, in_order}
 use Rattle.esop.specs.Settled.{cube_at, others}
 use Rattle.esop.proofs.Placed.{precedes}
-
-odd-suc : (n : ℕ) → eqb ((1 + n) % 2) 1 ≡ not (eqb (n % 2) 1)
-odd-suc n =
-    elim (cases_eq (n % 2) 1) [
-      | inl odd ↦ ne_eqb ((1 + n) % 2) 1 (λ again. absurd (omega (arith, odd, again))) ∙ ap not (sym (eq-eqb (n % 2) 1 odd))
-      | inr even ↦ eq-eqb ((1 + n) % 2) 1 (omega (arith, even)) ∙ ap not (sym (ne_eqb (n % 2) 1 even))
-    ]
+use Rattle.ae_base.proofs.Exor.{odd-suc}
 
 pub value-none : (x : Set) → esop_value [] x ≡ false
 unfolding esop_value

@@ -1,12 +1,9 @@
 -- Exclusive sums of products (ESOPs) as contracts see them: lists of cubes, which mean their EXOR (Sasao, "Switching Theory for Logic
 -- Synthesis").
-use Rattle.std.specs.Prelude.{◌≡◌, ◌==◌, ◌%◌, ◌≤◌, ℕ, Bool, List, All, count_by, map}
-use Rattle.std.specs.List.Sorted.{IsSorted}
-use Rattle.ae_base.specs.declared.limits.TheConstants.{NET_LINES}
-use Rattle.ae_base.specs.Cube.{Product, Signs, IsOver, holds}
+use Rattle.std.specs.Prelude.{◌≡◌, ◌==◌, ◌%◌, ℕ, Bool, List, count_by, map}
+use Rattle.ae_base.specs.Cube.{Product, Signs, holds}
 use Rattle.ae_base.specs.Mask.{Set, both, xor}
 use Rattle.ae_base.specs.Terms.{value}
-use Rattle.ae_base.specs.Text.{cmp_text}
 use Rattle.expansion.specs.Terms.{Terms}
 use Rattle.esop.specs.Order.{in_order}
 
@@ -15,20 +12,9 @@ pub record Cubes : Type 0 where
   pub n : ℕ
   pub outs : List (List Product)
 
--- The cubes have literals of the inputs below n alone, and each list is in the order of the cubes' texts; equal cubes may follow each
--- other.
-pub record IsCubes (e : Cubes) : Type 0 where
-  pub inputs : e.n ≤ NET_LINES
-  pub below : All (All (IsOver e.n)) e.outs
-  pub order : All (IsSorted cmp_text) e.outs
-
 -- the value of a list of cubes at a point: 1 exactly where an odd number of them holds there
 unfoldable pub esop_value : List Product → Set → Bool
 esop_value cs x = count_by (λ c. holds c x) cs % 2 == 1
-
--- the second list means the function of the first
-abbrev pub HasSameValue : List Product → List Product → Type 0
-HasSameValue cs ds = (x : Set) → esop_value ds x ≡ esop_value cs x
 
 -- the cubes mean what the terms mean
 abbrev pub HasValueOf : Signs → List Set → List Product → Type 0

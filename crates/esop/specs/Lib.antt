@@ -1,4 +1,5 @@
 pub mod Esop
+pub mod Kept
 pub mod Links
 pub mod Order
 pub mod Rewriting

@@ -1,6 +1,6 @@
 -- Rewriting a list of cubes: pairs of near cubes are merged and linked until the list is settled. The order of the steps is this project's
 -- own. Example: ---, 000 and 10- are rewritten to -1- and 001, by the useful link -1-, 00- of the first and the third, and a merge.
-use Rattle.std.specs.Prelude.{◌≡◌, ◌<◌, ◌⊎◌, ℕ, true, false, zero, suc, ◌-◌, ◌*◌, ◌==◌, nat_lt, Bool, ◌||◌, List, length, map, find, flat_map, Option, is_some, unwrap_or, option_map, option_and_then}
+use Rattle.std.specs.Prelude.{ℕ, zero, suc, ◌-◌, ◌*◌, ◌==◌, nat_lt, Bool, ◌||◌, List, length, map, find, flat_map, Option, is_some, unwrap_or, option_map, option_and_then}
 use Rattle.std.specs.List.{list_any, range_with_len}
 use Rattle.std.specs.Option.{option_or}
 use Rattle.ae_base.specs.Cube.{Product, distance}
@@ -12,13 +12,6 @@ use Rattle.esop.specs.Settled.{cube_at, others}
 -- the pairs of places below n, the lower place first, in lexicographic order
 abbrev pub pairs : ℕ → List (ℕ × ℕ)
 pairs n = flat_map (λ i. map (λ j. (i, j)) (range_with_len (suc i) (n - suc i))) (range_with_len 0 n)
-
--- The pair passes the test, and no pair before it in lexicographic order does. The law of pairs: this is what is found first in `pairs`.
-pub record IsFirstPair (test : ℕ × ℕ → Bool) (n : ℕ) (p : ℕ × ℕ) : Type 0 where
-  pub order : p.0 < p.1
-  pub within : p.1 < n
-  pub passes : test p ≡ true
-  pub before : (i j : ℕ) → i < j → j < n → (i < p.0) ⊎ ((i ≡ p.0) × (j < p.1)) → test (i, j) ≡ false
 
 -- the first pair of places whose cubes have this distance
 abbrev pub first_at : ℕ → List Product → Option (ℕ × ℕ)

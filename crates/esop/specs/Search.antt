@@ -1,5 +1,5 @@
 -- Words of private contracts alone: the search for the first pair that a step takes.
-use Rattle.std.specs.Prelude.{◌≡◌, ℕ, suc, ◌-◌, ◌==◌, Bool, List, length, find, Option, is_some, unwrap_or, All}
+use Rattle.std.specs.Prelude.{◌≡◌, ◌<◌, ◌⊎◌, ℕ, suc, true, false, ◌-◌, ◌==◌, Bool, List, length, find, Option, is_some, unwrap_or, All}
 use Rattle.std.specs.List.{range_with_len}
 use Rattle.std.specs.List.Sorted.{IsSorted}
 use Rattle.ae_base.specs.declared.limits.TheConstants.{WIDTH}
@@ -31,3 +31,10 @@ first_pair s cs = find (is_sought s cs) (pairs (length cs))
 -- Whether a step applied, and the list after it: what the step gives, or the list before.
 abbrev pub IsTaken : Option (List Product) → List Product → List Product → Bool → Type 0
 IsTaken next before after applied = (applied ≡ is_some next) × (after ≡ unwrap_or next before)
+
+-- The pair passes the test, and no pair before it in lexicographic order does. The law of pairs: this is what is found first in `pairs`.
+pub record IsFirstPair (test : ℕ × ℕ → Bool) (n : ℕ) (p : ℕ × ℕ) : Type 0 where
+  pub order : p.0 < p.1
+  pub within : p.1 < n
+  pub passes : test p ≡ true
+  pub before : (i j : ℕ) → i < j → j < n → (i < p.0) ⊎ ((i ≡ p.0) × (j < p.1)) → test (i, j) ≡ false

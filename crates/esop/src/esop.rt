@@ -16,7 +16,8 @@ pub struct Esop {
 }
 
 impl Model for Esop {
-    ghost use Rattle.esop.specs.Esop.{Cubes, IsCubes};
+    ghost use Rattle.esop.specs.Esop.{Cubes};
+    ghost use Rattle.esop.specs.Kept.{IsCubes};
 
     ghost Value = { Cubes };
 
@@ -26,7 +27,7 @@ impl Model for Esop {
 }
 
 impl Esop {
-    ghost use Rattle.esop.specs.Esop.{IsCubes};
+    ghost use Rattle.esop.specs.Kept.{IsCubes};
 
     /// The lists of cubes, one for each output.
     pub fn lists(&self) -> &[Seq<Cube>]

@@ -4,11 +4,14 @@ ghost use Rattle.std.specs.List.Sorted.{IsPermutation, IsSorted};
 ghost use Rattle.ae_base.specs.Cube.{Product, IsOver, IsProduct, distance, holds};
 ghost use Rattle.ae_base.specs.Mask.{Set, differ};
 ghost use Rattle.ae_base.specs.Text.{cmp_text};
-ghost use Rattle.expansion.specs.Terms.{Terms, IsTerms};
-ghost use Rattle.esop.specs.Esop.{IsCubes, HasSameValue, esop_of, esop_value};
+ghost use Rattle.expansion.specs.Terms.{Terms};
+ghost use Rattle.expansion.specs.Kept.{IsTerms};
+ghost use Rattle.esop.specs.Esop.{esop_of, esop_value};
+ghost use Rattle.esop.specs.Kept.{IsCubes, HasSameValue};
 ghost use Rattle.esop.specs.Links.{links, merge};
 ghost use Rattle.esop.specs.Order.{in_order};
-ghost use Rattle.esop.specs.Rewriting.{IsFirstPair, next_list, pairs, rewrite_step, rewritten};
+ghost use Rattle.esop.specs.Rewriting.{next_list, pairs, rewrite_step, rewritten};
+ghost use Rattle.esop.specs.Search.{IsFirstPair};
 ghost use Rattle.esop.specs.Settled.{IsSettled};
 
 /// The value of a list is the EXOR of its cubes: 0 where there is none, and one more cube changes it where that cube holds. A list that is

@@ -45,6 +45,6 @@ pub fn merge(first: Cube, second: Cube) -> Cube
 {
     match apart(first, second).least() {
         Some(j) => with_third(first, second, j),
-        None => first, // not reached: they differ
+        None => unreachable!(), // they differ
     }
 }

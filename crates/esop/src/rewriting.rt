@@ -1,7 +1,7 @@
 //! Rewriting: the steps are taken until the lists are settled.
 ghost use Rattle.std.specs.Prelude.{◌≡◌, ◌≤◌, IfOk, length};
 ghost use Rattle.std.specs.List.{AllZip};
-ghost use Rattle.esop.specs.Esop.{HasSameValue};
+ghost use Rattle.esop.specs.Kept.{HasSameValue};
 ghost use Rattle.esop.specs.Rewriting.{rewritten, rewritten_lists};
 ghost use Rattle.esop.specs.Search.{IsOrdered};
 ghost use Rattle.esop.specs.Settled.{AreSettled};

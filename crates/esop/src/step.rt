@@ -66,7 +66,7 @@ fn link_first(cubes: &mut Vec<Cube>) -> Result<bool, Memory>
         return Ok(false);
     };
     let Some(link) = useful_link(cubes.as_slice(), first, second) else {
-        return Ok(false); // not reached: such pairs were sought
+        unreachable!() // such pairs were sought
     };
     cubes.remove(second);
     cubes.remove(first);

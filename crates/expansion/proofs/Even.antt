@@ -1,31 +1,32 @@
--- Even by a flip is even by a count.
+-- Even by a flip of the source is even by a flip of its expansions, and by a count.
 use Rattle.std.proofs.Common.{◌≡◌, ◌<◌, ◌≤◌, ◌%◌, ℕ, Bool, true, false, not, ◌&&◌, ◌||◌, cond, inl, inr, List, [], ◌∷◌, length, get_or, refl, sym, ap, ap₂, ◌∙◌, arith, eqb, eq-eqb, ne_eqb, ltb}
-use Rattle.std.specs.Prelude.{◌↔◌, Some, count_by, slice_get}
-use Rattle.std.specs.List.{AllByRecursion}
-use Rattle.std.proofs.lemmas.Bool.{and_parts, and_from, cases_Bool, false≢true, ltb-true, lt-ltb, le-ltb, not-true}
+use Rattle.std.specs.Prelude.{◌↔◌, All, Some, count_by, slice_get}
+use Rattle.std.specs.List.{AllByRecursion, list_any}
+use Rattle.std.proofs.lemmas.Bool.{and_parts, and_from, cases_Bool, false≢true, lt-ltb, le-ltb, not-true}
 use Rattle.std.proofs.lemmas.List.Elements.{recursion_from_All}
 use Rattle.std.proofs.lemmas.Option.{slice_get-get_or, slice_get_within}
-use Rattle.std.proofs.Math.Bool.{and_assoc}
 use Rattle.std.proofs.lemmas.Map.Keys.{any_passes_from_place}
-use Rattle.ae_base.specs.Mask.{Set, differ, has, empty, with, first, inside}
+use Rattle.std.proofs.Math.Bool.{and_assoc}
+use Rattle.ae_base.specs.Mask.{Set, differ, has, first, inside}
 use Rattle.ae_base.specs.Cube.{Signs}
+use Rattle.ae_base.specs.Points.{flipped}
 use Rattle.ae_base.specs.Source.{Source, on_set, IsUsed}
 use Rattle.ae_base.specs.Terms.{IsPoint, literal, product, value}
-use Rattle.ae_base.proofs.Sets.{has-empty, has-with, has-xor, has-where_below, inside-below, inside-from}
-use Rattle.ae_base.proofs.Truth.{or-false}
+use Rattle.ae_base.proofs.Points.{has-flipped}
+use Rattle.ae_base.proofs.Sets.{has-where_below, inside-below, inside-from}
+use Rattle.ae_base.proofs.Truth.{differ-same, equal_values}
 use Rattle.ae_base.proofs.Exor.{exor_of_agree, odd_count, all_or_others}
 use Rattle.ae_base.proofs.Literals.{literals-product, product_false}
 use Rattle.ae_base.proofs.Elements.{Passing, any_found}
+use Rattle.ae_base.proofs.Distinct.{each_weaker}
 use Rattle.fn_store.specs.Davio.{IsExpansion}
-use Rattle.fn_store.proofs.Expansions.{terms_inside}
-use Rattle.expansion.specs.Even.{all_high, flipped, IsEven, is_odd, is_even, even_inputs}
+use Rattle.expansion.specs.Counts.{is_odd}
+use Rattle.expansion.specs.Even.{all_high, IsEven, is_turned, even_inputs}
 use Rattle.expansion.specs.Functions.{AreExpansions}
 use Rattle.expansion.specs.Terms.{Terms, is_used, used_inputs}
+use Rattle.expansion.specs.Kept.{IsTerms}
 
 -- ---- the two points
-
-pub has-flipped : (j : ℕ) (x : Set) (k : ℕ) → has (flipped j x) k ≡ differ (has x k) (eqb k j)
-has-flipped j x k = has-xor x (with empty j) k ∙ ap (differ (has x k)) (has-with empty j k ∙ ap (λ b. eqb k j || b) (has-empty k) ∙ or-false (eqb k j))
 
 has-all_high : (p : Signs) (k : ℕ) → k < p.n → has (all_high p) k ≡ has p.plain k
 has-all_high p k l = has-where_below p.n (has p.plain) k ∙ ap (λ b. b && has p.plain k) (lt-ltb k p.n l)
@@ -71,90 +72,106 @@ product-flipped p j t below =
 
 -- ---- the values of an expansion at the two points
 
-each : (f g : Set → Bool) (p : Signs) → ((t : Set) → inside t (first p.n) ≡ true → f t ≡ g t) → (ts : List Set) → AllByRecursion (λ t. inside t (first p.n) ≡ true) ts → AllByRecursion (λ t. f t ≡ g t) ts
-each f g p same [] h = tt
-each f g p same (t ∷ ts) (h, hs) = (same t h, each f g p same ts hs)
-
--- An expansion means its function.
-abbrev pub Means : Type 0
-Means = (p : Signs) (f : Set → Bool) (ts : List Set) → IsExpansion p f ts → (x : Set) → IsPoint p.n x → value p ts x ≡ f x
+-- the term is over the inputs
+abbrev Below : Signs → Set → Type 0
+Below p t = inside t (first p.n) ≡ true
 
 -- the flip turns the value where an odd number of terms hold the input
-pub turned_by : (means : Means) (p : Signs) (f : Set → Bool) (ts : List Set) (j : ℕ) → IsExpansion p f ts → j < p.n → f (all_high p) ≡ differ (f (flipped j (all_high p))) (eqb (count_by (λ t. has t j) ts % 2) 1)
-turned_by means p f ts j is l =
-    let below = recursion_from_All (λ t. inside t (first p.n) ≡ true) ts (terms_inside p f ts is) in
-    sym (means p f ts is (all_high p) (point-all_high p))
-    ∙ exor_of_agree (λ t. product p t (all_high p)) (λ t. true) ts (each _ _ p (λ t h. product-all_high p t h) ts below)
+turned_by : (p : Signs) (ts : List Set) (j : ℕ) → AllByRecursion (Below p) ts
+    → value p ts (all_high p) ≡ differ (value p ts (flipped j (all_high p))) (eqb (count_by (λ t. has t j) ts % 2) 1)
+turned_by p ts j below =
+    exor_of_agree (λ t. product p t (all_high p)) (λ t. true) ts (each_weaker _ _ (λ t h. product-all_high p t h) ts below)
     ∙ all_or_others j ts
     ∙ ap₂ differ
-    (sym (exor_of_agree (λ t. product p t (flipped j (all_high p))) (λ t. not (has t j)) ts (each _ _ p (λ t h. product-flipped p j t h) ts below)) ∙ means p f ts is (flipped j (all_high p)) (point-flipped p j l))
+    (sym (exor_of_agree (λ t. product p t (flipped j (all_high p))) (λ t. not (has t j)) ts (each_weaker _ _ (λ t h. product-flipped p j t h) ts below)))
     (odd_count (λ t. has t j) ts)
 
--- ---- even inputs
+-- ---- of expansions
 
-pub has-even : (e : Terms) (k : ℕ) → has (even_inputs e) k ≡ (ltb k e.polarity.n && is_even e k)
-unfolding even_inputs
-has-even e k = has-where_below e.polarity.n (is_even e) k
+even-turned : (e : Terms) (k : ℕ) → has (even_inputs e) k ≡ (has (used_inputs e) k && not (is_turned e k))
+unfolding even_inputs used_inputs
+even-turned e k =
+    has-where_below e.polarity.n (λ j. is_used e j && not (is_turned e j)) k
+    ∙ sym (and_assoc (ltb k e.polarity.n) (is_used e k) (not (is_turned e k)))
+    ∙ ap (λ b. b && not (is_turned e k)) (sym (has-where_below e.polarity.n (is_used e) k))
 
-pub has-used : (e : Terms) (k : ℕ) → has (used_inputs e) k ≡ (ltb k e.polarity.n && is_used e k)
-unfolding used_inputs
-has-used e k = has-where_below e.polarity.n (is_used e) k
+by_counts : (p : Signs) (j : ℕ) (tss : List (List Set)) → AllByRecursion (AllByRecursion (Below p)) tss
+    → list_any (λ ts. differ (value p ts (all_high p)) (value p ts (flipped j (all_high p)))) tss ≡ list_any (λ ts. eqb (count_by (λ t. has t j) ts % 2) 1) tss
+by_counts p j [] h = refl
+by_counts p j (ts ∷ tss) (h, hs) = ap₂ (λ a b. a || b) (third _ _ _ (turned_by p ts j h)) (by_counts p j tss hs)
+  where
+    third : (a b c : Bool) → a ≡ differ b c → differ a b ≡ c
+    third a b c e = ap (λ d. differ d b) e ∙ back b c
+      where
+        back : (b c : Bool) → differ (differ b c) b ≡ c
+        back true true = refl
+        back true false = refl
+        back false true = refl
+        back false false = refl
 
--- among the used inputs the even ones are those that no output holds an odd number of times
-pub even_used : (e : Terms) (k : ℕ) → has (even_inputs e) k ≡ (has (used_inputs e) k && not (is_odd e k))
-even_used e k = has-even e k ∙ sym (and_assoc (ltb k e.polarity.n) (is_used e k) (not (is_odd e k))) ∙ ap (λ b. b && not (is_odd e k)) (sym (has-used e k))
+-- the flip changes an output exactly where an expansion holds the input an odd number of times
+turned-odd : (e : Terms) → IsTerms e → (j : ℕ) → is_turned e j ≡ is_odd e j
+turned-odd e is j =
+    by_counts e.polarity j e.outs
+    (each_weaker (All (Below e.polarity)) (AllByRecursion (Below e.polarity)) (λ ts h. recursion_from_All (Below e.polarity) ts h) e.outs (recursion_from_All (All (Below e.polarity)) e.outs is.below))
 
-module _ (s : Source) (p : Signs) (e : Terms) (are : AreExpansions s p e) (means : Means) (inputs_of : e.polarity.n ≡ p.n) where
-  odd : ℕ → List Set → Bool
-  odd j ts = eqb (count_by (λ t. has t j) ts % 2) 1
+-- among the used inputs the even ones are those that no expansion holds an odd number of times
+pub even_counted : (e : Terms) → IsTerms e → (j : ℕ) → has (even_inputs e) j ≡ (has (used_inputs e) j && not (is_odd e j))
+even_counted e is j = even-turned e j ∙ ap (λ b. has (used_inputs e) j && not b) (turned-odd e is j)
 
-  kept_from : (a b c : Bool) → a ≡ differ b c → c ≡ false → b ≡ a
-  kept_from a true true h z = absurd (false≢true (sym z))
-  kept_from a true false h z = sym h
-  kept_from a false c h z = sym z ∙ sym h
+-- ---- of a source
 
-  turned_from : (a b c : Bool) → a ≡ differ b c → b ≡ a → c ≡ true → ⊥
-  turned_from a true true h k z = false≢true (sym h ∙ sym k)
-  turned_from a true false h k z = false≢true z
-  turned_from a false c h k z = false≢true (k ∙ h ∙ z)
+-- An expansion means its function.
+abbrev Means : Type 0
+Means = (p : Signs) (f : Set → Bool) (ts : List Set) → IsExpansion p f ts → (x : Set) → IsPoint p.n x → value p ts x ≡ f x
 
-  kept : (j : ℕ) → j < p.n → is_odd e j ≡ false → (o : ℕ) → o < length s.outputs → on_set s o (flipped j (all_high p)) ≡ on_set s o (all_high p)
-  unfolding odd
-  kept j l even o within =
+module _ (s : Source) (p : Signs) (e : Terms) (are : AreExpansions s p e) (means : Means) (polarity : e.polarity ≡ p) where
+  -- the values of an output and of its expansion are the same at both points
+  turns : ℕ → List Set → Bool
+  turns j ts = differ (value p ts (all_high p)) (value p ts (flipped j (all_high p)))
+
+  turns-is : (j : ℕ) → j < p.n → (o : ℕ) (ts : List Set) → slice_get e.outs o ≡ Some ts → turns j ts ≡ differ (on_set s o (all_high p)) (on_set s o (flipped j (all_high p)))
+  unfolding turns
+  turns-is j l o ts there =
+      let is : IsExpansion p (on_set s o) ts = are.each o ts there in
+      ap₂ differ (means p (on_set s o) ts is (all_high p) (point-all_high p)) (means p (on_set s o) ts is (flipped j (all_high p)) (point-flipped p j l))
+
+  turned-is : (j : ℕ) → is_turned e j ≡ list_any (turns j) e.outs
+  unfolding turns
+  turned-is j = ap (λ q. list_any (λ ts. differ (value q ts (all_high q)) (value q ts (flipped j (all_high q)))) e.outs) polarity
+
+  kept : (j : ℕ) → j < p.n → is_turned e j ≡ false → (o : ℕ) → o < length s.outputs → on_set s o (flipped j (all_high p)) ≡ on_set s o (all_high p)
+  kept j l none o within =
       let ts : List Set = get_or e.outs o [] in
       let there : slice_get e.outs o ≡ Some ts = slice_get-get_or e.outs o [] (omega (arith, are.outputs, within)) in
-      kept_from _ _ _ (turned_by means p (on_set s o) ts j (are.each o ts there) l)
-      (elim (cases_Bool (odd j ts)) [
-        | inl one ↦ absurd (false≢true (sym even ∙ any_passes_from_place (odd j) e.outs o ts there one))
+      sym (equal_values _ _ (sym (turns-is j l o ts there) ∙ elim (cases_Bool (turns j ts)) [
+        | inl one ↦ absurd (false≢true (sym none ∙ turned-is j ∙ any_passes_from_place (turns j) e.outs o ts there one))
         | inr none ↦ none
-      ])
+      ]))
 
-  not_odd : (j : ℕ) → j < p.n → ((o : ℕ) → o < length s.outputs → on_set s o (flipped j (all_high p)) ≡ on_set s o (all_high p)) → is_odd e j ≡ false
-  unfolding odd
-  not_odd j l same =
-      elim (cases_Bool (is_odd e j)) [
+  not_turned : (j : ℕ) → j < p.n → ((o : ℕ) → o < length s.outputs → on_set s o (flipped j (all_high p)) ≡ on_set s o (all_high p)) → is_turned e j ≡ false
+  not_turned j l same =
+      elim (cases_Bool (is_turned e j)) [
         | inl h ↦
-            let at : Passing (odd j) e.outs = any_found (odd j) e.outs h in
+            let at : Passing (turns j) e.outs = any_found (turns j) e.outs (sym (turned-is j) ∙ h) in
             let within : at.place < length s.outputs = omega (arith, are.outputs, slice_get_within e.outs at.place at.element at.there) in
-            absurd (turned_from _ _ _ (turned_by means p (on_set s at.place) at.element j (are.each at.place at.element at.there) l) (same at.place within) at.passes)
+            absurd (false≢true (
+            sym (differ-same (on_set s at.place (all_high p)))
+            ∙ ap (differ (on_set s at.place (all_high p))) (sym (same at.place within))
+            ∙ sym (turns-is j l at.place at.element at.there)
+            ∙ at.passes
+            ))
         | inr none ↦ none
       ]
-
-  below-even : (j : ℕ) → has (even_inputs e) j ≡ true → j < p.n
-  below-even j h =
-      let l : j < e.polarity.n = ltb-true j e.polarity.n (and_parts _ _ (sym (has-even e j) ∙ h)).0 in
-      omega (arith, inputs_of, l)
 
   pub are_even : ((j : ℕ) → (has (used_inputs e) j ≡ true) ↔ IsUsed s j) → (j : ℕ) → (has (even_inputs e) j ≡ true) ↔ IsEven s p j
   are_even used j = (forward, backward)
     where
       forward : has (even_inputs e) j ≡ true → IsEven s p j
       forward h =
-          let l : j < p.n = below-even j h in
-          let parts = and_parts _ _ (sym (even_used e j) ∙ h) in
-          record { used = (used j).0 parts.0; kept = kept j l (not-true _ parts.1) }
+          let parts = and_parts _ _ (sym (even-turned e j) ∙ h) in
+          let here : IsUsed s j = (used j).0 parts.0 in
+          record { used = here; kept = kept j (omega (arith, are.inputs, here.is_input)) (not-true _ parts.1) }
 
       backward : IsEven s p j → has (even_inputs e) j ≡ true
-      backward h =
-          let l : j < p.n = omega (arith, are.inputs, h.used.is_input) in
-          even_used e j ∙ and_from _ _ ((used j).1 h.used) (ap not (not_odd j l h.kept))
+      backward h = even-turned e j ∙ and_from _ _ ((used j).1 h.used) (ap not (not_turned j (omega (arith, are.inputs, h.used.is_input)) h.kept))

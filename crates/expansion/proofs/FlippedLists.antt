@@ -11,11 +11,11 @@ use Rattle.ae_base.specs.Cube.{Signs, IsSigns}
 use Rattle.ae_base.specs.Source.{on_set}
 use Rattle.ae_base.specs.Terms.{IsInOrder, value}
 use Rattle.ae_base.proofs.Truth.{differ-false}
+use Rattle.ae_base.proofs.Points.{has-flipped}
 use Rattle.fn_store.specs.Davio.{IsExpansion}
 use Rattle.expansion.specs.Flipped.{flipped_polarity}
-use Rattle.expansion.specs.Functions.{KeepsFunctions}
-use Rattle.expansion.specs.Terms.{Terms, IsTerms, cost}
-use Rattle.expansion.proofs.Even.{has-flipped}
+use Rattle.expansion.specs.Terms.{Terms, cost}
+use Rattle.expansion.specs.Kept.{IsTerms, KeepsFunctions}
 use Rattle.expansion.proofs.Flips.{Laws}
 
 flipped_signs : (p : Signs) (j : ℕ) → IsSigns p → j < p.n → IsSigns (flipped_polarity p j)

@@ -7,11 +7,11 @@ use Rattle.ae_base.specs.Mask.{Set, differ, has, first, inside, with, without}
 use Rattle.ae_base.specs.Cube.{Signs}
 use Rattle.ae_base.specs.Terms.{IsPoint, IsInOrder, literal, product, value}
 use Rattle.ae_base.proofs.Sets.{same_set, has-with}
-use Rattle.ae_base.proofs.Truth.{same_truth, differ-flip, differ-assoc, differ-same, differ-false, differ-swap}
+use Rattle.ae_base.proofs.Truth.{same_truth, differ-flip, differ-false, differ-swap, differ-back, differ-cancel}
 use Rattle.fn_store.specs.Davio.{IsExpansion}
 use Rattle.ae_base.proofs.Literals.{product-literals, literals-product, product-with}
+use Rattle.ae_base.proofs.Points.{has-flipped}
 use Rattle.expansion.specs.Flipped.{flipped_polarity}
-use Rattle.expansion.proofs.Even.{has-flipped}
 use Rattle.expansion.proofs.TakenOut.{taken, order-taken, inside-taken, without-other, without-itself}
 
 -- ---- literals and products at the two polarities
@@ -64,9 +64,6 @@ product-taken p j t x m =
     rest ∙ one_of (literal p j x) (product p (without t j) x)
     ∙ ap₂ differ (sym (product-held p j t x m)) (sym (product-held (flipped_polarity p j) j t x m ∙ ap₂ (λ a b. a && b) turns rest))
 
-cancelled : (a v w : Bool) → differ v w ≡ differ (differ a v) (differ a w)
-cancelled a v w = sym (differ-swap a v a w ∙ ap (λ b. differ b (differ v w)) (differ-same a))
-
 -- the values at the two polarities differ by that of the terms without the input
 value-taken : (p : Signs) (j : ℕ) (ts : List Set) (x : Set) → value (flipped_polarity p j) (taken j ts) x ≡ differ (value p ts x) (value (flipped_polarity p j) ts x)
 value-taken p j [] x = refl
@@ -78,7 +75,7 @@ value-taken p j (t ∷ ts) x = by (has t j) refl (value-taken p j ts x)
     by true m rest =
         ap₂ differ (product-taken p j t x m) rest ∙ differ-swap (product p t x) (product (flipped_polarity p j) t x) (value p ts x) (value (flipped_polarity p j) ts x)
     by false m rest =
-        rest ∙ cancelled (product p t x) (value p ts x) (value (flipped_polarity p j) ts x)
+        rest ∙ sym (differ-cancel (product p t x) (value p ts x) (value (flipped_polarity p j) ts x))
         ∙ ap (λ b. differ (differ (product p t x) (value p ts x)) (differ b (value (flipped_polarity p j) ts x))) (sym (product-other p j t x m))
 
 -- ---- the expansion
@@ -88,9 +85,6 @@ pub record Laws : Type 0 where
   pub below : (p : Signs) (f : Set → Bool) (ts : List Set) → IsExpansion p f ts → All (λ t. inside t (first p.n) ≡ true) ts
   pub meaning : (p : Signs) (f : Set → Bool) (ts : List Set) → IsExpansion p f ts → (x : Set) → IsPoint p.n x → value p ts x ≡ f x
   pub only : (p : Signs) (f : Set → Bool) (ts : List Set) → IsInOrder ts → All (λ t. inside t (first p.n) ≡ true) ts → ((x : Set) → IsPoint p.n x → value p ts x ≡ f x) → IsExpansion p f ts
-
-there_and_back : (a b : Bool) → differ b (differ a b) ≡ a
-there_and_back a b = ap (differ b) (differ-flip a b) ∙ sym (differ-assoc b b a) ∙ ap (λ c. differ c a) (differ-same b)
 
 -- the sum of the terms and of those without the input
 pub flipped-is : (laws : Laws) (p : Signs) (j : ℕ) (f : Set → Bool) (ts us : List Set)
@@ -105,4 +99,4 @@ flipped-is laws p j f ts us sum is =
     (λ x point. value-taken p j ts x ∙ ap (λ v. differ v (value q ts x)) (laws.meaning p f ts is x point)) in
     let all = sum q (value q ts) (λ x. differ (f x) (value q ts x)) own others in
     laws.only q f us all.order (laws.below q (λ x. differ (value q ts x) (differ (f x) (value q ts x))) us all)
-    (λ x point. laws.meaning q (λ x. differ (value q ts x) (differ (f x) (value q ts x))) us all x point ∙ there_and_back (f x) (value q ts x))
+    (λ x point. laws.meaning q (λ x. differ (value q ts x) (differ (f x) (value q ts x))) us all x point ∙ ap (differ (value q ts x)) (differ-flip (f x) (value q ts x)) ∙ differ-back (value q ts x) (f x))

@@ -16,7 +16,8 @@ use Rattle.fn_store.specs.Functions.{Functions, IsLive, Shows, AllShow}
 use Rattle.fn_store.specs.declared.store.FnRef.{FnRef}
 use Rattle.expansion.specs.Functions.{AreExpansions}
 use Rattle.expansion.specs.Stores.{expanded}
-use Rattle.expansion.specs.Terms.{IsTerms, PassesAt, cost}
+use Rattle.expansion.specs.Terms.{PassesAt, cost}
+use Rattle.expansion.specs.Kept.{IsTerms}
 use Rattle.expansion.specs.declared.limits.TheConstants.{LISTS}
 
 -- the lists of the first k references, and the number of terms that the limit leaves

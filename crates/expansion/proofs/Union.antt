@@ -8,7 +8,8 @@ use Rattle.std.proofs.Math.Bool.{or_assoc}
 use Rattle.ae_base.specs.Mask.{Set, has, either, inside, first, where_below}
 use Rattle.ae_base.proofs.Sets.{has-either, has-where_below, inside-below, same_set}
 use Rattle.ae_base.proofs.Elements.{Passing, any_found, All-get}
-use Rattle.expansion.specs.Terms.{Terms, IsTerms, is_used, used_inputs}
+use Rattle.expansion.specs.Terms.{Terms, is_used, used_inputs}
+use Rattle.expansion.specs.Kept.{IsTerms}
 
 -- one more term
 pub one_more_term : (ts : List Set) (i : ℕ) (t held now next : Set) → i < length ts → t ≡ get_or ts i t → next ≡ either now t → ((j : ℕ) → has now j ≡ (has held j || list_any (λ t. has t j) (take i ts)))

@@ -10,7 +10,8 @@ use Rattle.ae_base.specs.Cube.{Signs}
 use Rattle.ae_base.specs.Source.{Source, on_set, IsUsed}
 use Rattle.ae_base.proofs.Sets.{has-where_below}
 use Rattle.ae_base.proofs.Elements.{Passing, any_found}
-use Rattle.fn_store.specs.Davio.{DependsOn, IsExpansion}
+use Rattle.fn_store.specs.Davio.{IsExpansion}
+use Rattle.fn_store.specs.Uses.{DependsOn}
 use Rattle.expansion.specs.Functions.{AreExpansions}
 use Rattle.expansion.specs.Terms.{Terms, is_used, used_inputs}
 

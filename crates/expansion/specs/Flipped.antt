@@ -1,7 +1,7 @@
 -- Polarities that differ in one input.
 use Rattle.std.specs.Prelude.{ℕ}
 use Rattle.ae_base.specs.Cube.{Signs}
-use Rattle.expansion.specs.Even.{flipped}
+use Rattle.ae_base.specs.Points.{flipped}
 
 -- the polarity that differs in input j alone
 abbrev pub flipped_polarity : Signs → ℕ → Signs

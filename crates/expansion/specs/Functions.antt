@@ -12,7 +12,3 @@ pub record AreExpansions (s : Source) (p : Signs) (e : Terms) : Type 0 where
   pub polarity : e.polarity ≡ p
   pub outputs : length e.outs ≡ length s.outputs
   pub each : (o : ℕ) (ts : List Set) → slice_get e.outs o ≡ Some ts → IsExpansion p (on_set s o) ts
-
--- the functions whose expansions the first holds are those whose expansions the second holds, at its own polarity
-abbrev pub KeepsFunctions : Terms → Terms → Type 0
-KeepsFunctions before after = (s : Source) → AreExpansions s before.polarity before → AreExpansions s after.polarity after

@@ -1,10 +1,8 @@
 -- Expansions of the outputs at one polarity, as contracts see them (Sasao, "Switching Theory for Logic Synthesis").
-use Rattle.std.specs.Prelude.{◌≡◌, ℕ, suc, ◌<◌, ◌≤◌, Bool, true, List, length, take, All}
+use Rattle.std.specs.Prelude.{ℕ, suc, ◌<◌, ◌≤◌, Bool, List, length, take}
 use Rattle.std.specs.List.{list_any, sum_by}
-use Rattle.ae_base.specs.Mask.{Set, has, inside, first, where_below}
-use Rattle.ae_base.specs.Cube.{Signs, IsSigns}
-use Rattle.ae_base.specs.Terms.{IsInOrder}
-use Rattle.expansion.specs.declared.limits.TheConstants.{LISTS, TERMS}
+use Rattle.ae_base.specs.Mask.{Set, has, where_below}
+use Rattle.ae_base.specs.Cube.{Signs}
 
 -- for each output in order the terms whose products have the output as their EXOR, the literals being those of the polarity
 pub record Terms : Type 0 where
@@ -14,14 +12,6 @@ pub record Terms : Type 0 where
 -- the number of terms of all outputs
 abbrev pub cost : Terms → ℕ
 cost e = sum_by length e.outs
-
--- Each list is in term order without repeats, over the inputs, and there are few enough of them.
-pub record IsTerms (e : Terms) : Type 0 where
-  pub signs : IsSigns e.polarity
-  pub below : All (λ ts. All (λ t. inside t (first e.polarity.n) ≡ true) ts) e.outs
-  pub order : All IsInOrder e.outs
-  pub few_lists : length e.outs < LISTS
-  pub few_terms : cost e < TERMS
 
 -- The running sum of the lengths passes the limit at this list, and at none before it.
 pub record PassesAt (limit : ℕ) (lists : List (List Set)) (place : ℕ) : Type 0 where

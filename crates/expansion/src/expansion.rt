@@ -16,7 +16,8 @@ pub struct Expansion {
 }
 
 impl Model for Expansion {
-    ghost use Rattle.expansion.specs.Terms.{Terms, IsTerms};
+    ghost use Rattle.expansion.specs.Terms.{Terms};
+    ghost use Rattle.expansion.specs.Kept.{IsTerms};
 
     ghost Value = { Terms };
 
@@ -26,7 +27,7 @@ impl Model for Expansion {
 }
 
 impl Expansion {
-    ghost use Rattle.expansion.specs.Terms.{IsTerms};
+    ghost use Rattle.expansion.specs.Kept.{IsTerms};
 
     /// The lists of terms, one for each output.
     pub fn lists(&self) -> &[Seq<Term>]

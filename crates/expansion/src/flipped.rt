@@ -5,7 +5,7 @@ ghost use Rattle.ae_base.specs.Cube.{Signs};
 ghost use Rattle.ae_base.specs.declared.limits.TheConstants.{WIDTH};
 ghost use Rattle.fn_store.specs.Davio.{IsExpansion};
 ghost use Rattle.expansion.specs.Flipped.{flipped_polarity};
-ghost use Rattle.expansion.specs.Functions.{KeepsFunctions};
+ghost use Rattle.expansion.specs.Kept.{KeepsFunctions};
 ghost use Rattle.expansion.specs.Terms.{cost};
 
 use crate::expansion::Expansion;

@@ -1,5 +1,5 @@
 -- What the factored network shows at its ports.
-use Rattle.std.proofs.Common.{◌≡◌, ◌≢◌, ℕ, zero, suc, ◌+◌, ◌-◌, ◌<◌, Bool, true, false, not, ◌||◌, cond, inl, inr, List, [], ◌∷◌, ◌++◌, length, map, refl, sym, ap, ap₂, ◌∙◌, subst, arith, eqb, eq-eqb, ne_eqb, append-nil, length-append, add-zero}
+use Rattle.std.proofs.Common.{◌≡◌, ◌≢◌, ℕ, zero, suc, ◌+◌, ◌-◌, ◌<◌, Bool, true, false, not, cond, inl, inr, List, [], ◌∷◌, ◌++◌, length, map, refl, sym, ap, ◌∙◌, subst, arith, eqb, eq-eqb, ne_eqb, append-nil, length-append, add-zero}
 use Rattle.std.specs.Prelude.{Some, None, slice_get, slice_index, codes}
 use Rattle.std.specs.List.{list_any, AllByRecursion, position_or_len}
 use Rattle.std.specs.Fmt.{decimal}
@@ -7,28 +7,25 @@ use Rattle.std.proofs.lemmas.Bool.{cases_Bool, cases_eq, false≢true}
 use Rattle.std.proofs.lemmas.List.{nil_from_length}
 use Rattle.ae_base.specs.Mask.{Set, has}
 use Rattle.ae_base.specs.Cube.{Product}
-use Rattle.ae_base.proofs.Truth.{or-false}
-use Rattle.ae_base.proofs.Sets.{has-where_below}
+use Rattle.ae_base.proofs.EachAt.{EachAt, EachAt-split}
 use Rattle.ae_net.specs.declared.net.Gate.{Gate}
-use Rattle.ae_net.specs.Gates.{inverter}
 use Rattle.ae_net.specs.Names.{inner}
 use Rattle.ae_net.specs.Run.{table, value_of, ones_seen}
-use Rattle.ae_net.proofs.Follow.{EachGate, EachGate-append, Fits}
-use Rattle.ae_net.proofs.Rows.{plain_row}
-use Rattle.ae_net.proofs.Tables.{table-inverter, table-buffer, table-exor, table-and, all_see-none}
-use Rattle.factor.specs.declared.cells.Cell.{Cell}
-use Rattle.factor.specs.declared.cells.Cell.TheVariants.{Zero, One, Inverter, Buffer, And, Exor, Or}
-use Rattle.factor.specs.declared.cells.Factor.{Factor}
-use Rattle.factor.specs.declared.cells.Wires.{Wires}
-use Rattle.factor.specs.Cells.{Part, Parts, gate_of, literal_signal, literal_signals, product_of, before, chain_of, closing, turned_by, parts, sum_part, output_cells}
+use Rattle.ae_net.specs.Follows.{Fits}
+use Rattle.ae_net.proofs.Tables.{table-inverter, table-cell}
+use Rattle.ae_net.specs.declared.gates.Cell.{Cell}
+use Rattle.ae_net.specs.declared.gates.Cell.TheVariants.{And}
+use Rattle.factor.specs.declared.parts.Factor.{Factor}
+use Rattle.factor.specs.declared.parts.Wires.{Wires}
+use Rattle.ae_net.specs.Gates.{inverter}
+use Rattle.factor.specs.Cells.{Part, Parts, literal_signal, literal_signals, product_of, before, chain_of, closing, turned_by, parts, sum_part, output_cells}
 use Rattle.factor.specs.Factored.{inverters, named, output_gates, ends}
 use Rattle.factor.specs.Sums.{Summands, has_constant, sum_value}
 use Rattle.factor.specs.Sums.Summands.{end, literals, factored}
 use Rattle.factor.proofs.Bounds.{width}
 use Rattle.factor.proofs.Naming.{length-named}
 use Rattle.factor.proofs.Sizes.{literals_part, factored_part, parts-end, parts-literals, parts-factored, sum_part-is, closing_some, close_count, length-closing, length-joins, length-turned, length-factors}
-use Rattle.factor.proofs.Standing.{holds-whole}
-use Rattle.factor.proofs.Values.{EachCell, cell_value, LiteralsShow, part_shows}
+use Rattle.factor.proofs.Values.{EachCell, LiteralsShow, part_shows}
 use Rattle.factor.proofs.Wired.{Ready}
 
 -- ---- the result of a sum is its last gate
@@ -109,65 +106,39 @@ output_shows w v x s sum show ready = elim (cases_eq (length (sum_part w s sum).
         let z : s + (1 - 1) ≡ s = omega arith in
         ap (value_of v) z ∙ cell ∙ part_shows w v x s sum show ready (rw none tt)
 
--- ---- gates by what they compute
+-- ---- named gates
 
-table-or : (v : List Bool) (i : ℕ) (out : List ℕ) (a b : ℕ) → table (gate_of out (Or a b)) (ones_seen None v i (gate_of out (Or a b))) ≡ (value_of v a || value_of v b)
-unfolding table
-table-or v i out a b =
-    let ones : Set = ones_seen None v i (gate_of out (Or a b)) in
-    let p = λ (k : ℕ). value_of v (slice_index (a ∷ b ∷ []) k) in
-    ap₂ (λ l r. l || (r || false)) (plain_row 0 ones) (plain_row 1 ones)
-    ∙ ap (λ r. has ones 0 || r) (or-false (has ones 1))
-    ∙ ap₂ (λ l r. l || r) (has-where_below 2 p 0) (has-where_below 2 p 1)
-
-table-one : (v : List Bool) (i : ℕ) (out : List ℕ) → table (gate_of out One) (ones_seen None v i (gate_of out One)) ≡ true
-unfolding table
-table-one v i out = or-false _ ∙ holds-whole (ones_seen None v i (gate_of out One))
-
-table-zero : (v : List Bool) (i : ℕ) (out : List ℕ) → table (gate_of out Zero) (ones_seen None v i (gate_of out Zero)) ≡ false
-unfolding table
-table-zero v i out = refl
-
-pub gate_shows : (v : List Bool) (i : ℕ) (out : List ℕ) (cell : Cell) → table (gate_of out cell) (ones_seen None v i (gate_of out cell)) ≡ cell_value v cell
-gate_shows v i out Zero = table-zero v i out
-gate_shows v i out One = table-one v i out
-gate_shows v i out (Inverter a) = table-inverter None v i out a
-gate_shows v i out (Buffer a) = table-buffer None v i out a
-gate_shows v i out (And pins) = table-and None v i out pins ∙ all_see-none v i 0 pins
-gate_shows v i out (Exor a b) = table-exor None v i out a b
-gate_shows v i out (Or a b) = table-or v i out a b
-
-pub named_cells : (v : List Bool) (m i k c : ℕ) (out : List ℕ) (cells : List Cell) → EachGate (Fits None v m) i (named k c out cells) → EachCell v (m + i) cells
-unfolding EachGate
+pub named_cells : (v : List Bool) (m i k c : ℕ) (out : List ℕ) (cells : List Cell) → EachAt (Fits None v m) i (named k c out cells) → EachCell v (m + i) cells
+unfolding EachAt
 named_cells v m i k c out [] h = tt
-named_cells v m i k c out (cell ∷ []) (h, _) = (h ∙ gate_shows v i out cell, tt)
+named_cells v m i k c out (cell ∷ []) (h, _) = (h ∙ table-cell v i out cell, tt)
 named_cells v m i k c out (cell ∷ next ∷ cells) (h, hs) =
     let z : m + suc i ≡ suc (m + i) = omega arith in
-    (h ∙ gate_shows v i (inner k (codes "g" ++ decimal (suc c))) cell, subst (λ s. EachCell v s (next ∷ cells)) z (named_cells v m (suc i) k (suc c) out (next ∷ cells) hs))
+    (h ∙ table-cell v i (inner k (codes "g" ++ decimal (suc c))) cell, subst (λ s. EachCell v s (next ∷ cells)) z (named_cells v m (suc i) k (suc c) out (next ∷ cells) hs))
 
 -- ---- all outputs
 
-pub port_shows : (k : ℕ) (w : Wires) (v : List Bool) (x : Set) (i c : ℕ) (sums : List Summands) (outs : List (List ℕ)) → EachGate (Fits None v w.inputs) i (output_gates k w (w.inputs + i) c sums outs) → length sums ≡ length outs
+pub port_shows : (k : ℕ) (w : Wires) (v : List Bool) (x : Set) (i c : ℕ) (sums : List Summands) (outs : List (List ℕ)) → EachAt (Fits None v w.inputs) i (output_gates k w (w.inputs + i) c sums outs) → length sums ≡ length outs
     → LiteralsShow w v x → AllByRecursion (Ready w) sums → (o : ℕ) (sum : Summands) → slice_get sums o ≡ Some sum → value_of v (slice_index (ends w (w.inputs + i) sums) o) ≡ sum_value sum x
 port_shows k w v x i c [] outs h same show ready o sum there = cc
 port_shows k w v x i c (s ∷ ss) [] h same show ready o sum there = absurd (omega (arith, same))
 port_shows k w v x i c (s ∷ ss) (out ∷ outs) h same show (ready, more) zero sum there =
     let e : s ≡ sum = cc in
-    let both = EachGate-append (Fits None v w.inputs) i (named k c out (output_cells w (w.inputs + i) s)) _ h in
+    let both = EachAt-split (Fits None v w.inputs) i (named k c out (output_cells w (w.inputs + i) s)) _ h in
     output_shows w v x (w.inputs + i) s show ready (named_cells v w.inputs i k c out (output_cells w (w.inputs + i) s) both.0) ∙ ap (λ t. sum_value t x) e
 port_shows k w v x i c (s ∷ ss) (out ∷ outs) h same show (ready, more) (suc o) sum there =
     let cells = output_cells w (w.inputs + i) s in
-    let both = EachGate-append (Fits None v w.inputs) i (named k c out cells) _ h in
+    let both = EachAt-split (Fits None v w.inputs) i (named k c out cells) _ h in
     let z : w.inputs + i + length cells ≡ w.inputs + (i + length cells) = omega arith in
     let y : i + length (named k c out cells) ≡ i + length cells = ap (λ n. i + n) (length-named k c out cells) in
     rw z (port_shows k w v x (i + length cells) (c + (length cells - 1)) ss outs
-    (subst (λ p. EachGate (Fits None v w.inputs) (i + length cells) (output_gates k w p (c + (length cells - 1)) ss outs)) z (subst (λ p. EachGate (Fits None v w.inputs) p (output_gates k w (w.inputs + i + length cells) (c + (length cells - 1)) ss outs)) y both.1))
+    (subst (λ p. EachAt (Fits None v w.inputs) (i + length cells) (output_gates k w p (c + (length cells - 1)) ss outs)) z (subst (λ p. EachAt (Fits None v w.inputs) p (output_gates k w (w.inputs + i + length cells) (c + (length cells - 1)) ss outs)) y both.1))
     (omega (arith, same)) show more o sum there)
 
 -- ---- the inverters
 
-inverter_at : (P : ℕ → Gate → Type 0) (i : ℕ) (g : ℕ → Gate) (xs : List ℕ) → EachGate P i (map g xs) → (j : ℕ) → list_any (λ y. eqb y j) xs ≡ true → P (i + position_or_len (λ y. eqb y j) xs) (g j)
-unfolding EachGate
+inverter_at : (P : ℕ → Gate → Type 0) (i : ℕ) (g : ℕ → Gate) (xs : List ℕ) → EachAt P i (map g xs) → (j : ℕ) → list_any (λ y. eqb y j) xs ≡ true → P (i + position_or_len (λ y. eqb y j) xs) (g j)
+unfolding EachAt
 inverter_at P i g [] h j there = absurd (false≢true there)
 inverter_at P i g (y ∷ ys) (h, hs) j there = elim (cases_eq y j) [
   | inl e ↦ rw (eq-eqb y j e, add-zero i, ← e) h
@@ -176,7 +147,7 @@ inverter_at P i g (y ∷ ys) (h, hs) j there = elim (cases_eq y j) [
       rw (ne_eqb y j other, z) (inverter_at P (suc i) g ys hs j (rw (ne_eqb y j other) at there))
 ]
 
-pub literals_show : (k : ℕ) (w : Wires) (v : List Bool) (x : Set) → ((j : ℕ) → j < w.inputs → value_of v j ≡ has x j) → EachGate (Fits None v w.inputs) 0 (inverters k w.turned) → LiteralsShow w v x
+pub literals_show : (k : ℕ) (w : Wires) (v : List Bool) (x : Set) → ((j : ℕ) → j < w.inputs → value_of v j ≡ has x j) → EachAt (Fits None v w.inputs) 0 (inverters k w.turned) → LiteralsShow w v x
 unfolding literal_signal
 literals_show k w v x inputs inverted u wired = by u.plain refl
   where

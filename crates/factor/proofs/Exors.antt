@@ -10,11 +10,12 @@ use Rattle.ae_base.specs.Cube.{Product}
 use Rattle.ae_base.proofs.Sets.{has-empty, has-with}
 use Rattle.ae_net.specs.declared.net.Gate.{Gate}
 use Rattle.ae_net.specs.Names.{inner}
-use Rattle.factor.specs.declared.cells.Cell.{Cell}
-use Rattle.factor.specs.declared.cells.Cell.TheVariants.{Zero, One, Inverter, Buffer, And, Exor, Or}
-use Rattle.factor.specs.declared.cells.Factor.{Factor}
-use Rattle.factor.specs.declared.cells.Wires.{Wires}
-use Rattle.factor.specs.Cells.{Part, Parts, gate_of, literal_signals, product_of, are_excluded, join, joins, chain_of, closing, turned_by, parts, sum_part, output_cells}
+use Rattle.ae_net.specs.declared.gates.Cell.{Cell}
+use Rattle.ae_net.specs.declared.gates.Cell.TheVariants.{Zero, One, Inverter, Buffer, And, Exor, Or}
+use Rattle.factor.specs.declared.parts.Factor.{Factor}
+use Rattle.factor.specs.declared.parts.Wires.{Wires}
+use Rattle.ae_net.specs.Gates.{gate_of}
+use Rattle.factor.specs.Cells.{Part, Parts, literal_signals, product_of, are_excluded, join, joins, chain_of, closing, turned_by, parts, sum_part, output_cells}
 use Rattle.factor.specs.Factored.{inverters, named, output_gates, AreSums}
 use Rattle.factor.specs.Shows.{is_exor}
 use Rattle.factor.specs.Sums.{Summands, has_constant}

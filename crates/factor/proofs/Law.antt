@@ -11,13 +11,15 @@ use Rattle.std.proofs.lemmas.Option.{slice_get_within, slice_get-get_or}
 use Rattle.ae_base.specs.Cube.{Product, IsOver, distance}
 use Rattle.ae_base.specs.Mask.{Set, has, xor}
 use Rattle.ae_base.specs.Name.{is_name}
-use Rattle.ae_base.specs.declared.limits.TheConstants.{SOURCE_NAME_BYTES}
+use Rattle.ae_base.specs.declared.limits.TheConstants.{FACTORED_CUBES, SOURCE_NAME_BYTES, SOURCE_LINES}
 use Rattle.ae_base.proofs.Distinct.{Distinct, Distinct-from_AllPairs, AllPairs-from_Distinct, each_front, each_weaker}
 use Rattle.ae_base.proofs.Elements.{length_filter_le, range_below}
 use Rattle.ae_base.proofs.Members.{len-none}
 use Rattle.ae_base.proofs.Sets.{has-either, has-xor, has-where_below}
 use Rattle.ae_base.proofs.Truth.{differ-same}
+use Rattle.ae_base.proofs.EachAt.{EachAt, EachAt-get, EachAt-split, EachAt-join}
 use Rattle.ae_net.specs.declared.net.Gate.{Gate}
+use Rattle.ae_net.specs.GateNames.{NamesDiffer}
 use Rattle.ae_net.specs.Implements.{port_names}
 use Rattle.ae_net.specs.Lead.{lead}
 use Rattle.ae_net.specs.Names.{Names, IsNames}
@@ -25,14 +27,15 @@ use Rattle.ae_net.specs.Network.{Network, gate_at}
 use Rattle.ae_net.specs.Out.{run}
 use Rattle.ae_net.specs.Run.{value_of, IsRun, ports_of}
 use Rattle.ae_net.specs.Valid.{IsGate, IsValid}
-use Rattle.ae_net.proofs.Follow.{EachGate, EachGate-append, Fits as FitsGate, Follows, Follows-run}
-use Rattle.ae_net.proofs.GatesValid.{AreGates, AreGates-append, IsGate-at}
+use Rattle.ae_net.specs.Follows.{Fits as FitsGate, Follows}
+use Rattle.ae_net.proofs.Follow.{Follows-run}
 use Rattle.ae_net.proofs.LeadLemmas.{lead_is_lead, lead_few}
 use Rattle.ae_net.proofs.Runs.{IsRun-run}
-use Rattle.esop.specs.Esop.{Cubes, IsCubes, esop_value}
+use Rattle.esop.specs.Esop.{Cubes, esop_value}
+use Rattle.esop.specs.Kept.{IsCubes}
 use Rattle.esop.specs.Settled.{IsSettled, AreSettled}
-use Rattle.factor.specs.declared.cells.Cell.{Cell}
-use Rattle.factor.specs.declared.cells.Wires.{Wires}
+use Rattle.ae_net.specs.declared.gates.Cell.{Cell}
+use Rattle.factor.specs.declared.parts.Wires.{Wires}
 use Rattle.factor.specs.Cells.{output_cells}
 use Rattle.factor.specs.Factored.{is_turned, wires, inverters, named, output_gates, ends, network_of, AreSums, HasFactoredForm}
 use Rattle.factor.specs.Plan.{most_gates}
@@ -42,8 +45,7 @@ use Rattle.factor.proofs.AtPorts.{port_shows, literals_show}
 use Rattle.factor.proofs.Bounds.{nodes_bound}
 use Rattle.factor.proofs.Exors.{all_exors}
 use Rattle.factor.proofs.Meaning.{sum_means, value-esop}
-use Rattle.factor.proofs.NamesApart.{names_apart}
-use Rattle.factor.proofs.Naming.{length-named}
+use Rattle.factor.proofs.Naming.{length-named, gate_names}
 use Rattle.factor.proofs.Sizes.{output_some}
 use Rattle.factor.proofs.Unique.{one_sum}
 use Rattle.factor.proofs.Valid.{first_gate, AreGates-inverters, AreGates-outputs, length-outputs, ports_within, ports_apart, length-ends}
@@ -86,14 +88,14 @@ over_all e cubes = recursion_from_All (All (IsOver e.n)) e.outs cubes.below
 distinct_all : (e : Cubes) → AreSettled e → AllByRecursion Distinct e.outs
 distinct_all e settled = each_weaker IsSettled Distinct settled_distinct e.outs (recursion_from_All IsSettled e.outs settled)
 
-pub most_of_all : (names : Names) (e : Cubes) (sums : List Summands) → CanBuild names e → AreSums e.outs sums → most_gates sums ≤ 6208
+pub most_of_all : (names : Names) (e : Cubes) (sums : List Summands) → CanBuild names e → AreSums e.outs sums → most_gates sums ≤ 6 * FACTORED_CUBES + SOURCE_LINES
 most_of_all names e sums can are = omega (arith, most_bound e.outs sums are (distinct_all e can.settled), can.few, can.fits.outputs, can.named.few_outputs)
 
 -- ---- valid
 
-pub valid : (names : Names) (e : Cubes) (sums : List Summands) → CanBuild names e → AreSums e.outs sums → IsValid (network_of (lead names) names (wires e) sums)
+pub valid : (names : Names) (e : Cubes) (sums : List Summands) → NamesDiffer → CanBuild names e → AreSums e.outs sums → IsValid (network_of (lead names) names (wires e) sums)
 unfolding network_of
-valid names e sums can are =
+valid names e sums differ can are =
     let k : ℕ = lead names in
     let w : Wires = wires e in
     let named : IsNames names = can.named in
@@ -101,7 +103,7 @@ valid names e sums can are =
     let each : AllByRecursion (λ name. (is_name name ≡ true) × (length name ≤ SOURCE_NAME_BYTES)) (names.inputs ++ names.outputs) = recursion_from_All _ _ named.each in
     let ins_outs = each_front (λ name. is_name name ≡ true) names.inputs names.outputs (each_weaker (λ name. (is_name name ≡ true) × (length name ≤ SOURCE_NAME_BYTES)) (λ name. is_name name ≡ true) (λ name h. h.0) (names.inputs ++ names.outputs) each) in
     let inputs : length names.inputs ≡ e.n = sym can.fits.inputs in
-    let small : e.n ≤ 64 = omega (arith, can.fits.inputs, named.few_inputs) in
+    let small : e.n ≤ SOURCE_LINES = omega (arith, can.fits.inputs, named.few_inputs) in
     let turned = few_turned e in
     let most = most_of_all names e sums can are in
     let s : ℕ = first_gate w in
@@ -111,10 +113,10 @@ valid names e sums can are =
     let few = length-outputs k w s 0 sums names.outputs in
     let same : length sums ≡ length names.outputs = length_sums e.outs sums are ∙ can.fits.outputs in
     let z : e.n + length invs ≡ s = ap (λ n. e.n + n) (length-inverters k w.turned) in
-    let gates : AreGates e.n (invs ++ outs) =
-    AreGates-append e.n invs outs
+    let gates : EachAt IsGate e.n (invs ++ outs) =
+    EachAt-join IsGate e.n invs outs
     (AreGates-inverters k e.n w.turned short (omega (arith, small, turned)) (range_below (is_turned e.outs) 0 e.n e.n (omega arith)))
-    (subst (λ p. AreGates p outs) (sym z)
+    (subst (λ p. EachAt IsGate p outs) (sym z)
     (AreGates-outputs k w s 0 sums names.outputs short (omega (arith, small)) (omega arith) (omega (arith, most)) ins_outs.1 (ready_all e e.outs sums are (over_all e can.cubes) (λ q m. m)) (within_all e.n e.outs sums are (over_all e can.cubes)))) in
     let ports : length (ends w s sums) ≡ length sums = length-ends w s sums in
     record {
@@ -122,9 +124,9 @@ valid names e sums can are =
       inputs_named = All-from_recursion _ names.inputs ins_outs.0;
       some_input = named.some_input;
       few_inputs = omega (arith, named.few_inputs);
-      names = AllPairs-from_Distinct _ (names_apart k e.n s (is_turned e.outs) w sums names.inputs names.outputs (lead_is_lead names).free (Distinct-from_AllPairs _ named.distinct) (omega (arith, small)) (omega (arith, most)));
+      names = differ.names k names.inputs names.outputs _ (lead_is_lead names).free named.distinct (gate_names k e.n s (is_turned e.outs) w sums names.outputs differ (omega (arith, small)) (omega (arith, most)));
       few_gates = omega (arith, len, few, most, turned, small);
-      gates = λ i gate there. subst (λ m. IsGate (m + i) gate) (sym inputs) (IsGate-at e.n (invs ++ outs) gates i gate there);
+      gates = λ i gate there. subst (λ m. IsGate (m + i) gate) (sym inputs) (EachAt-get IsGate e.n (invs ++ outs) gates i gate there);
       some_output = omega (arith, ports, same, named.some_output);
       few_outputs = omega (arith, ports, same, named.few_outputs);
       ports = All-from_recursion _ (ends w s sums) (ports_within k w s 0 (length names.inputs) (length names.inputs + length (invs ++ outs)) sums names.outputs same (omega (arith, inputs)) (omega (arith, inputs, len)));
@@ -159,11 +161,11 @@ port_value names e sums can are x v is o cs there =
     let outs : List Gate = output_gates k w s 0 sums names.outputs in
     let inputs : length names.inputs ≡ e.n = sym can.fits.inputs in
     let all : Follows None v e.n 0 (inverters k w.turned ++ outs) = subst (λ m. Follows None v m 0 (inverters k w.turned ++ outs)) inputs (Follows-run (network_of k names w sums) None x v is) in
-    let both = EachGate-append (FitsGate None v e.n) 0 (inverters k w.turned) outs all in
+    let both = EachAt-split (FitsGate None v e.n) 0 (inverters k w.turned) outs all in
     let z : 0 + length (inverters k w.turned) ≡ length w.turned = omega (arith, length-inverters k w.turned) in
     let show = literals_show k w v x (λ j l. is.inputs j (omega (arith, l, inputs))) both.0 in
     let at = sum_at e.outs sums are o cs there in
-    port_shows k w v x (length w.turned) 0 sums names.outputs (subst (λ p. EachGate (FitsGate None v e.n) p outs) z both.1) (length_sums e.outs sums are ∙ can.fits.outputs) show (ready_all e e.outs sums are (over_all e can.cubes) (λ q m. m)) o at.sum at.there
+    port_shows k w v x (length w.turned) 0 sums names.outputs (subst (λ p. EachAt (FitsGate None v e.n) p outs) z both.1) (length_sums e.outs sums are ∙ can.fits.outputs) show (ready_all e e.outs sums are (over_all e can.cubes) (λ q m. m)) o at.sum at.there
     ∙ sum_means cs at.sum at.is (all_at Distinct e.outs (distinct_all e can.settled) o cs there) x
     ∙ value-esop cs x
 
@@ -176,10 +178,10 @@ at_ports names e sums can are x v is o cs there =
     ∙ ap (λ b. b && value_of v (slice_index ps o)) (lt-ltb o (length ps) l)
     ∙ port_value names e sums can are x v is o cs there
 
-pub shows : (names : Names) (e : Cubes) (sums : List Summands) → CanBuild names e → AreSums e.outs sums → ShowsEsop (network_of (lead names) names (wires e) sums) e
-shows names e sums can are x =
+pub shows : (names : Names) (e : Cubes) (sums : List Summands) → NamesDiffer → CanBuild names e → AreSums e.outs sums → ShowsEsop (network_of (lead names) names (wires e) sums) e
+shows names e sums differ can are x =
     let n : Network = network_of (lead names) names (wires e) sums in
-    let is : IsRun n None x (run n None x) = IsRun-run n None x (valid names e sums can are) in
+    let is : IsRun n None x (run n None x) = IsRun-run n None x (valid names e sums differ can are) in
     (ports_of n None (run n None x), record { run = run n None x; is_run = is; ports = refl }, at_ports names e sums can are x (run n None x) is)
 
 -- ---- EXOR gates

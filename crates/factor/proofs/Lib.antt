@@ -9,7 +9,6 @@ pub mod Joining
 pub mod Law
 pub mod Made
 pub mod Meaning
-pub mod NamesApart
 pub mod Naming
 pub mod Planned
 pub mod Sizes

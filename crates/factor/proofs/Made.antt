@@ -1,10 +1,10 @@
 -- The gates that the builder adds part by part are those of the sum.
 use Rattle.std.proofs.Common.{◌≡◌, ℕ, ◌+◌, List, [], ◌∷◌, ◌++◌, length, refl, ap, ◌∙◌, arith, length-append, append_assoc}
 use Rattle.ae_base.specs.Cube.{Product}
-use Rattle.factor.specs.declared.cells.Cell.{Cell}
-use Rattle.factor.specs.declared.cells.Cell.TheVariants.{And}
-use Rattle.factor.specs.declared.cells.Factor.{Factor}
-use Rattle.factor.specs.declared.cells.Wires.{Wires}
+use Rattle.ae_net.specs.declared.gates.Cell.{Cell}
+use Rattle.ae_net.specs.declared.gates.Cell.TheVariants.{And}
+use Rattle.factor.specs.declared.parts.Factor.{Factor}
+use Rattle.factor.specs.declared.parts.Wires.{Wires}
 use Rattle.factor.specs.Cells.{literal_signals, closing, parts, sum_part}
 use Rattle.factor.specs.Sums.{Summands, has_constant}
 use Rattle.factor.specs.Sums.Summands.{literals, factored}

@@ -1,14 +1,14 @@
 -- The sum of a list of cubes has the value of the list.
-use Rattle.std.proofs.Common.{◌≡◌, ◌≢◌, ℕ, ◌+◌, ◌%◌, Bool, true, false, not, ◌&&◌, ◌||◌, cond, inl, inr, List, [], ◌∷◌, refl, sym, ap, ap₂, ◌∙◌, arith, eqb, eq-eqb, ne_eqb}
+use Rattle.std.proofs.Common.{◌≡◌, ◌≢◌, ◌+◌, ◌%◌, Bool, true, false, not, ◌&&◌, ◌||◌, cond, inl, inr, List, [], ◌∷◌, refl, sym, ap, ap₂, ◌∙◌, arith, eqb}
 use Rattle.std.specs.Prelude.{count_by}
 use Rattle.std.specs.List.{list_any, AllByRecursion}
 use Rattle.std.proofs.Math.Bool.{and-true}
-use Rattle.std.proofs.lemmas.Bool.{cases_Bool, cases_eq}
+use Rattle.std.proofs.lemmas.Bool.{cases_Bool}
 use Rattle.std.proofs.lemmas.List.Sums.{sum_by-cons}
 use Rattle.ae_base.specs.Cube.{Product, holds, whole}
 use Rattle.ae_base.specs.Mask.{Set, differ}
 use Rattle.ae_base.proofs.Distinct.{Distinct, Distinct-filter}
-use Rattle.ae_base.proofs.Truth.{differ-assoc, differ-front, differ-false}
+use Rattle.ae_base.proofs.Truth.{differ-assoc, differ-front, differ-false, and-over_differ}
 use Rattle.esop.specs.Esop.{esop_value}
 use Rattle.factor.specs.declared.literals.Literal.{Literal}
 use Rattle.factor.specs.Literals.{stands, is_empty, without_literal, holding, others}
@@ -18,6 +18,7 @@ use Rattle.factor.proofs.Standing.{literal_value, holds-whole, holds-with, holds
 use Rattle.factor.proofs.Counted.{holding_yes, holding_no, others_yes, others_no, Distinct-holding}
 use Rattle.factor.proofs.Joining.{joined_by}
 use Rattle.factor.proofs.Taken.{kept}
+use Rattle.ae_base.proofs.Exor.{odd-suc}
 
 -- the EXOR of the cubes, one after the other
 abbrev pub cubes_value : List Product → Set → Bool
@@ -37,10 +38,6 @@ joined_value t inner rest x =
     (λ ls deeper k. ap (λ b. differ b (sum_value rest x)) (ap (λ b. b && sum_value deeper x) (holds-with t ls x) ∙ and_assoc (literal_value t x) (holds ls x) (sum_value deeper x) ∙ ap (λ b. literal_value t x && b) (sym (differ-false (holds ls x && sum_value deeper x)) ∙ k)))
     (λ k no. ap (λ b. differ (b && sum_value inner x) (sum_value rest x)) (holds-with t whole x ∙ ap (λ b. literal_value t x && b) (holds-whole x) ∙ and-true (literal_value t x)))
 
-and_differ : (a b c : Bool) → differ (a && b) (a && c) ≡ (a && differ b c)
-and_differ true b c = refl
-and_differ false b c = refl
-
 -- the cubes that hold the literal, and the others
 parts_value : (t : Literal) (cs : List Product) (x : Set) → cubes_value cs x ≡ differ (literal_value t x && cubes_value (holding t cs) x) (cubes_value (others t cs) x)
 parts_value t [] x = none (literal_value t x)
@@ -52,7 +49,7 @@ parts_value t (c ∷ cs) x = elim (cases_Bool (stands t c)) [
   | inl e ↦
       ap₂ differ (holds-without t c x e) (parts_value t cs x)
       ∙ sym (differ-assoc (literal_value t x && holds (without_literal t c) x) (literal_value t x && cubes_value (holding t cs) x) (cubes_value (others t cs) x))
-      ∙ ap (λ b. differ b (cubes_value (others t cs) x)) (and_differ (literal_value t x) (holds (without_literal t c) x) (cubes_value (holding t cs) x))
+      ∙ ap (λ b. differ b (cubes_value (others t cs) x)) (sym (and-over_differ (literal_value t x) (holds (without_literal t c) x) (cubes_value (holding t cs) x)))
       ∙ ap₂ (λ (hs os : List Product). differ (literal_value t x && cubes_value hs x) (cubes_value os x)) (sym (holding_yes t c cs e)) (sym (others_yes t c cs e))
   | inr e ↦
       ap (differ (holds c x)) (parts_value t cs x)
@@ -93,13 +90,6 @@ sum_means cs s (taken _ t inner rest most hold other) distinct x =
     ∙ sym (parts_value t cs x)
 
 -- ---- by a count
-
-odd-suc : (n : ℕ) → eqb ((1 + n) % 2) 1 ≡ not (eqb (n % 2) 1)
-odd-suc n =
-    elim (cases_eq (n % 2) 1) [
-      | inl odd ↦ ne_eqb ((1 + n) % 2) 1 (λ again. absurd (omega (arith, odd, again))) ∙ ap not (sym (eq-eqb (n % 2) 1 odd))
-      | inr even ↦ eq-eqb ((1 + n) % 2) 1 (omega (arith, even)) ∙ ap not (sym (ne_eqb (n % 2) 1 even))
-    ]
 
 pub value-esop : (cs : List Product) (x : Set) → cubes_value cs x ≡ esop_value cs x
 unfolding esop_value

@@ -1,31 +1,38 @@
 -- How the builder names gates, and that they have few pins.
-use Rattle.std.proofs.Common.{◌≡◌, ℕ, zero, suc, ◌+◌, ◌*◌, ◌-◌, ◌<◌, ◌≤◌, Bool, true, false, cond, inl, inr, List, [], ◌∷◌, ◌++◌, length, get_or, drop, refl, sym, ap, ap₂, ◌∙◌, subst, arith, eqb, eq-eqb, ne_eqb, length-append, length-drop, drop-cons, append_assoc}
-use Rattle.std.specs.Prelude.{codes}
+use Rattle.std.proofs.Common.{◌≡◌, ℕ, zero, suc, ◌+◌, ◌*◌, ◌-◌, ◌<◌, ◌≤◌, ◌^◌, Bool, true, false, cond, inl, inr, List, [], ◌∷◌, ◌++◌, length, map, get_or, drop, refl, sym, ap, ap₂, ◌∙◌, subst, arith, eqb, eq-eqb, ne_eqb, length-append, length-drop, drop-cons, append_assoc, append-nil}
+use Rattle.std.specs.Prelude.{codes, filter, sum}
 use Rattle.std.specs.Fmt.{decimal}
-use Rattle.std.specs.List.{AllByRecursion}
+use Rattle.std.specs.List.{AllByRecursion, range_with_len}
 use Rattle.std.proofs.lemmas.Bool.{cases_eq, cases_Bool, lt-ltb, or_cases}
-use Rattle.std.proofs.lemmas.List.{length-map}
-use Rattle.ae_base.specs.declared.limits.TheConstants.{NET_LINES, PINS}
+use Rattle.std.proofs.lemmas.List.{length-map, map-append}
+use Rattle.std.proofs.lemmas.List.Elements.{All-from_recursion}
+use Rattle.std.proofs.lemmas.List.Sums.{sum_by-cons}
+use Rattle.ae_base.specs.declared.limits.TheConstants.{SOURCE_LINES, PINS}
 use Rattle.ae_base.specs.Mask.{has, either, first, inside, members}
 use Rattle.ae_base.specs.Cube.{Product}
-use Rattle.ae_base.proofs.Distinct.{each-append}
+use Rattle.ae_base.proofs.Distinct.{each-append, each_weaker, AllPairs-from_Distinct, Distinct-filter, Distinct-range}
+use Rattle.ae_base.proofs.Elements.{range_below}
 use Rattle.ae_base.proofs.Members.{length-members}
 use Rattle.ae_base.proofs.Sets.{has-inside, has-either, has-first}
 use Rattle.ae_net.specs.declared.net.Gate.{Gate}
+use Rattle.ae_net.specs.GateNames.{Group, names_in, numbered, names_to_outputs, AreGateNames, NamesDiffer}
+use Rattle.ae_net.specs.Lead.{IsLetter}
 use Rattle.ae_net.specs.Names.{inner}
-use Rattle.factor.specs.declared.cells.Cell.{Cell}
-use Rattle.factor.specs.declared.cells.Cell.TheVariants.{Inverter, And}
-use Rattle.factor.specs.declared.cells.Factor.{Factor}
-use Rattle.factor.specs.declared.cells.Wires.{Wires}
+use Rattle.ae_net.specs.Valid.{IsDistinct}
+use Rattle.ae_net.specs.declared.gates.Cell.{Cell}
+use Rattle.ae_net.specs.declared.gates.Cell.TheVariants.{Inverter, And}
+use Rattle.factor.specs.declared.parts.Factor.{Factor}
+use Rattle.factor.specs.declared.parts.Wires.{Wires}
 use Rattle.factor.specs.declared.literals.Literal.{Literal}
-use Rattle.factor.specs.Cells.{Part, pins_of, gate_of, literal_signal, literal_signals, product_of, are_excluded, join, joins, chain_of, closing, turned_by, parts, sum_part, output_cells}
-use Rattle.factor.specs.Factored.{named, output_gates, ends}
+use Rattle.ae_net.specs.Gates.{pins_of, gate_of}
+use Rattle.factor.specs.Cells.{Part, literal_signal, literal_signals, product_of, are_excluded, join, joins, chain_of, closing, turned_by, parts, sum_part, output_cells}
+use Rattle.factor.specs.Factored.{inverters, named, output_gates, ends}
 use Rattle.factor.specs.Literals.{stands}
 use Rattle.factor.specs.Plan.{most_gates}
 use Rattle.factor.specs.Seen.{IsWithin}
 use Rattle.factor.specs.Sums.{Summands, has_constant, nodes}
 use Rattle.factor.specs.Sums.Summands.{end, literals, factored}
-use Rattle.factor.proofs.Sizes.{literals_part, factored_part, parts-literals, parts-factored, parts-end, sum_part-is, closing_some}
+use Rattle.factor.proofs.Sizes.{literals_part, factored_part, parts-literals, parts-factored, parts-end, sum_part-is, closing_some, output_bound, output_some}
 use Rattle.factor.proofs.Standing.{lit}
 
 -- the name of a gate after which so many others stand
@@ -90,7 +97,7 @@ closing_few k true [] = (omega arith, tt)
 closing_few k false [] = (omega arith, tt)
 closing_few k constant (f ∷ fs) = rw (closing_some k constant (f ∷ fs) (omega arith)) (turned_few constant k (chain_of k (f ∷ fs)) (joins_few k f.signal (f ∷ []) fs))
 
-parts_few : (w : Wires) (n k : ℕ) (s : Summands) → n ≤ NET_LINES → IsWithin n s → FewPins (parts w k s).cells
+parts_few : (w : Wires) (n k : ℕ) (s : Summands) → n ≤ SOURCE_LINES → IsWithin n s → FewPins (parts w k s).cells
 parts_few w n k (end b) few h = rw (parts-end w k b) tt
 parts_few w n k (literals ls rest) few h =
     rw (parts-literals w k ls rest)
@@ -104,10 +111,10 @@ parts_few w n k (factored ls inner rest) few h =
     (omega (arith, length-append (literal_signals w ls) ((sum_part w k inner).signal ∷ []), length-signals w n ls h.0), tt))
     (parts_few w n (k + length (factored_part w k ls inner).cells) rest few h.2))
 
-pub sum_few : (w : Wires) (n k : ℕ) (s : Summands) → n ≤ NET_LINES → IsWithin n s → FewPins (sum_part w k s).cells
+pub sum_few : (w : Wires) (n k : ℕ) (s : Summands) → n ≤ SOURCE_LINES → IsWithin n s → FewPins (sum_part w k s).cells
 sum_few w n k s few h = rw (sum_part-is w k s) (each-append (λ c. length (pins_of c) ≤ PINS) (parts w k s).cells _ (parts_few w n k s few h) (closing_few _ (has_constant s) _))
 
-pub output_few : (w : Wires) (n k : ℕ) (s : Summands) → n ≤ NET_LINES → IsWithin n s → FewPins (output_cells w k s)
+pub output_few : (w : Wires) (n k : ℕ) (s : Summands) → n ≤ SOURCE_LINES → IsWithin n s → FewPins (output_cells w k s)
 unfolding output_cells
 output_few w n k s few h = elim (cases_Bool (eqb (length (sum_part w k s).cells) 0)) [ inl e ↦ rw e (omega arith, tt) | inr e ↦ rw e (sum_few w n k s few h) ]
 
@@ -164,3 +171,60 @@ pub each_get : (P : Summands → Type 0) (sums : List Summands) → AllByRecursi
 each_get P [] h o s l e = absurd (omega (arith, l))
 each_get P (r ∷ rs) (h, hs) zero s l e = subst P (sym e) h
 each_get P (r ∷ rs) (h, hs) (suc o) s l e = each_get P rs hs o s (omega (arith, l)) e
+
+-- ---- the names of all gates
+
+abbrev pub outs_of : List Gate → List (List ℕ)
+outs_of gates = map (λ gate. gate.out) gates
+
+inverter_names : (k : ℕ) (js : List ℕ) → outs_of (inverters k js) ≡ names_in k (record { letter = 105; texts = map (λ j. decimal (suc j)) js })
+inverter_names k [] = refl
+inverter_names k (j ∷ js) = ap (λ names. inner k (105 ∷ decimal (suc j)) ∷ names) (inverter_names k js)
+
+named_names : (k c : ℕ) (out : List ℕ) (cells : List Cell) → 0 < length cells → outs_of (named k c out cells) ≡ numbered k 103 c (length cells - 1) ++ out ∷ []
+named_names k c out [] some = absurd (omega (arith, some))
+named_names k c out (cell ∷ []) some = refl
+named_names k c out (cell ∷ next ∷ cells) some =
+    let z : length (cell ∷ next ∷ cells) - 1 ≡ suc (length (next ∷ cells) - 1) = omega arith in
+    let y : c + 1 ≡ suc c = omega arith in
+    rw (z, y) (ap (λ names. inner k (103 ∷ decimal (suc c)) ∷ names) (named_names k (suc c) out (next ∷ cells) (omega arith)))
+
+-- how many gates stand before the last one of each output
+abbrev counts : Wires → ℕ → List Summands → List ℕ
+counts w s [] = []
+counts w s (sum ∷ sums) = let cells = output_cells w s sum in (length cells - 1) ∷ counts w (s + length cells) sums
+
+few_counts : (w : Wires) (s : ℕ) (sums : List Summands) → sum (counts w s sums) ≤ most_gates sums
+few_counts w s [] = omega arith
+few_counts w s (sum ∷ sums) =
+    let cells = output_cells w s sum in
+    omega (arith, sum_by-cons (λ m. m) (length cells - 1) (counts w (s + length cells) sums), few_counts w (s + length cells) sums, output_bound w s sum)
+
+output_names : (k : ℕ) (w : Wires) (s c : ℕ) (sums : List Summands) (outs : List (List ℕ)) → outs_of (output_gates k w s c sums outs) ≡ names_to_outputs k 103 c (counts w s sums) outs
+output_names k w s c [] outs = refl
+output_names k w s c (sum ∷ sums) [] = refl
+output_names k w s c (sum ∷ sums) (out ∷ outs) =
+    let cells = output_cells w s sum in
+    let inner_names = numbered k 103 c (length cells - 1) in
+    map-append (λ (gate : Gate). gate.out) (named k c out cells) (output_gates k w (s + length cells) (c + (length cells - 1)) sums outs)
+    ∙ ap₂ (λ (a b : List (List ℕ)). a ++ b) (named_names k c out cells (output_some w s sum)) (output_names k w (s + length cells) (c + (length cells - 1)) sums outs)
+    ∙ append_assoc inner_names (out ∷ []) (names_to_outputs k 103 (c + (length cells - 1)) (counts w (s + length cells) sums) outs)
+
+pub gate_names : (k n s : ℕ) (p : ℕ → Bool) (w : Wires) (sums : List Summands) (outs : List (List ℕ)) → NamesDiffer → n < 2 ^ 63 → most_gates sums < 2 ^ 64
+    → AreGateNames k outs (outs_of (inverters k (filter p (range_with_len 0 n)) ++ output_gates k w s 0 sums outs))
+gate_names k n s p w sums outs differ small_n small =
+    let js : List ℕ = filter p (range_with_len 0 n) in
+    let texts : IsDistinct (map (λ j. decimal (suc j)) js) =
+    differ.numbers js (All-from_recursion (λ j. suc j < 2 ^ 64) js (each_weaker (λ j. j < n) (λ j. suc j < 2 ^ 64) (λ j l. omega (arith, l)) js (range_below p 0 n n (omega arith)))) (AllPairs-from_Distinct js (Distinct-filter p (range_with_len 0 n) (Distinct-range 0 n))) in
+    record {
+      groups = record { letter = 105; texts = map (λ j. decimal (suc j)) js } ∷ [];
+      letter = 103;
+      counts = counts w s sums;
+      are =
+          map-append (λ (gate : Gate). gate.out) (inverters k js) (output_gates k w s 0 sums outs)
+          ∙ ap₂ (λ (a b : List (List ℕ)). a ++ b) (inverter_names k js ∙ sym (append-nil _)) (output_names k w s 0 sums outs);
+      letters = All-from_recursion IsLetter (103 ∷ 105 ∷ []) ((omega arith, omega arith), ((omega arith, omega arith), tt));
+      other_letters = AllPairs-from_Distinct (103 ∷ 105 ∷ []) (((λ e. absurd (omega (arith, e))), tt), (tt, tt));
+      other_texts = All-from_recursion (λ (group : Group). IsDistinct group.texts) (record { letter = 105; texts = map (λ j. decimal (suc j)) js } ∷ []) (texts, tt);
+      few = omega (arith, small, few_counts w s sums);
+    }

@@ -7,13 +7,14 @@ use Rattle.std.proofs.lemmas.List.{length-map}
 use Rattle.std.proofs.lemmas.List.Elements.{filter-append}
 use Rattle.ae_base.specs.Cube.{Product}
 use Rattle.ae_net.specs.declared.net.Gate.{Gate}
+use Rattle.ae_net.specs.GateNames.{NamesDiffer}
 use Rattle.ae_net.specs.Lead.{lead}
 use Rattle.ae_net.specs.Names.{Names}
 use Rattle.ae_net.specs.Network.{Network}
 use Rattle.ae_net.specs.Valid.{IsValid}
 use Rattle.ae_net.proofs.LeadLemmas.{lead_few}
 use Rattle.esop.specs.Esop.{Cubes}
-use Rattle.factor.specs.declared.cells.Wires.{Wires}
+use Rattle.factor.specs.declared.parts.Wires.{Wires}
 use Rattle.factor.specs.declared.outputs.Plan.{Plan}
 use Rattle.factor.specs.Factored.{wires, inverters, output_gates, ends, network_of, AreSums}
 use Rattle.factor.specs.Plan.{IsPlan, sums_of}
@@ -22,6 +23,7 @@ use Rattle.factor.specs.Shows.{CanBuild}
 use Rattle.factor.specs.Sums.{Summands, IsSum}
 use Rattle.factor.proofs.Law.{few_turned, length_sums, length-inverters, most_of_all, over_all, valid}
 use Rattle.factor.proofs.Wired.{within_all}
+use Rattle.ae_base.specs.declared.limits.TheConstants.{SOURCE_LINES}
 
 -- ---- the inputs that have an inverter
 
@@ -57,7 +59,7 @@ sums_push (ds ∷ dss) (r ∷ rs) cs s (h, hs) is = (h, sums_push dss rs cs s hs
 
 pub is_plan : (plan : Plan) (names : Names) (e : Cubes) → CanBuild names e → plan.lead ≡ lead names → plan.wires ≡ wires e → AreSums e.outs (sums_of plan) → IsPlan plan
 is_plan plan names e can lead_is wires_is are =
-    let small : e.n ≤ 64 = omega (arith, can.fits.inputs, can.named.few_inputs) in
+    let small : e.n ≤ SOURCE_LINES = omega (arith, can.fits.inputs, can.named.few_inputs) in
     let inputs : plan.wires.inputs ≡ e.n = ap (λ (w : Wires). w.inputs) wires_is in
     let turned : length plan.wires.turned ≤ e.n = omega (arith, ap (λ (w : Wires). length w.turned) wires_is, few_turned e) in
     record {
@@ -83,6 +85,6 @@ net_is k names w sums model inputs outputs start gates model_is inputs_is start_
     let o : outputs ≡ ends w (w.inputs + length w.turned) sums = outputs_is ∙ ap (λ n. ends w (w.inputs + n) sums) z in
     rw (g, o, model_is, inputs_is) refl
 
-pub net_valid : (plan : Plan) (names : Names) (e : Cubes) (net : Network) → CanBuild names e → plan.lead ≡ lead names → plan.wires ≡ wires e → AreSums e.outs (sums_of plan) → net ≡ network_of plan.lead names plan.wires (sums_of plan) → IsValid net
-net_valid plan names e net can lead_is wires_is are is =
-    subst IsValid (sym (is ∙ ap₂ (λ k w. network_of k names w (sums_of plan)) lead_is wires_is)) (valid names e (sums_of plan) can are)
+pub net_valid : (plan : Plan) (names : Names) (e : Cubes) (net : Network) → NamesDiffer → CanBuild names e → plan.lead ≡ lead names → plan.wires ≡ wires e → AreSums e.outs (sums_of plan) → net ≡ network_of plan.lead names plan.wires (sums_of plan) → IsValid net
+net_valid plan names e net differ can lead_is wires_is are is =
+    subst IsValid (sym (is ∙ ap₂ (λ k w. network_of k names w (sums_of plan)) lead_is wires_is)) (valid names e (sums_of plan) differ can are)

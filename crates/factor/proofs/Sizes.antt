@@ -2,9 +2,9 @@
 use Rattle.std.proofs.Common.{◌≡◌, ℕ, zero, suc, ◌+◌, ◌-◌, ◌*◌, ◌<◌, ◌≤◌, Bool, true, false, List, [], ◌∷◌, ◌++◌, length, refl, sym, ap, ◌∙◌, arith, eqb, ne_eqb, length-append, inl, inr}
 use Rattle.std.proofs.lemmas.Bool.{cases_Bool, false≢true}
 use Rattle.ae_base.specs.Cube.{Product}
-use Rattle.factor.specs.declared.cells.Cell.TheVariants.{And, Inverter}
-use Rattle.factor.specs.declared.cells.Factor.{Factor}
-use Rattle.factor.specs.declared.cells.Wires.{Wires}
+use Rattle.ae_net.specs.declared.gates.Cell.TheVariants.{And, Inverter}
+use Rattle.factor.specs.declared.parts.Factor.{Factor}
+use Rattle.factor.specs.declared.parts.Wires.{Wires}
 use Rattle.factor.specs.Cells.{Part, Parts, literal_signals, product_of, product_with, before, joins, chain_of, closing, closed, turned_by, parts, sum_part, output_cells}
 use Rattle.factor.specs.Sums.{Summands, has_constant, nodes}
 use Rattle.factor.specs.Sums.Summands.{end, literals, factored}

@@ -1,30 +1,31 @@
--- The gates of the factored network are gates: their pins are earlier signals, they have few pins, and their rows hold positions of pins.
+-- The gates of the factored network are gates: their pins are earlier signals, and they have few pins.
 use Rattle.std.proofs.Common.{◌≡◌, ◌≢◌, ℕ, suc, ◌+◌, ◌-◌, ◌<◌, ◌≤◌, ◌^◌, Bool, true, false, cond, inl, inr, List, [], ◌∷◌, ◌++◌, length, refl, sym, ap, ◌∙◌, subst, arith, eqb, eq-eqb, ne_eqb, length-append}
 use Rattle.std.specs.Prelude.{slice_index}
 use Rattle.std.specs.List.{list_any, AllByRecursion, position_or_len}
 use Rattle.std.specs.Fmt.{decimal}
 use Rattle.std.proofs.lemmas.Bool.{cases_Bool, cases_eq, false≢true, or_cases}
 use Rattle.std.proofs.lemmas.List.Elements.{All-from_recursion}
-use Rattle.ae_base.specs.declared.limits.TheConstants.{NET_LINES, PINS, SOURCE_NAME_BYTES}
-use Rattle.ae_base.specs.Cube.{Product, whole}
+use Rattle.ae_base.specs.declared.limits.TheConstants.{SOURCE_LINES, PINS, SOURCE_NAME_BYTES}
+use Rattle.ae_base.specs.Cube.{Product}
 use Rattle.ae_base.specs.Mask.{has, either, members}
 use Rattle.ae_base.specs.Name.{is_name}
 use Rattle.ae_base.proofs.Distinct.{Distinct, each_weaker, each-append, each-map}
 use Rattle.ae_base.proofs.Elements.{each_member}
 use Rattle.ae_base.proofs.Members.{members-has}
-use Rattle.ae_base.proofs.Sets.{has-either, has-empty, has-inside}
+use Rattle.ae_base.proofs.Sets.{has-either}
+use Rattle.ae_base.proofs.EachAt.{EachAt, EachAt-join}
 use Rattle.ae_net.specs.Lead.{IsLetter}
 use Rattle.ae_net.specs.Names.{inner}
-use Rattle.ae_net.specs.Valid.{IsGate, IsRowOf}
-use Rattle.ae_net.proofs.GatesValid.{AreGates, AreGates-append, IsGate-inverter}
+use Rattle.ae_net.specs.Valid.{IsGate}
+use Rattle.ae_net.proofs.GatesValid.{IsGate-cell, IsGate-inverter}
 use Rattle.ae_net.proofs.InnerAreNames.{numbered_is_name}
-use Rattle.ae_net.proofs.Rows.{IsRowOf-plain, IsRowOf-complemented, IsRowOf-one_of_each, IsRowOf-full}
-use Rattle.factor.specs.declared.cells.Cell.{Cell}
-use Rattle.factor.specs.declared.cells.Cell.TheVariants.{Zero, One, Inverter, Buffer, And, Exor, Or}
-use Rattle.factor.specs.declared.cells.Factor.{Factor}
-use Rattle.factor.specs.declared.cells.Wires.{Wires}
+use Rattle.ae_net.specs.declared.gates.Cell.{Cell}
+use Rattle.ae_net.specs.declared.gates.Cell.TheVariants.{Inverter, And}
+use Rattle.factor.specs.declared.parts.Factor.{Factor}
+use Rattle.factor.specs.declared.parts.Wires.{Wires}
 use Rattle.factor.specs.declared.literals.Literal.{Literal}
-use Rattle.factor.specs.Cells.{Part, Parts, before, pins_of, rows_of, gate_of, literal_signal, literal_signals, product_of, are_excluded, join, joins, last_of, chain_of, closing, turned_by, parts, sum_part, output_cells}
+use Rattle.ae_net.specs.Gates.{pins_of, gate_of}
+use Rattle.factor.specs.Cells.{Part, Parts, before, literal_signal, literal_signals, product_of, are_excluded, join, joins, last_of, chain_of, closing, turned_by, parts, sum_part, output_cells}
 use Rattle.factor.specs.Factored.{inverters, named, output_gates, ends}
 use Rattle.factor.specs.Literals.{stands}
 use Rattle.factor.specs.Plan.{most_gates}
@@ -36,17 +37,7 @@ use Rattle.factor.proofs.Sizes.{literals_part, factored_part, parts-end, parts-l
 use Rattle.factor.proofs.Standing.{lit}
 use Rattle.factor.proofs.Wired.{Wired, Ready}
 
--- ---- rows
-
-each_row : (cell : Cell) → AllByRecursion (IsRowOf (length (pins_of cell))) (rows_of cell)
-unfolding whole
-each_row Zero = tt
-each_row One = (record { is_product = λ j m. absurd (false≢true (sym (has-empty j) ∙ m)); pos = has-inside _ _ (λ k m. absurd (false≢true (sym (has-empty k) ∙ m))); neg = has-inside _ _ (λ k m. absurd (false≢true (sym (has-empty k) ∙ m))) }, tt)
-each_row (Inverter a) = (IsRowOf-complemented 0 1 (omega arith), tt)
-each_row (Buffer a) = (IsRowOf-plain 0 1 (omega arith), tt)
-each_row (And pins) = (IsRowOf-full (length pins), tt)
-each_row (Exor a b) = (IsRowOf-one_of_each 0 1 2 (omega arith) (omega arith) (λ e. omega arith), (IsRowOf-one_of_each 1 0 2 (omega arith) (omega arith) (λ e. omega arith), tt))
-each_row (Or a b) = (IsRowOf-plain 0 2 (omega arith), (IsRowOf-plain 1 2 (omega arith), tt))
+-- ---- pins
 
 -- the pins of the gate are signals before s
 abbrev pub Reads : ℕ → Cell → Type 0
@@ -57,14 +48,8 @@ abbrev pub EachReads : ℕ → List Cell → Type 0
 EachReads s [] = Unit {0}
 EachReads s (cell ∷ cells) = Reads s cell × EachReads (suc s) cells
 
-IsGate-cell : (s : ℕ) (out : List ℕ) (cell : Cell) → is_name out ≡ true → Reads s cell → length (pins_of cell) ≤ PINS → IsGate s (gate_of out cell)
-IsGate-cell s out cell named reads few = record {
-  earlier = All-from_recursion (λ pin. pin < s) (pins_of cell) reads;
-  named = named;
-  few_pins = few;
-  rows = All-from_recursion (IsRowOf (length (pins_of cell))) (rows_of cell) (each_row cell);
-  off_row = λ e. cc;
-}
+reads_gate : (s : ℕ) (out : List ℕ) (cell : Cell) → is_name out ≡ true → Reads s cell → length (pins_of cell) ≤ PINS → IsGate s (gate_of out cell)
+reads_gate s out cell named reads few = IsGate-cell s out cell named (All-from_recursion (λ pin. pin < s) (pins_of cell) reads) few
 
 EachReads-append : (s : ℕ) (a b : List Cell) → EachReads s a → EachReads (s + length a) b → EachReads s (a ++ b)
 EachReads-append s [] b h k = let z : s + 0 ≡ s = omega arith in subst (λ t. EachReads t b) z k
@@ -205,17 +190,17 @@ output_reads w k s low wired =
 inner_named : (k b n : ℕ) → k ≤ SOURCE_NAME_BYTES + 1 → IsLetter b → n < 2 ^ 64 → is_name (inner k (b ∷ decimal n)) ≡ true
 inner_named k b n short letter small = numbered_is_name k b n (inner k (b ∷ decimal n)) refl short letter small
 
-pub AreGates-named : (k c s : ℕ) (out : List ℕ) (cells : List Cell) → k ≤ SOURCE_NAME_BYTES + 1 → c + length cells < 2 ^ 64 → is_name out ≡ true → EachReads s cells → FewPins cells → AreGates s (named k c out cells)
-unfolding AreGates
+pub AreGates-named : (k c s : ℕ) (out : List ℕ) (cells : List Cell) → k ≤ SOURCE_NAME_BYTES + 1 → c + length cells < 2 ^ 64 → is_name out ≡ true → EachReads s cells → FewPins cells → EachAt IsGate s (named k c out cells)
+unfolding EachAt
 AreGates-named k c s out [] short small name reads few = tt
-AreGates-named k c s out (cell ∷ []) short small name (reads, _) (few, _) = (IsGate-cell s out cell name reads few, tt)
+AreGates-named k c s out (cell ∷ []) short small name (reads, _) (few, _) = (reads_gate s out cell name reads few, tt)
 AreGates-named k c s out (cell ∷ next ∷ cells) short small name (reads, more) (few, fews) = (
-  IsGate-cell s (inner k (103 ∷ decimal (suc c))) cell (inner_named k 103 (suc c) short (omega arith, omega arith) (omega (arith, small))) reads few,
+  reads_gate s (inner k (103 ∷ decimal (suc c))) cell (inner_named k 103 (suc c) short (omega arith, omega arith) (omega (arith, small))) reads few,
   AreGates-named k (suc c) (suc s) out (next ∷ cells) short (omega (arith, small)) name more fews,
 )
 
-pub AreGates-inverters : (k s : ℕ) (js : List ℕ) → k ≤ SOURCE_NAME_BYTES + 1 → s + length js < 2 ^ 63 → AllByRecursion (λ j. j < s) js → AreGates s (inverters k js)
-unfolding AreGates
+pub AreGates-inverters : (k s : ℕ) (js : List ℕ) → k ≤ SOURCE_NAME_BYTES + 1 → s + length js < 2 ^ 63 → AllByRecursion (λ j. j < s) js → EachAt IsGate s (inverters k js)
+unfolding EachAt
 AreGates-inverters k s [] short small h = tt
 AreGates-inverters k s (j ∷ js) short small (h, hs) = (
   IsGate-inverter s (inner k (105 ∷ decimal (suc j))) j (inner_named k 105 (suc j) short (omega arith, omega arith) (omega (arith, h, small))) h,
@@ -224,16 +209,16 @@ AreGates-inverters k s (j ∷ js) short small (h, hs) = (
 
 -- ---- all gates
 
-pub AreGates-outputs : (k : ℕ) (w : Wires) (s c : ℕ) (sums : List Summands) (outs : List (List ℕ)) → k ≤ SOURCE_NAME_BYTES + 1 → w.inputs ≤ NET_LINES → first_gate w ≤ s → c + most_gates sums < 2 ^ 63 → AllByRecursion (λ o. is_name o ≡ true) outs → AllByRecursion (Ready w) sums → AllByRecursion (IsWithin w.inputs) sums
-    → AreGates s (output_gates k w s c sums outs)
-unfolding AreGates
+pub AreGates-outputs : (k : ℕ) (w : Wires) (s c : ℕ) (sums : List Summands) (outs : List (List ℕ)) → k ≤ SOURCE_NAME_BYTES + 1 → w.inputs ≤ SOURCE_LINES → first_gate w ≤ s → c + most_gates sums < 2 ^ 63 → AllByRecursion (λ o. is_name o ≡ true) outs → AllByRecursion (Ready w) sums → AllByRecursion (IsWithin w.inputs) sums
+    → EachAt IsGate s (output_gates k w s c sums outs)
+unfolding EachAt
 AreGates-outputs k w s c [] outs short few low small names ready within = tt
 AreGates-outputs k w s c (sum ∷ sums) [] short few low small names ready within = tt
 AreGates-outputs k w s c (sum ∷ sums) (out ∷ outs) short few low small (name, names) (ready, more) (within, withins) =
     let cells = output_cells w s sum in
     let bound = output_bound w s sum in
     let z : s + length (named k c out cells) ≡ s + length cells = ap (λ n. s + n) (length-named k c out cells) in
-    AreGates-append s (named k c out cells) (output_gates k w (s + length cells) (c + (length cells - 1)) sums outs)
+    EachAt-join IsGate s (named k c out cells) (output_gates k w (s + length cells) (c + (length cells - 1)) sums outs)
     (AreGates-named k c s out cells short (omega (arith, small, bound)) name (output_reads w s sum low ready.wired) (output_few w w.inputs s sum few within))
     (rw z (AreGates-outputs k w (s + length cells) (c + (length cells - 1)) sums outs short few (omega (arith, low)) (omega (arith, small, bound)) names more withins))
 

@@ -13,10 +13,11 @@ use Rattle.ae_base.proofs.Members.{members-has}
 use Rattle.ae_base.proofs.Sets.{has-either}
 use Rattle.ae_base.proofs.Truth.{same_truth, differ-assoc, differ-false, not_both}
 use Rattle.ae_net.specs.Run.{value_of}
-use Rattle.factor.specs.declared.cells.Cell.{Cell}
-use Rattle.factor.specs.declared.cells.Cell.TheVariants.{Zero, One, Inverter, Buffer, And, Exor, Or}
-use Rattle.factor.specs.declared.cells.Factor.{Factor}
-use Rattle.factor.specs.declared.cells.Wires.{Wires}
+use Rattle.ae_net.proofs.Tables.{cell_value}
+use Rattle.ae_net.specs.declared.gates.Cell.{Cell}
+use Rattle.ae_net.specs.declared.gates.Cell.TheVariants.{Inverter, And}
+use Rattle.factor.specs.declared.parts.Factor.{Factor}
+use Rattle.factor.specs.declared.parts.Wires.{Wires}
 use Rattle.factor.specs.declared.literals.Literal.{Literal}
 use Rattle.factor.specs.Cells.{Part, Parts, literal_signal, literal_signals, product_of, are_excluded, join, joins, last_of, chain_of, closing, turned_by, parts, sum_part}
 use Rattle.factor.specs.Literals.{stands}
@@ -28,16 +29,6 @@ use Rattle.factor.proofs.Standing.{lit, literal_value, literal_holds, holds_lite
 use Rattle.factor.proofs.Wired.{EachFactor, Wired, Ready}
 
 -- ---- gates
-
--- the value of a gate where the signals have these values
-abbrev pub cell_value : List Bool → Cell → Bool
-cell_value v Zero = false
-cell_value v One = true
-cell_value v (Inverter a) = not (value_of v a)
-cell_value v (Buffer a) = value_of v a
-cell_value v (And pins) = list_all (λ s. value_of v s) pins
-cell_value v (Exor a b) = differ (value_of v a) (value_of v b)
-cell_value v (Or a b) = value_of v a || value_of v b
 
 -- each gate of the list, the first of which has the signal s, has its value
 abbrev pub EachCell : List Bool → ℕ → List Cell → Type 0

@@ -8,7 +8,7 @@ use Rattle.ae_base.specs.Mask.{has}
 use Rattle.ae_base.specs.Cube.{Product, IsOver, IsProduct, whole}
 use Rattle.ae_base.proofs.Elements.{any_kept, any_range}
 use Rattle.esop.specs.Esop.{Cubes}
-use Rattle.factor.specs.declared.cells.Wires.{Wires}
+use Rattle.factor.specs.declared.parts.Wires.{Wires}
 use Rattle.factor.specs.declared.literals.Literal.{Literal}
 use Rattle.factor.specs.Factored.{is_turned, wires, AreSums}
 use Rattle.factor.specs.Literals.{stands, is_empty, with_literal, holding, others}

@@ -1,40 +1,14 @@
 -- The gates of a sum, before they have names.
-use Rattle.std.specs.Prelude.{ℕ, suc, ◌+◌, ◌-◌, ◌==◌, Bool, true, not, if◌then◌else◌, List, [], ◌∷◌, ◌++◌, length, map, slice_index}
+use Rattle.std.specs.Prelude.{ℕ, suc, ◌+◌, ◌-◌, ◌==◌, Bool, not, if◌then◌else◌, List, [], ◌∷◌, ◌++◌, length, map, slice_index}
 use Rattle.std.specs.List.{list_all, position_or_len}
-use Rattle.ae_base.specs.Mask.{has, empty, first, with, either, members}
-use Rattle.ae_base.specs.Cube.{Product, meet, whole}
-use Rattle.ae_net.specs.declared.net.Gate.{Gate}
-use Rattle.factor.specs.declared.cells.Cell.{Cell}
-use Rattle.factor.specs.declared.cells.Cell.TheVariants.{Zero, One, Inverter, Buffer, And, Exor, Or}
-use Rattle.factor.specs.declared.cells.Factor.{Factor}
-use Rattle.factor.specs.declared.cells.Wires.{Wires}
+use Rattle.ae_base.specs.Mask.{has, either, members}
+use Rattle.ae_base.specs.Cube.{Product, meet}
+use Rattle.ae_net.specs.declared.gates.Cell.{Cell}
+use Rattle.ae_net.specs.declared.gates.Cell.TheVariants.{Zero, One, Inverter, Buffer, And, Exor, Or}
+use Rattle.factor.specs.declared.parts.Factor.{Factor}
+use Rattle.factor.specs.declared.parts.Wires.{Wires}
 use Rattle.factor.specs.Sums.{Summands, has_constant}
 use Rattle.factor.specs.Sums.Summands.{end, literals, factored}
-
--- ---- gates by what they compute
-
-abbrev pub pins_of : Cell → List ℕ
-pins_of Zero = []
-pins_of One = []
-pins_of (Inverter a) = a ∷ []
-pins_of (Buffer a) = a ∷ []
-pins_of (And pins) = pins
-pins_of (Exor a b) = a ∷ b ∷ []
-pins_of (Or a b) = a ∷ b ∷ []
-
--- no row; the row of no literals; `0`; `1`; only `1`; `10` and `01`; `1-` and `-1`
-abbrev pub rows_of : Cell → List Product
-rows_of Zero = []
-rows_of One = whole ∷ []
-rows_of (Inverter a) = record { pos = empty; neg = with empty 0 } ∷ []
-rows_of (Buffer a) = record { pos = with empty 0; neg = empty } ∷ []
-rows_of (And pins) = record { pos = first (length pins); neg = empty } ∷ []
-rows_of (Exor a b) = record { pos = with empty 0; neg = with empty 1 } ∷ record { pos = with empty 1; neg = with empty 0 } ∷ []
-rows_of (Or a b) = record { pos = with empty 0; neg = empty } ∷ record { pos = with empty 1; neg = empty } ∷ []
-
--- the gate of this name
-abbrev pub gate_of : List ℕ → Cell → Gate
-gate_of out cell = record { out = out; pins = pins_of cell; rows = rows_of cell; on = true }
 
 -- ---- literals
 

@@ -5,14 +5,14 @@ use Rattle.std.specs.Fmt.{decimal}
 use Rattle.ae_base.specs.Mask.{has}
 use Rattle.ae_base.specs.Cube.{Product}
 use Rattle.ae_net.specs.declared.net.Gate.{Gate}
-use Rattle.ae_net.specs.Gates.{inverter}
 use Rattle.ae_net.specs.Lead.{lead}
 use Rattle.ae_net.specs.Names.{Names, inner}
 use Rattle.ae_net.specs.Network.{Network}
 use Rattle.esop.specs.Esop.{Cubes}
-use Rattle.factor.specs.declared.cells.Cell.{Cell}
-use Rattle.factor.specs.declared.cells.Wires.{Wires}
-use Rattle.factor.specs.Cells.{gate_of, output_cells}
+use Rattle.ae_net.specs.declared.gates.Cell.{Cell}
+use Rattle.factor.specs.declared.parts.Wires.{Wires}
+use Rattle.ae_net.specs.Gates.{inverter, gate_of}
+use Rattle.factor.specs.Cells.{output_cells}
 use Rattle.factor.specs.Sums.{Summands, IsSum}
 
 -- the complemented literal of the input stands in some cube

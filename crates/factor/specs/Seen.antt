@@ -1,8 +1,8 @@
 -- A sum of the program as its summands, without the places in memory. For private contracts alone.
 use Rattle.std.specs.Prelude.{◌≡◌, ℕ, ◌<◌, ◌≤◌, true, if◌then◌else◌, List, [], ◌∷◌, length}
-use Rattle.ae_base.specs.declared.limits.TheConstants.{NET_LINES}
+use Rattle.ae_base.specs.declared.limits.TheConstants.{SOURCE_LINES}
 use Rattle.ae_base.specs.Cube.{Product, whole}
-use Rattle.factor.specs.declared.cells.Wires.{Wires}
+use Rattle.factor.specs.declared.parts.Wires.{Wires}
 use Rattle.factor.specs.declared.sums.Sum.{Sum, End, Literals', Factored'}
 use Rattle.factor.specs.declared.literals.Literal.{Literal}
 use Rattle.factor.specs.Literals.{stands, is_empty}
@@ -41,5 +41,5 @@ IsWithin n s = EachLiteral (λ t. t.input < n) s
 
 -- few enough inputs and inverters
 pub record AreWires (wires : Wires) : Type 0 where
-  pub few_inputs : wires.inputs ≤ NET_LINES
-  pub few_turned : length wires.turned ≤ NET_LINES
+  pub few_inputs : wires.inputs ≤ SOURCE_LINES
+  pub few_turned : length wires.turned ≤ SOURCE_LINES

@@ -7,9 +7,10 @@ use Rattle.ae_net.specs.Implements.{port_names}
 use Rattle.ae_net.specs.Names.{Names, IsNames}
 use Rattle.ae_net.specs.Network.{Network}
 use Rattle.ae_net.specs.Run.{Shows}
-use Rattle.esop.specs.Esop.{Cubes, IsCubes, esop_value}
+use Rattle.esop.specs.Esop.{Cubes, esop_value}
+use Rattle.esop.specs.Kept.{IsCubes}
 use Rattle.esop.specs.Settled.{AreSettled}
-use Rattle.factor.specs.declared.limits.TheConstants.{FACTORED_CUBES}
+use Rattle.ae_base.specs.declared.limits.TheConstants.{FACTORED_CUBES}
 
 -- one list of cubes for each output name, over as many inputs as there are input names
 pub record Fits (names : Names) (e : Cubes) : Type 0 where

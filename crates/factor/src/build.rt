@@ -13,13 +13,12 @@ ghost use Rattle.factor.specs.Plan.{IsPlan, sums_of};
 ghost use Rattle.factor.specs.Seen.{seen};
 ghost use Rattle.factor.specs.Shows.{Fits, CanBuild, ShowsEsop, cube_count, exor_count};
 
-use crate::cells::Wires;
 use crate::laws::factored_law;
-use crate::limits::FACTORED_CUBES;
-use crate::outputs::{Plan, inverters, push_outputs};
+use crate::outputs::{Plan, push_inverters, push_outputs};
+use crate::parts::Wires;
 use crate::sums::{Sum, sum_of};
-use ae_base::{Cube, Memory, SOURCE_NAME_BYTES, Seq, WIDTH, copies};
-use ae_net::{Gate, Net, NetNames, Sig, lead};
+use ae_base::{Cube, FACTORED_CUBES, Memory, SOURCE_NAME_BYTES, Seq, WIDTH, copies};
+use ae_net::{Net, NetBuilder, NetNames, lead, names_law};
 use esop::Esop;
 use std::alloc::Global;
 
@@ -85,26 +84,6 @@ fn plan(alloc: Global, lead: u32, e: &Esop) -> Result<Plan, Memory>
     Ok(Plan { lead, wires, sums })
 }
 
-/// The network of these gates and ports, with the names of a source.
-fn finish(
-    alloc: Global,
-    names: &NetNames,
-    outputs: Seq<Sig>,
-    gates: Seq<Gate>,
-) -> Result<Net, Memory>
-    requires { IsValid (record { model = names.now.model; inputs = names.now.inputs; outputs = outputs; gates = gates }) }
-    ensures { IfOk result (λ net. net ≡ record { model = names.now.model; inputs = names.now.inputs; outputs = outputs; gates = gates }) }
-{
-    let model = names.model().copy(alloc)?;
-    let inputs = copies(alloc, names.inputs())?;
-    Ok(Net {
-        model,
-        inputs,
-        outputs,
-        gates,
-    })
-}
-
 /// The network of the plan's sums.
 fn network(alloc: Global, plan: &Plan, names: &NetNames, e: &Esop) -> Result<Net, Memory>
     requires can { CanBuild names.now e.now }
@@ -113,9 +92,12 @@ fn network(alloc: Global, plan: &Plan, names: &NetNames, e: &Esop) -> Result<Net
     requires sums { AreSums e.now.outs (sums_of plan.now) }
     ensures { IfOk result (λ net. net ≡ network_of plan.now.lead names.now plan.now.wires (sums_of plan.now)) }
 {
-    let mut gates = inverters(alloc, plan.lead, plan.wires.turned.as_slice())?;
-    let outputs = push_outputs(alloc, plan, names.outputs(), &mut gates)?;
-    finish(alloc, names, outputs, gates)
+    names_law();
+    let model = names.model().copy(alloc)?;
+    let mut net = NetBuilder::new(alloc, copies(alloc, names.inputs())?);
+    push_inverters(alloc, plan.lead, plan.wires.turned.as_slice(), &mut net)?;
+    let outputs = push_outputs(alloc, plan, names.outputs(), &mut net)?;
+    Ok(net.finish(model, outputs))
 }
 
 /// What is to be known of names and cubes to build their network: the rest of it their types say.

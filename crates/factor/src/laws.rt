@@ -15,6 +15,8 @@ ghost use Rattle.factor.specs.Factored.{HasFactoredForm};
 ghost use Rattle.factor.specs.Shows.{CanBuild, ShowsEsop, HasNames, cube_count, exor_count};
 ghost use Rattle.factor.specs.Sums.{Summands, IsSum, FactorsDiffer, sum_value};
 
+use ae_net::names_law;
+
 /// A network of factored form is valid, and there is one for an ESOP. Its outputs show the values of their cubes, it has no more EXOR
 /// gates than the ESOP has cubes, and it has the names of the source.
 pub fn factored_law()
@@ -23,7 +25,9 @@ pub fn factored_law()
     ensures few_exors { (names : Names) (e : Cubes) (net : Network) → HasFactoredForm names e net → exor_count net ≤ cube_count e }
     ensures names { (names : Names) (e : Cubes) (net : Network) → CanBuild names e → HasFactoredForm names e net → HasNames names net }
     ensures only { (names : Names) (e : Cubes) (net other : Network) → HasFactoredForm names e net → HasFactoredForm names e other → net ≡ other }
-{}
+{
+    names_law();
+}
 
 /// There is one sum of a list of cubes. No literal is a direct factor of two of its summands. Where the list is settled, the sum has its
 /// value.

@@ -2,9 +2,7 @@
 #![tactic(auto)]
 
 mod build;
-mod cells;
 mod laws;
-mod limits;
 mod literals;
 mod outputs;
 mod parts;
@@ -12,4 +10,3 @@ mod sums;
 
 pub use build::factored;
 pub use laws::{count_law, factored_law, sum_law};
-pub use limits::FACTORED_CUBES;

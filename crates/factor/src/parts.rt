@@ -2,17 +2,30 @@
 ghost use Rattle.std.specs.Prelude.{◌≡◌, true, ◌<◌, ◌≤◌, ◌+◌, ◌*◌, ◌^◌, ◌++◌, ◌∷◌, [], length, IfOk, OnOk};
 ghost use Rattle.std.specs.Prelude.{◌==◌};
 ghost use Rattle.std.specs.List.{position_or_len};
-ghost use Rattle.ae_base.specs.declared.limits.TheConstants.{NET_LINES};
+ghost use Rattle.ae_base.specs.declared.limits.TheConstants.{SOURCE_LINES};
 ghost use Rattle.factor.specs.Cells as spec;
-ghost use Rattle.factor.specs.declared.cells.Cell.TheVariants.{And as spec_and};
+ghost use Rattle.ae_net.specs.declared.gates.Cell.TheVariants.{And as spec_and};
 ghost use Rattle.factor.specs.Seen.{seen, AreWires, IsWithin};
 ghost use Rattle.factor.specs.Sums as sum_spec;
 
-use crate::cells::{Cell, Factor, Wires};
 use crate::sums::{Sum, has_constant};
-use ae_base::{Cube, Memory};
-use ae_net::{Pins, Sig};
+use ae_base::{Cube, Memory, Seq};
+use ae_net::{Cell, Pins, Sig};
 use std::alloc::Global;
+
+/// The inputs, and those of them that have an inverter, in order.
+#[derive(Drop)]
+pub struct Wires {
+    pub inputs: u32,
+    pub turned: Seq<u32>,
+}
+
+/// A summand: the literals that are its direct factors, and its signal.
+#[derive(Drop)]
+struct Factor {
+    literals: Cube,
+    signal: Sig,
+}
 
 /// Adds a gate, and answers its signal. The first of the gates has the signal `first`.
 fn push(first: Sig, cell: Cell, cells: &mut Vec<Cell>) -> Result<Sig, Memory>

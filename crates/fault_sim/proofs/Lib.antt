@@ -1,1 +1,5 @@
+pub mod Cones
+pub mod RowLanes
+pub mod Searches
 pub mod Simulated
+pub mod WordLanes

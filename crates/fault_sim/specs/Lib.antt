@@ -1,1 +1,3 @@
 pub mod Answers
+pub mod Bench
+pub mod Lanes

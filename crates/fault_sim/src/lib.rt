@@ -1,8 +1,13 @@
 //! Fault simulation: the responses of a network, and the first vector that detects each stuck-at fault.
 #![tactic(auto)]
 
+mod cone;
 mod laws;
+mod pass;
+mod search;
 mod simulation;
+mod table;
+mod words;
 
 pub use laws::detects_law;
 pub use simulation::{first_telling, responses};

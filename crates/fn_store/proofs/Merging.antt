@@ -5,7 +5,7 @@ use Rattle.std.proofs.Math.ListN.{drop_of_length-le}
 use Rattle.ae_base.specs.Mask.{Set, differ, cmp_terms}
 use Rattle.ae_base.specs.Terms.{exor_of, IsInOrder}
 use Rattle.ae_base.proofs.Order.{less_trans}
-use Rattle.ae_base.proofs.Truth.{differ-assoc, differ-front, differ-same}
+use Rattle.ae_base.proofs.Truth.{differ-assoc, differ-front, differ-cancel}
 use Rattle.fn_store.specs.Scratch.{IsReduced}
 use Rattle.ae_base.proofs.Exor.{exor_of-append}
 use Rattle.ae_base.proofs.InOrder.{Ordered, After, Ordered-from, from_Ordered}
@@ -93,10 +93,6 @@ Merged-right a b both more i j s t in_a in_b at_a at_b less e now =
           ∙ now.same h;
     }
 
--- equal values cancel
-cancel : (b c d : Bool) → differ c d ≡ differ (differ b c) (differ b d)
-cancel b c d = ap (λ v. differ v d) (sym (ap (λ v. differ v c) (differ-same b)) ∙ differ-assoc b b c) ∙ differ-assoc b (differ b c) d ∙ differ-front b (differ b c) d
-
 pub Merged-both : (a b both : List Set) (i j : ℕ) (s t : Set) → i < length a → j < length b → s ≡ get_or a i s → t ≡ get_or b j t → s ≡ t → Merged a b i j both → Merged a b (i + 1) (j + 1) both
 Merged-both a b both i j s t in_a in_b at_a at_b e now =
     let d = rest_at a i s in_a at_a in
@@ -108,7 +104,7 @@ Merged-both a b both i j s t in_a in_b at_a at_b e now =
       left = λ p q. skip both s (drop (i + 1) a) (subst (λ us. Ordered (both ++ us)) d (now.left p q));
       right = λ p q. skip both t (drop (j + 1) b) (subst (λ us. Ordered (both ++ us)) f (now.right p q));
       same = λ h.
-          cancel (h s) (exor_of h (both ++ drop (i + 1) a)) (exor_of h (drop (j + 1) b))
+          sym (differ-cancel (h s) (exor_of h (both ++ drop (i + 1) a)) (exor_of h (drop (j + 1) b)))
           ∙ ap₂ differ (sym (exor_of-front h both s (drop (i + 1) a)) ∙ ap (λ us. exor_of h (both ++ us)) (sym d)) (ap (λ u. differ (h u) (exor_of h (drop (j + 1) b))) e ∙ ap (exor_of h) (sym f))
           ∙ now.same h;
     }

@@ -10,12 +10,12 @@ use Rattle.ae_base.specs.Cube.{Signs}
 use Rattle.ae_base.specs.Terms.{IsInOrder, literal, product, exor_of, value}
 use Rattle.ae_base.proofs.Sets.{has-empty, has-either, inside-has, has-inside, inside-from}
 use Rattle.ae_base.proofs.Truth.{same_truth, differ-false, and-differ}
+use Rattle.ae_base.proofs.Points.{inside-put}
 use Rattle.ae_base.proofs.InOrder.{from_Ordered}
 use Rattle.ae_base.proofs.Exor.{exor_of-append}
 use Rattle.ae_base.proofs.Literals.{product-with, product-empty, product-literals, literals-product}
 use Rattle.fn_store.specs.Davio.{IsExpansion}
 use Rattle.fn_store.specs.Scratch.{IsReduced, Means}
-use Rattle.fn_store.proofs.Products.{inside-put}
 use Rattle.fn_store.proofs.Expansions.{terms_inside, means}
 use Rattle.fn_store.proofs.Means.{Means-agree, Means-exor, IsExpansion-means}
 use Rattle.fn_store.proofs.Shown.{IsExpansion-agree}

@@ -4,7 +4,8 @@ ghost use Rattle.std.specs.List.{list_any, range_with_len};
 ghost use Rattle.ae_base.specs.Mask.{Set, has, first, inside};
 ghost use Rattle.ae_base.specs.Cube.{Signs};
 ghost use Rattle.ae_base.specs.Terms.{IsPoint, IsInOrder, value};
-ghost use Rattle.fn_store.specs.Davio.{IsExpansion, DependsOn, coefficient};
+ghost use Rattle.fn_store.specs.Davio.{IsExpansion, coefficient};
+ghost use Rattle.fn_store.specs.Uses.{DependsOn};
 ghost use Rattle.fn_store.specs.Functions.{Functions, Shows, Keeps, AgreeAt};
 ghost use Rattle.fn_store.specs.declared.store.FnRef.{FnRef};
 

@@ -14,7 +14,7 @@ use Rattle.ae_base.specs.Cube.{Signs}
 use Rattle.ae_base.specs.Terms.{IsPoint, exor_of}
 use Rattle.ae_base.specs.Lists.{without_repeats}
 use Rattle.ae_base.proofs.Members.{members-has}
-use Rattle.ae_base.proofs.Sets.{has-xor, has-either, inside-below, inside-from, inside-above}
+use Rattle.ae_base.proofs.Sets.{has-xor, has-either, inside-below, inside-from, inside-above, has-where_below}
 use Rattle.ae_base.proofs.Truth.{differ-assoc, differ-false}
 use Rattle.ae_base.proofs.Distinct.{AllPairs-from_Distinct, each-append}
 use Rattle.ae_base.proofs.Exor.{odd_count}
@@ -22,8 +22,8 @@ use Rattle.ae_base.proofs.Elements.{each_member, any_flat}
 use Rattle.ae_base.proofs.Once.{add_last, added, each_once, once_apart}
 use Rattle.ae_net.specs.Valid.{IsDistinct}
 use Rattle.expansion.specs.Even.{even_inputs}
-use Rattle.expansion.specs.Terms.{Terms, IsTerms, used_inputs}
-use Rattle.expansion.proofs.Even.{has-even}
+use Rattle.expansion.specs.Terms.{Terms, used_inputs}
+use Rattle.expansion.specs.Kept.{IsTerms}
 use Rattle.cascade.specs.FirstVectors.{literals_at}
 use Rattle.cascade.proofs.Found.{stands_inside}
 use Rattle.cascade.proofs.VectorLemmas.{has-literals_at}
@@ -60,7 +60,8 @@ one_more e js j now new is so =
     ∙ ap without_repeats (sym (flat_last (pair_of e) js j))
 
 pub even_below : (e : Terms) → inside (even_inputs e) (first e.polarity.n) ≡ true
-even_below e = inside-from e.polarity.n (even_inputs e) (λ k l. has-even e k ∙ rw (le-ltb k e.polarity.n l) refl)
+unfolding even_inputs
+even_below e = inside-from e.polarity.n (even_inputs e) (λ k l. has-where_below e.polarity.n _ k ∙ rw (le-ltb k e.polarity.n l) refl)
 
 pub all_so_far : (e : Terms) → so_far e (members (even_inputs e)) ≡ input_vectors_of e
 unfolding so_far input_vectors_of

@@ -18,9 +18,9 @@ use Rattle.ae_base.proofs.Truth.{differ-false, or-false, differ-not_right, other
 use Rattle.ae_base.proofs.Elements.{all_at, All-get, list_all_agree}
 use Rattle.ae_base.proofs.Exor.{exor_of_agree}
 use Rattle.ae_base.proofs.Literals.{literals-product, product_false}
+use Rattle.ae_base.proofs.Points.{has-flipped}
 use Rattle.ae_net.specs.Names.{Names}
 use Rattle.expansion.specs.Terms.{Terms, is_used, used_inputs}
-use Rattle.expansion.proofs.Even.{has-flipped}
 use Rattle.cascade.specs.FirstVectors.{literals_at}
 use Rattle.cascade.specs.Shows.{CanBuild}
 use Rattle.cascade.proofs.Found.{stands_inside}

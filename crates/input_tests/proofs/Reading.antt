@@ -16,7 +16,8 @@ use Rattle.ae_net.specs.Gates.{inverter, and_gate}
 use Rattle.ae_net.specs.Lead.{lead}
 use Rattle.ae_net.specs.Names.{Names, inner}
 use Rattle.expansion.specs.Terms.{Terms, is_used}
-use Rattle.cascade.specs.Reddy.{place_of, lines, gates_for, turned, literal_signal, inverters, has_one, control_gates, start, is_wide, wide_terms, and_place, chain_place, term_signal, and_gates, links, chain, rest, inner_gates, chains, ends, gates, reddy_net}
+use Rattle.cascade.specs.Reddy.{place_of, lines, gates_for, turned, literal_signal, inverters, has_one, control_gates, start, is_wide, wide_terms, and_place, chain_place, term_signal, and_gates, links, chain, rest, inner_gates, chains, ends, gates}
+use Rattle.cascade.specs.Shows.{reddy_net}
 use Rattle.cascade.proofs.Found.{wide_found}
 use Rattle.cascade.proofs.Law.{Stands, used_since}
 use Rattle.universal_tests.proofs.Literals.{start_late}

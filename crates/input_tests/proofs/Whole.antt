@@ -1,22 +1,24 @@
 -- Every fault is detected, and the vectors are few.
-use Rattle.std.proofs.Common.{◌≡◌, ◌⊎◌, ℕ, ◌-◌, ◌*◌, ◌<◌, ◌≤◌, Bool, true, false, not, inl, inr, List, [], ◌∷◌, ◌++◌, length, get_or, refl, sym, ap, ◌∙◌, subst, arith, eqb, eqb-true, eq-eqb, length-append}
+use Rattle.std.proofs.Common.{◌≡◌, ◌⊎◌, ℕ, ◌-◌, ◌*◌, ◌<◌, ◌≤◌, Bool, true, false, not, ◌&&◌, inl, inr, List, [], ◌∷◌, ◌++◌, length, get_or, refl, sym, ap, ◌∙◌, subst, arith, eqb, eqb-true, eq-eqb, length-append}
 use Rattle.std.specs.Prelude.{Contains, Option, Some, None}
 use Rattle.std.specs.List.{flat_map, list_any}
-use Rattle.std.proofs.lemmas.Bool.{cases_Bool, cases_lt, false≢true, lt-ltb, or_cases, or_left, or_right}
+use Rattle.std.proofs.lemmas.Bool.{and_from, cases_Bool, cases_lt, false≢true, lt-ltb, or_cases, or_left, or_right}
 use Rattle.std.proofs.lemmas.List.Elements.{Contains-append_left}
 use Rattle.std.proofs.lemmas.List.Folds.{list_any-append}
 use Rattle.ae_base.specs.Mask.{Set, has, len, members}
 use Rattle.ae_base.proofs.Members.{len-members, members-has}
 use Rattle.ae_base.proofs.Elements.{any_kept, length_filter_le, Contains-from_any}
 use Rattle.ae_base.proofs.Once.{length_once_le, unrepeated_has}
+use Rattle.ae_base.proofs.Sets.{has-where_below}
 use Rattle.ae_net.specs.declared.net.Place.{Place}
 use Rattle.ae_net.specs.declared.net.Place.TheVariants.{Stem, Pin, Port}
 use Rattle.ae_net.specs.Faults.{IsPlace, is_read}
 use Rattle.ae_net.specs.Names.{Names}
-use Rattle.expansion.specs.Even.{is_odd, even_inputs}
+use Rattle.expansion.specs.Counts.{is_odd}
+use Rattle.expansion.specs.Even.{even_inputs}
 use Rattle.expansion.specs.Terms.{Terms, is_used, used_inputs}
-use Rattle.cascade.specs.Reddy.{lines, turned, reddy_net}
-use Rattle.cascade.specs.Shows.{CanBuild}
+use Rattle.cascade.specs.Reddy.{lines, turned}
+use Rattle.cascade.specs.Shows.{CanBuild, reddy_net}
 use Rattle.universal_tests.specs.Sites.{IsInverterOf, IsOfLiteral, IsDetected}
 use Rattle.universal_tests.specs.Universal.{universal_vectors}
 use Rattle.universal_tests.proofs.CodeLemmas.{universal_few}
@@ -27,7 +29,6 @@ use Rattle.universal_tests.proofs.Whole.{inverts, detects}
 use Rattle.input_tests.specs.Inputs.{first_term, term_high, term_but, pair_at, input_vectors_of}
 use Rattle.input_tests.specs.Complete.{DetectsAll}
 use Rattle.input_tests.specs.Whole.{new_ones, cascade_tests, vector_bound}
-use Rattle.expansion.proofs.Even.{has-even}
 use Rattle.input_tests.proofs.FirstTerm.{FirstAt, pair, at, own, tells}
 use Rattle.input_tests.proofs.Reading.{read_used}
 
@@ -63,7 +64,11 @@ pair_in e j even t first b =
 
 -- ---- every fault
 
-module _ (names : Names) (e : Terms) (can : CanBuild names e) where
+used_member : (e : Terms) (j : ℕ) → j < e.polarity.n → is_used e j ≡ true → has (used_inputs e) j ≡ true
+unfolding used_inputs
+used_member e j l used = has-where_below e.polarity.n (is_used e) j ∙ and_from _ _ (lt-ltb j e.polarity.n l) used
+
+module _ (names : Names) (e : Terms) (can : CanBuild names e) (counted : (j : ℕ) → has (even_inputs e) j ≡ (has (used_inputs e) j && not (is_odd e j))) where
   abbrev Of : Place → Type 0
   Of place = (j : ℕ) × (j < e.polarity.n) × IsOfLiteral (reddy_net names e) j place
 
@@ -116,7 +121,7 @@ module _ (names : Names) (e : Terms) (can : CanBuild names e) where
               let used = site_used j l place h of in
               let first : FirstAt j e.outs = at names e can j used in
               let r = pair_detects names e can j l first.o first.ts (own names e can j used) (tells names e can j used) place u h of in
-              let is : has (even_inputs e) j ≡ true = has-even e j ∙ rw (lt-ltb j e.polarity.n l, used, even) refl in
+              let is : has (even_inputs e) j ≡ true = counted j ∙ and_from _ _ (used_member e j l used) (ap not even) in
               (own names e can j used r.0, pair_in e j is _ ((at names e can j used).overall) r.0, r.1)
         ]
       ]
@@ -124,8 +129,8 @@ module _ (names : Names) (e : Terms) (can : CanBuild names e) where
       wider : IsDetected (reddy_net names e) (universal_vectors e.polarity (used_inputs e)) (record { place = place; value = u }) → IsDetected (reddy_net names e) (cascade_tests e) (record { place = place; value = u })
       wider (x, there, shows) = (x, universal_in e x there, shows)
 
-pub detects_all : (names : Names) (e : Terms) → CanBuild names e → DetectsAll (reddy_net names e) (cascade_tests e)
-detects_all names e can fault h = all_told names e can fault.place fault.value h
+  pub detects_all : DetectsAll (reddy_net names e) (cascade_tests e)
+  detects_all fault h = all_told fault.place fault.value h
 
 -- ---- how many there are
 

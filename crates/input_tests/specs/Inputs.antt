@@ -2,9 +2,10 @@
 -- project's own, after S. M. Reddy, "Easily Testable Realizations for Logic Functions", 1972.
 use Rattle.std.specs.Prelude.{ℕ, false, Option, Some, None, List, [], ◌∷◌}
 use Rattle.std.specs.List.{find, flat_map}
-use Rattle.ae_base.specs.Mask.{Set, has, empty, with, xor, members}
+use Rattle.ae_base.specs.Mask.{Set, has, xor, members}
 use Rattle.ae_base.specs.Cube.{Signs}
 use Rattle.ae_base.specs.Lists.{without_repeats}
+use Rattle.ae_base.specs.Points.{flipped}
 use Rattle.expansion.specs.Even.{even_inputs}
 use Rattle.expansion.specs.Terms.{Terms, used_inputs}
 use Rattle.cascade.specs.FirstVectors.{literals_at}
@@ -19,7 +20,7 @@ term_high p used t = xor (literals_at p used false) t
 
 -- the same with the literal of input j at 0
 unfoldable pub term_but : Signs → Set → ℕ → Set → Set
-term_but p used j t = xor (term_high p used t) (with empty j)
+term_but p used j t = flipped j (term_high p used t)
 
 abbrev pub pair_at : Signs → Set → ℕ → Option Set → List Set
 pair_at p used j None = []

@@ -7,10 +7,11 @@ ghost use Rattle.ae_base.specs.Terms.{IsPoint};
 ghost use Rattle.ae_net.specs.Names.{Names};
 ghost use Rattle.ae_net.specs.Valid.{IsDistinct};
 ghost use Rattle.cascade.specs.FirstVectors.{literals_at};
-ghost use Rattle.cascade.specs.Reddy.{reddy_net};
-ghost use Rattle.cascade.specs.Shows.{CanBuild};
-ghost use Rattle.expansion.specs.Even.{is_odd, even_inputs};
-ghost use Rattle.expansion.specs.Terms.{IsTerms, used_inputs};
+ghost use Rattle.cascade.specs.Shows.{CanBuild, reddy_net};
+ghost use Rattle.expansion.specs.Counts.{is_odd};
+ghost use Rattle.expansion.specs.Even.{even_inputs};
+ghost use Rattle.expansion.specs.Terms.{used_inputs};
+ghost use Rattle.expansion.specs.Kept.{IsTerms};
 ghost use Rattle.input_tests.specs.Added.{all_added};
 ghost use Rattle.input_tests.specs.Complete.{DetectsAll};
 ghost use Rattle.input_tests.specs.Inputs as spec;
@@ -21,7 +22,7 @@ ghost use Rattle.universal_tests.specs.Universal.{universal_vectors};
 use crate::laws::input_law;
 use ae_base::{Mask, Memory, Point, Term, push_new};
 use cascade::literals_high;
-use expansion::{Expansion, used_inputs};
+use expansion::{Expansion, even_law, used_inputs};
 use std::alloc::Global;
 
 /// The first of the terms that holds the input.
@@ -71,6 +72,7 @@ fn even_inputs(e: &Expansion) -> Mask
     ensures even { result ≡ even_inputs e.now }
     ensures valid { IsTerms e.now }
 {
+    even_law();
     let used = used_inputs(e);
     used.xor(used.both(odd_inputs(e)))
 }

@@ -1,36 +1,37 @@
 -- References for the signals of a network with a fault, of those without it.
-use Rattle.std.proofs.Common.{◌≡◌, ℕ, zero, suc, ◌+◌, ◌<◌, Bool, true, false, cond, inl, inr, List, length, refl, sym, ap, ap₂, ◌∙◌, subst, arith}
+use Rattle.std.proofs.Common.{◌≡◌, ℕ, ◌+◌, ◌<◌, Bool, true, false, inl, inr, List, length, refl, sym, ap, ◌∙◌, subst, arith}
 use Rattle.std.specs.Prelude.{◌↔◌, Option, Some, None, slice_get, slice_index}
 use Rattle.std.proofs.lemmas.Bool.{cases_eq, true≢false}
 use Rattle.std.proofs.lemmas.Option.{slice_get-get_or}
-use Rattle.ae_base.specs.Mask.{Set, has, with, where_below}
+use Rattle.ae_base.specs.Mask.{Set, has}
+use Rattle.ae_base.proofs.Below.{where_below_agree}
 use Rattle.ae_net.specs.declared.net.Gate.{Gate}
 use Rattle.ae_net.specs.declared.net.Fault.{Fault}
 use Rattle.ae_net.specs.declared.net.Place.TheVariants.{Pin}
+use Rattle.ae_net.specs.Evaluation.{IsEvaluation, pin_seen}
 use Rattle.ae_net.specs.Network.{Network, signals, gate_at}
-use Rattle.ae_net.specs.Run.{IsRun, seen, table, ones_seen, value_of}
+use Rattle.ae_net.specs.Run.{seen, table}
 use Rattle.fn_store.specs.declared.store.FnRef.{FnRef}
 use Rattle.fn_store.specs.Functions.{Functions, Shows, Keeps, AgreeAt}
-use Rattle.net_fn.proofs.Kept.{Shows-same}
 use Rattle.net_fn.proofs.References.{AreLive-kept, ShowEach-kept}
 use Rattle.net_fn.specs.Refs.{ShowEach}
 use Rattle.net_fn.specs.Seen.{SeeAlike}
-use Rattle.net_fn.specs.Signals.{ShowSignals}
+use Rattle.net_fn.specs.Signals.{ShowSignals, truth_functions}
 
 pub ShowSignals-kept : (s t : Functions) (n : Network) (fault : Option Fault) (k : ℕ) (refs : List FnRef) → Keeps s t → ShowSignals s n fault k refs → ShowSignals t n fault k refs
 ShowSignals-kept s t n fault k refs keeps shown = record {
   count = shown.count;
   live = AreLive-kept s t refs keeps shown.live;
-  shows = λ w runs. ShowEach-kept s t refs (λ s x. value_of (w x) s) keeps (shown.shows w runs);
+  shows = λ fs is. ShowEach-kept s t refs fs keeps (shown.shows fs is);
 }
 
 pub Keeps-itself : (s : Functions) → Keeps s s
 Keeps-itself s = record { polarity = refl; live = λ r h. h; terms = λ r h. refl }
 
 -- an input without a fault
-pub input-shown : (s : Functions) (n : Network) (good : List FnRef) (j : ℕ) (r : FnRef) (w : Set → List Bool) → ((x : Set) → IsRun n None x (w x)) → ShowSignals s n None (signals n) good → j < length n.inputs → slice_get good j ≡ Some r
+pub input-shown : (s : Functions) (n : Network) (good : List FnRef) (j : ℕ) (r : FnRef) (gs : ℕ → Set → Bool) → IsEvaluation (truth_functions None) n gs → ShowSignals s n None (signals n) good → j < length n.inputs → slice_get good j ≡ Some r
     → Shows s r (λ x. has x j)
-input-shown s n good j r w runs shown l at = Shows-same s r (λ x. value_of (w x) j) (λ x. has x j) (λ x. (runs x).inputs j l) ((shown.shows w runs).each j r at)
+input-shown s n good j r gs is shown l at = subst (Shows s r) (is.inputs j l) ((shown.shows gs is).each j r at)
 
 -- ---- pins that see the same
 
@@ -64,36 +65,32 @@ apart-at n fault i pins fs gs k same l e compared = (λ never. absurd (true≢fa
 
 -- ---- gates
 
-where_below_same : (n : ℕ) (p q : ℕ → Bool) → ((k : ℕ) → k < n → p k ≡ q k) → where_below n p ≡ where_below n q
-where_below_same zero p q h = refl
-where_below_same (suc n) p q h = ap₂ (λ b s. cond b (with s n) s) (h n (omega arith)) (where_below_same n p q (λ k l. h k (omega arith)))
+-- the function of the gate in place i under the fault, of those of the signals that its pins read
+abbrev pub next_function : Fault → (ℕ → Set → Bool) → ℕ → Gate → Set → Bool
+next_function fault fs i gate = (truth_functions (Some fault)).table gate (pin_seen (truth_functions (Some fault)) fs i gate)
 
 -- where each pin sees the same, the table has with the fault the value that the gate has without it
-pub gate-alike : (m : ℕ) (n : Network) (fault : Fault) (i : ℕ) (gate : Gate) (w v : Set → List Bool) → slice_get n.gates i ≡ Some gate → ((x : Set) → IsRun n None x (v x))
-    → SeeAlike m fault i gate.pins (λ s x. value_of (w x) s) (λ s x. value_of (v x) s)
-    → AgreeAt m (λ x. value_of (v x) (length n.inputs + i)) (λ x. table gate (ones_seen (Some fault) (w x) i gate))
-gate-alike m n fault i gate w v at runs alike x point =
-    (runs x).gates i gate at
-    ∙ ap (table gate) (where_below_same (length gate.pins) (λ k. value_of (v x) (slice_index gate.pins k)) (λ k. seen (Some fault) (Pin i k) (value_of (w x) (slice_index gate.pins k))) (λ k l. sym (alike k l x point)))
+gate-alike : (m : ℕ) (n : Network) (fault : Fault) (i : ℕ) (gate : Gate) (fs gs : ℕ → Set → Bool) → slice_get n.gates i ≡ Some gate → IsEvaluation (truth_functions None) n gs
+    → SeeAlike m fault i gate.pins fs gs → AgreeAt m (gs (length n.inputs + i)) (next_function fault fs i gate)
+gate-alike m n fault i gate fs gs at is alike x point = ap (λ f. f x) (is.gates i gate at) ∙ ap (table gate) (where_below_agree (length gate.pins) _ _ (λ k l. sym (alike k l x point)))
 
 -- the gate in place k, which is next, by its place
-at-next : (s : Functions) (n : Network) (fault : Fault) (i k : ℕ) (refs : List FnRef) (r : FnRef) (w : Set → List Bool) → length refs ≡ length n.inputs + k → length refs ≡ length n.inputs + i
-    → Shows s r (λ x. table (gate_at n k) (ones_seen (Some fault) (w x) k (gate_at n k))) → Shows s r (λ x. table (gate_at n i) (ones_seen (Some fault) (w x) i (gate_at n i)))
-at-next s n fault i k refs r w here there shows =
+pub at-next : (s : Functions) (n : Network) (fault : Fault) (i k : ℕ) (refs : List FnRef) (r : FnRef) (fs : ℕ → Set → Bool) → length refs ≡ length n.inputs + k → length refs ≡ length n.inputs + i
+    → Shows s r (next_function fault fs k (gate_at n k)) → Shows s r (next_function fault fs i (gate_at n i))
+at-next s n fault i k refs r fs here there shows =
     let same : k ≡ i = omega (arith, here, there) in
-    subst (λ (m : ℕ). Shows s r (λ x. table (gate_at n m) (ones_seen (Some fault) (w x) m (gate_at n m)))) same shows
+    subst (λ (m : ℕ). Shows s r (next_function fault fs m (gate_at n m))) same shows
 
 -- where the pins of the next gate see the same, its function without the fault is that of its table
-pub taken-over : (s : Functions) (n : Network) (fault : Fault) (i k : ℕ) (pins : List ℕ) (good refs : List FnRef) (r : FnRef) (same : Bool) (w v : Set → List Bool)
-    → ((f g : Set → Bool) → AgreeAt s.polarity.n f g → Shows s r f → Shows s r g) → ShowSignals s n None (signals n) good → ((x : Set) → IsRun n None x (v x))
+pub taken-over : (s : Functions) (n : Network) (fault : Fault) (i k : ℕ) (pins : List ℕ) (good refs : List FnRef) (r : FnRef) (same : Bool) (fs gs : ℕ → Set → Bool)
+    → ((f g : Set → Bool) → AgreeAt s.polarity.n f g → Shows s r f → Shows s r g) → ShowSignals s n None (signals n) good → IsEvaluation (truth_functions None) n gs
     → pins ≡ (gate_at n k).pins → k < length n.gates → length refs ≡ length n.inputs + k → slice_get good (length refs) ≡ Some r
     → ((fs gs : ℕ → Set → Bool) → ShowEach s refs fs → ShowEach s good gs → (same ≡ true) ↔ SeeAlike s.polarity.n fault k pins fs gs) → same ≡ true
-    → length refs ≡ length n.inputs + i → ShowEach s refs (λ s x. value_of (w x) s) → Shows s r (λ x. table (gate_at n i) (ones_seen (Some fault) (w x) i (gate_at n i)))
-taken-over s n fault i k pins good refs r same w v agree shown runs pins_are below here at compared e there each =
-    let before = shown.shows v runs in
-    let alike : SeeAlike s.polarity.n fault k (gate_at n k).pins (λ s x. value_of (w x) s) (λ s x. value_of (v x) s) =
-    subst (λ (ps : List ℕ). SeeAlike s.polarity.n fault k ps (λ s x. value_of (w x) s) (λ s x. value_of (v x) s)) pins_are ((compared (λ s x. value_of (w x) s) (λ s x. value_of (v x) s) each before).0 e) in
-    at-next s n fault i k refs r w here there
-    (agree (λ x. value_of (v x) (length n.inputs + k)) (λ x. table (gate_at n k) (ones_seen (Some fault) (w x) k (gate_at n k)))
-    (gate-alike s.polarity.n n fault k (gate_at n k) w v (slice_get-get_or n.gates k _ below) runs alike)
-    (subst (λ (m : ℕ). Shows s r (λ x. value_of (v x) m)) here (before.each (length refs) r at)))
+    → length refs ≡ length n.inputs + i → ShowEach s refs fs → Shows s r (next_function fault fs i (gate_at n i))
+taken-over s n fault i k pins good refs r same fs gs agree shown is pins_are below here at compared e there each =
+    let before = shown.shows gs is in
+    let alike : SeeAlike s.polarity.n fault k (gate_at n k).pins fs gs = subst (λ (ps : List ℕ). SeeAlike s.polarity.n fault k ps fs gs) pins_are ((compared fs gs each before).0 e) in
+    at-next s n fault i k refs r fs here there
+    (agree (gs (length n.inputs + k)) (next_function fault fs k (gate_at n k))
+    (gate-alike s.polarity.n n fault k (gate_at n k) fs gs (slice_get-get_or n.gates k _ below) is alike)
+    (subst (λ (m : ℕ). Shows s r (gs m)) here (before.each (length refs) r at)))

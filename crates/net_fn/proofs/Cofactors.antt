@@ -11,9 +11,9 @@ use Rattle.ae_base.proofs.Sets.{same_set, has-empty, has-either, has-without, in
 use Rattle.ae_base.proofs.Members.{least-is, least-empty}
 use Rattle.ae_base.proofs.Products.{holds-has, has-holds}
 use Rattle.ae_base.proofs.Truth.{same_truth, or-true}
-use Rattle.fn_store.specs.Davio.{put}
+use Rattle.ae_base.specs.Points.{put}
 use Rattle.fn_store.specs.Cubes.{some_holds}
-use Rattle.fn_store.proofs.Coefficients.{put-same, put-other, put-has}
+use Rattle.ae_base.proofs.Points.{put-same, put-other, put-has}
 use Rattle.net_fn.specs.Refs.{ones_at}
 use Rattle.net_fn.specs.Cofactor.{allows, rest, cofactor, is_read, is_whole, AreFrom}
 

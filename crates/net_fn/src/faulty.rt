@@ -1,14 +1,14 @@
 //! The functions of a network with a stuck-at fault, of those without it.
-ghost use Rattle.std.specs.Prelude.{◌≡◌, ◌<◌, ◌≤◌, ◌+◌, ◌↔◌, ℕ, Bool, true, Some, None, List, All, IfOk, length};
+ghost use Rattle.std.specs.Prelude.{◌≡◌, ◌<◌, ◌≤◌, ◌+◌, ◌↔◌, ℕ, Bool, true, Some, None, All, IfOk, length};
 ghost use Rattle.ae_base.specs.Mask.{Set, has};
 ghost use Rattle.ae_base.specs.declared.limits.TheConstants.{PINS};
+ghost use Rattle.ae_net.specs.Evaluation.{pin_seen};
 ghost use Rattle.ae_net.specs.Network.{signals, gate_at};
 ghost use Rattle.ae_net.specs.Out.{out};
-ghost use Rattle.ae_net.specs.Run as run;
 ghost use Rattle.fn_store.specs.Functions.{IsLive, Shows, Keeps};
 ghost use Rattle.net_fn.specs.Refs.{AreLive, ShowEach};
 ghost use Rattle.net_fn.specs.Seen.{SeeAlike};
-ghost use Rattle.net_fn.specs.Signals.{ShowSignals};
+ghost use Rattle.net_fn.specs.Signals.{ShowSignals, truth_functions};
 
 use crate::nets::{gate_value, port_values, seen};
 use ae_base::Memory;
@@ -88,8 +88,8 @@ fn faulty_gate<S: FnStore>(
     requires live { AreLive (S.functions store.old) refs.now }
     requires inputs { length net.now.inputs ≤ length refs.now }
     requires gates { length refs.now < signals net.now }
-    ensures shows { IfOk result (λ r. (i : ℕ) (w : Set → List Bool) → length refs.now ≡ length net.now.inputs + i → ShowEach (S.functions store.old) refs.now (λ s x. run.value_of (w x) s)
-        → Shows (S.functions store.new) r (λ x. run.table (gate_at net.now i) (run.ones_seen (Some fault) (w x) i (gate_at net.now i)))) }
+    ensures shows { IfOk result (λ r. (i : ℕ) (fs : ℕ → Set → Bool) → length refs.now ≡ length net.now.inputs + i → ShowEach (S.functions store.old) refs.now fs
+        → Shows (S.functions store.new) r ((truth_functions (Some fault)).table (gate_at net.now i) (pin_seen (truth_functions (Some fault)) fs i (gate_at net.now i)))) }
     ensures live { IfOk result (IsLive (S.functions store.new)) }
     ensures keeps { Keeps (S.functions store.old) (S.functions store.new) }
 {

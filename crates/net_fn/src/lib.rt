@@ -6,6 +6,7 @@ mod cubes;
 mod expansions;
 mod faulty;
 mod joins;
+mod laws;
 mod nets;
 mod products;
 
@@ -13,5 +14,6 @@ pub use covers::cover_values;
 pub use cubes::{some_cube, some_product};
 pub use expansions::expansion_values;
 pub use faulty::faulty_values;
+pub use laws::kept_law;
 pub use nets::{net_values, port_values, signal_values};
 pub use products::input;

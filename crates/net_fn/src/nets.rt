@@ -1,6 +1,7 @@
 //! The functions of a network's signals and output ports, with a stuck-at fault or without.
-ghost use Rattle.std.specs.Prelude.{◌≡◌, ◌<◌, ◌≤◌, Bool, not, if◌then◌else◌, List, All, IfOk, length};
+ghost use Rattle.std.specs.Prelude.{◌≡◌, ◌<◌, ◌≤◌, ℕ, Bool, not, if◌then◌else◌, All, IfOk, length};
 ghost use Rattle.ae_base.specs.Mask.{Set, has};
+ghost use Rattle.ae_net.specs.Evaluation.{pin_seen};
 ghost use Rattle.ae_net.specs.Network.{signals};
 ghost use Rattle.ae_net.specs.Out.{out};
 ghost use Rattle.ae_net.specs.Run as run;
@@ -9,7 +10,7 @@ ghost use Rattle.fn_store.specs.Functions.{IsLive, Shows, Keeps};
 ghost use Rattle.net_fn.specs.Refs.{AreLive, ShowEach};
 ghost use Rattle.ae_base.specs.declared.limits.TheConstants.{PINS};
 ghost use Rattle.net_fn.specs.Seen.{ShowSeen, place_of};
-ghost use Rattle.net_fn.specs.Signals.{ShowSignals};
+ghost use Rattle.net_fn.specs.Signals.{ShowSignals, truth_functions};
 
 use crate::cubes::some_product;
 use crate::products::input;
@@ -121,8 +122,8 @@ pub(crate) fn gate_value<S: FnStore>(
 ) -> Result<FnRef, Memory>
     requires live { AreLive (S.functions store.old) signals.now }
     requires gate { IsGate (length signals.now) gate.now }
-    ensures shows { IfOk result (λ r. (w : Set → List Bool) → ShowEach (S.functions store.old) signals.now (λ s x. run.value_of (w x) s)
-        → Shows (S.functions store.new) r (λ x. run.table gate.now (run.ones_seen fault (w x) i gate.now))) }
+    ensures shows { IfOk result (λ r. (fs : ℕ → Set → Bool) → ShowEach (S.functions store.old) signals.now fs
+        → Shows (S.functions store.new) r ((truth_functions fault).table gate.now (pin_seen (truth_functions fault) fs i gate.now))) }
     ensures live { IfOk result (IsLive (S.functions store.new)) }
     ensures keeps { Keeps (S.functions store.old) (S.functions store.new) }
 {

@@ -1,26 +1,42 @@
 -- The whole text.
-use Rattle.std.proofs.Common.{◌≡◌, ℕ, true, false, List, [], length, Option, Some, None, All, sym, ap₂, subst}
+use Rattle.std.proofs.Common.{◌≡◌, ℕ, true, false, List, [], length, Option, Some, None, Err, All, refl, sym, ap₂, subst}
 use Rattle.std.specs.Prelude.{IfSome, unwrap_or}
+use Rattle.std.specs.List.{before_first}
 use Rattle.std.proofs.lemmas.List.Elements.{All-append}
 use Rattle.ae_base.specs.Name.{is_source_name}
-use Rattle.ae_lex.specs.First.{first_of}
+use Rattle.ae_base.specs.Twins.{share}
+use Rattle.ae_base.proofs.Apart.{distinct_append}
+use Rattle.ae_lex.specs.First.{first_of, at_line, first_fault, last_read, judged}
+use Rattle.ae_lex.specs.Heads.{Word}
 use Rattle.ae_lex.specs.Words.{WordLine, word_lines, last_line}
 use Rattle.ae_lex.specs.declared.text.Style.TheVariants.{Pla}
 use Rattle.ae_cover.specs.declared.parts.Kind.{Kind}
 use Rattle.ae_cover.specs.Cover.{IsCover, IsCount, IsRow}
-use Rattle.pla_read.specs.Words.{Word, share}
-use Rattle.pla_read.specs.Pla.{Seen, last_read, first_fault, at_line, whole_faults, table_of, judged, pla_says, seen}
-use Rattle.pla_read.specs.Step.{read_of, words_of}
+use Rattle.ae_lex.specs.Reads.{Gives, ReadsAll, words_of}
+use Rattle.ae_lex.specs.declared.errors.TextErr.{TextErr}
+use Rattle.ae_lex.specs.declared.errors.TextErr.TheVariants as text
+use Rattle.pla_read.specs.declared.fault.PlaFault.{PlaFault}
+use Rattle.pla_read.specs.Words.{is_end}
+use Rattle.pla_read.specs.Pla.{cover_of, faults, whole_faults, pla_says}
+use Rattle.pla_read.specs.Seen.{Seen, seen, table_of}
 use Rattle.pla_read.specs.Sound.{AreLabels, IsSound}
-use Rattle.pla_read.proofs.Labels.{distinct_append}
+
+-- the lines that are read
+abbrev pub read_of : List WordLine → List WordLine
+read_of lines = before_first (λ line. is_end line.words) lines
+
+-- the first faulty line decides
+pub fault_says : (bytes : List ℕ) (lines : List WordLine) (e : TextErr PlaFault) → lines ≡ word_lines Pla bytes → ReadsAll {X = Unit {0}} faults (read_of lines) tt (λ l. Unit {0}) (Err e) → Gives (pla_says bytes) (Err e)
+unfolding pla_says
+fault_says bytes lines (text.At number what) is h = rw (← is, h) refl
+fault_says bytes lines text.Memory is h = tt
 
 -- where no line has a fault the whole text decides
-pub text_says : (bytes : List ℕ) (last : ℕ) (lines : List WordLine) (read : Seen) (number : ℕ) → lines ≡ word_lines Pla bytes → last ≡ last_line bytes → first_fault [] (read_of lines) ≡ None
-    → read ≡ seen (words_of (read_of lines)) → number ≡ last_read last lines
-    → pla_says bytes ≡ judged (at_line number (first_of (whole_faults read))) (table_of read)
-unfolding pla_says
-text_says bytes last lines read number e l none s n =
-    rw (← e, ← l, none) (sym (ap₂ (λ (s : Seen) (n : ℕ). judged (at_line n (first_of (whole_faults s))) (table_of s)) s n))
+pub text_says : (bytes : List ℕ) (lines : List WordLine) (kept : Seen) (last number : ℕ) → lines ≡ word_lines Pla bytes → last ≡ last_line bytes → first_fault faults [] (read_of lines) ≡ None
+    → kept ≡ seen (words_of (read_of lines)) → number ≡ last_read is_end last lines → pla_says bytes ≡ judged (at_line number (first_of (whole_faults kept.inputs kept.outputs (table_of kept)))) (table_of kept)
+unfolding pla_says cover_of table_of seen
+text_says bytes lines kept last number e l none k n =
+    rw (← e, ← l, none) (sym (ap₂ (λ (s : Seen) (n : ℕ). judged (at_line n (first_of (whole_faults s.inputs s.outputs (table_of s)))) (table_of s)) k n))
 
 -- ---- the cover
 

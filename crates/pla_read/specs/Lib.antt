@@ -1,6 +1,5 @@
 pub mod Faults
 pub mod Pla
-pub mod Reads
+pub mod Seen
 pub mod Sound
-pub mod Step
 pub mod Words

@@ -3,8 +3,8 @@ use Rattle.std.specs.Prelude.{◌≡◌, ◌≢◌, ◌≤◌, List, length, Som
 use Rattle.ae_base.specs.Name.{is_source_name}
 use Rattle.ae_cover.specs.declared.cover.TheConstants.{PLA_ROWS}
 use Rattle.ae_cover.specs.Cover.{IsCount, IsRow}
-use Rattle.pla_read.specs.Words.{Word}
-use Rattle.pla_read.specs.Pla.{Seen}
+use Rattle.ae_lex.specs.Heads.{Word}
+use Rattle.pla_read.specs.Seen.{Seen}
 
 -- names of a source, all different
 pub record AreLabels (names : List Word) : Type 0 where

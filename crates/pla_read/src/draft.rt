@@ -1,15 +1,16 @@
 //! The cover so far: what the lines that were read say.
 ghost use Rattle.std.specs.Prelude.{◌≡◌, [], ◌∷◌, length, not, codes, ◌==◌, slice_index};
 ghost use Rattle.ae_lex.specs.Slices.{texts};
-ghost use Rattle.pla_read.specs.Pla as spec;
-ghost use Rattle.pla_read.specs.Step.{with_line, with_row, Takes};
+ghost use Rattle.ae_lex.specs.Reads.{Takes};
+ghost use Rattle.pla_read.specs.Pla.{row_faults};
+ghost use Rattle.pla_read.specs.Seen as spec;
 
 use crate::fault::PlaFault;
 use crate::words::{
-    are_inputs, are_outputs, has_twins, is_unsupported, join, read_kind, read_names, read_number,
+    are_inputs, are_outputs, is_end, is_unsupported, join, read_count, read_kind, read_names,
     row_of,
 };
-use ae_base::{Name, SOURCE_LINES, Seq};
+use ae_base::{Name, SOURCE_LINES, Seq, has_twins};
 use ae_cover::{Kind, PLA_ROWS, Row};
 use ae_lex::LineErr;
 use std::alloc::Global;
@@ -27,7 +28,7 @@ pub struct Draft {
 }
 
 impl Model for Draft {
-    ghost use Rattle.pla_read.specs.Pla.{Seen};
+    ghost use Rattle.pla_read.specs.Seen.{Seen};
     ghost use Rattle.pla_read.specs.Sound.{IsSound};
 
     ghost Value = { Seen };
@@ -39,7 +40,7 @@ impl Model for Draft {
 
 impl Draft {
     /// Nothing is said yet.
-    #[tactic(auto, unfolding(crate::specs::Pla::seen))]
+    #[tactic(auto, unfolding(crate::specs::Seen::seen))]
     pub fn new(alloc: Global) -> Draft
         ensures { result ≡ spec.seen [] }
     {
@@ -60,14 +61,14 @@ impl Draft {
     }
 
     /// The number of inputs.
-    #[tactic(auto, unfolding(crate::specs::Pla::faults, crate::specs::Step::with_line))]
+    #[tactic(auto, unfolding(crate::specs::Pla::line_faults, crate::specs::Seen::with_line))]
     fn read_inputs(&mut self, words: &[&[u8]]) -> Result<(), LineErr<PlaFault>>
-        ensures { Takes (spec.faults self.old (codes ".i" ∷ texts words.now)) (with_line self.old (codes ".i" ∷ texts words.now)) result self.new }
+        ensures { Takes (spec.faults_in self.old (codes ".i" ∷ texts words.now)) (self.new ≡ spec.with_line self.old (codes ".i" ∷ texts words.now)) result }
     {
         if self.inputs.is_some() || self.has_rows() {
             return Err(LineErr::Fault(PlaFault::Late));
         }
-        let Some(n) = read_number(words) else {
+        let Some(n) = read_count(words) else {
             return Err(LineErr::Fault(PlaFault::BadNumber));
         };
         if n > SOURCE_LINES {
@@ -78,14 +79,14 @@ impl Draft {
     }
 
     /// The number of outputs.
-    #[tactic(auto, unfolding(crate::specs::Pla::faults, crate::specs::Step::with_line))]
+    #[tactic(auto, unfolding(crate::specs::Pla::line_faults, crate::specs::Seen::with_line))]
     fn read_outputs(&mut self, words: &[&[u8]]) -> Result<(), LineErr<PlaFault>>
-        ensures { Takes (spec.faults self.old (codes ".o" ∷ texts words.now)) (with_line self.old (codes ".o" ∷ texts words.now)) result self.new }
+        ensures { Takes (spec.faults_in self.old (codes ".o" ∷ texts words.now)) (self.new ≡ spec.with_line self.old (codes ".o" ∷ texts words.now)) result }
     {
         if self.outputs.is_some() || self.has_rows() {
             return Err(LineErr::Fault(PlaFault::Late));
         }
-        let Some(n) = read_number(words) else {
+        let Some(n) = read_count(words) else {
             return Err(LineErr::Fault(PlaFault::BadNumber));
         };
         if n > SOURCE_LINES {
@@ -96,9 +97,9 @@ impl Draft {
     }
 
     /// The kind.
-    #[tactic(auto, unfolding(crate::specs::Pla::faults, crate::specs::Step::with_line))]
+    #[tactic(auto, unfolding(crate::specs::Pla::line_faults, crate::specs::Seen::with_line))]
     fn read_kind(&mut self, words: &[&[u8]]) -> Result<(), LineErr<PlaFault>>
-        ensures { Takes (spec.faults self.old (codes ".type" ∷ texts words.now)) (with_line self.old (codes ".type" ∷ texts words.now)) result self.new }
+        ensures { Takes (spec.faults_in self.old (codes ".type" ∷ texts words.now)) (self.new ≡ spec.with_line self.old (codes ".type" ∷ texts words.now)) result }
     {
         if self.kind.is_some() || self.has_rows() {
             return Err(LineErr::Fault(PlaFault::Late));
@@ -111,9 +112,9 @@ impl Draft {
     }
 
     /// The names of the inputs.
-    #[tactic(auto, unfolding(crate::specs::Pla::faults, crate::specs::Step::with_line))]
+    #[tactic(auto, unfolding(crate::specs::Pla::line_faults, crate::specs::Seen::with_line))]
     fn read_input_names(&mut self, alloc: Global, words: &[&[u8]]) -> Result<(), LineErr<PlaFault>>
-        ensures { Takes (spec.faults self.old (codes ".ilb" ∷ texts words.now)) (with_line self.old (codes ".ilb" ∷ texts words.now)) result self.new }
+        ensures { Takes (spec.faults_in self.old (codes ".ilb" ∷ texts words.now)) (self.new ≡ spec.with_line self.old (codes ".ilb" ∷ texts words.now)) result }
     {
         if self.input_names.is_some() || self.has_rows() {
             return Err(LineErr::Fault(PlaFault::Late));
@@ -132,9 +133,9 @@ impl Draft {
     }
 
     /// The names of the outputs.
-    #[tactic(auto, unfolding(crate::specs::Pla::faults, crate::specs::Step::with_line))]
+    #[tactic(auto, unfolding(crate::specs::Pla::line_faults, crate::specs::Seen::with_line))]
     fn read_output_names(&mut self, alloc: Global, words: &[&[u8]]) -> Result<(), LineErr<PlaFault>>
-        ensures { Takes (spec.faults self.old (codes ".ob" ∷ texts words.now)) (with_line self.old (codes ".ob" ∷ texts words.now)) result self.new }
+        ensures { Takes (spec.faults_in self.old (codes ".ob" ∷ texts words.now)) (self.new ≡ spec.with_line self.old (codes ".ob" ∷ texts words.now)) result }
     {
         if self.output_names.is_some() || self.has_rows() {
             return Err(LineErr::Fault(PlaFault::Late));
@@ -154,7 +155,7 @@ impl Draft {
 
     /// The characters of a row.
     fn read_row(&mut self, alloc: Global, chars: &[u8]) -> Result<(), LineErr<PlaFault>>
-        ensures { Takes (spec.row_faults self.old chars.now) (with_row self.old chars.now) result self.new }
+        ensures { Takes (row_faults self.old.inputs self.old.outputs (length self.old.rows) chars.now) (self.new ≡ spec.with_row self.old chars.now) result }
     {
         let Some(n) = self.inputs else {
             return Err(LineErr::Fault(PlaFault::NoI));
@@ -176,10 +177,10 @@ impl Draft {
         Ok(())
     }
 
-    /// Reads the words of one more line. After an error the draft is of no further use.
-    #[tactic(auto, unfolding(crate::specs::Pla::faults, crate::specs::Step::with_line))]
-    pub fn read(&mut self, alloc: Global, words: &[&[u8]]) -> Result<(), LineErr<PlaFault>>
-        ensures { Takes (spec.faults self.old (texts words.now)) (with_line self.old (texts words.now)) result self.new }
+    /// Reads the words of one more line.
+    #[tactic(auto, unfolding(crate::specs::Pla::line_faults, crate::specs::Seen::with_line))]
+    fn read_words(&mut self, alloc: Global, words: &[&[u8]]) -> Result<(), LineErr<PlaFault>>
+        ensures { Takes (spec.faults_in self.old (texts words.now)) (self.new ≡ spec.with_line self.old (texts words.now)) result }
     {
         match words {
             [[b'.', ..], args @ ..] => self.read_header(alloc, words[0], args),
@@ -191,7 +192,7 @@ impl Draft {
     }
 
     /// A header and the words after it.
-    #[tactic(auto, unfolding(crate::specs::Pla::faults, crate::specs::Step::with_line))]
+    #[tactic(auto, unfolding(crate::specs::Pla::line_faults, crate::specs::Seen::with_line))]
     fn read_header(
         &mut self,
         alloc: Global,
@@ -199,7 +200,7 @@ impl Draft {
         args: &[&[u8]],
     ) -> Result<(), LineErr<PlaFault>>
         requires { slice_index header.now 0 ≡ 46 }
-        ensures { Takes (spec.faults self.old (header.now ∷ texts args.now)) (with_line self.old (header.now ∷ texts args.now)) result self.new }
+        ensures { Takes (spec.faults_in self.old (header.now ∷ texts args.now)) (self.new ≡ spec.with_line self.old (header.now ∷ texts args.now)) result }
     {
         match header {
             b".i" => self.read_inputs(args),
@@ -211,5 +212,28 @@ impl Draft {
             _ if is_unsupported(header) => Err(LineErr::Fault(PlaFault::Unsupported)),
             _ => Err(LineErr::Fault(PlaFault::Unknown)),
         }
+    }
+}
+
+impl ae_lex::Draft for Draft {
+    ghost use Rattle.std.specs.Prelude.{◌≡◌};
+    ghost use Rattle.pla_read.specs.Pla.{faults};
+    ghost use Rattle.pla_read.specs.Seen.{seen};
+    ghost use Rattle.pla_read.specs.Words.{is_end};
+
+    type Fault = PlaFault;
+
+    ghost says = { λ lines draft. draft ≡ seen lines };
+
+    ghost faults = { faults };
+
+    ghost ends = { is_end };
+
+    fn ends(words: &[&[u8]]) -> bool {
+        is_end(words)
+    }
+
+    fn read(&mut self, alloc: Global, words: &[&[u8]]) -> Result<(), LineErr<PlaFault>> {
+        self.read_words(alloc, words)
     }
 }

@@ -1,8 +1,7 @@
 //! Why a PLA text is refused.
 
-use ae_base::Memory;
+use ae_lex::TextErr;
 use std::fmt;
-use thiserror::Error;
 
 /// What is wrong with a line, or with the whole text.
 #[derive(Clone, Copy, Debug, PartialEq, Eq)]
@@ -68,25 +67,6 @@ impl fmt::Display for PlaFault {
 
 impl std::error::Error for PlaFault {}
 
-/// Why `read_pla` gives no cover.
-#[derive(Clone, Copy, Debug, PartialEq, Eq, Drop, Error)]
-pub enum PlaErr {
-    /// The first fault, with the number of its line from 1 on. A fault of the whole text has the number of the last
-    /// line that is read: that of `.e` or `.end`, else that of the last line of the text, 0 where there is none.
-    #[error("line {line}: {what}")]
-    At { line: u32, what: PlaFault },
-    /// Memory is wanting.
-    #[error("want of memory")]
-    Memory,
-}
-
-impl From<Memory> for PlaErr {
-    ghost use Rattle.std.specs.Prelude.{◌≡◌};
-    ghost use Rattle.pla_read.specs.declared.fault.PlaErr.TheVariants.{Memory};
-
-    ghost from_gives = { λ _ e. e ≡ Memory };
-
-    fn from(_want: Memory) -> PlaErr {
-        PlaErr::Memory
-    }
-}
+/// Why `read_pla` gives no cover. A fault of the whole text has the number of the last line that is read: that of `.e` or `.end`, else
+/// that of the last line of the text.
+pub type PlaErr = TextErr<PlaFault>;

@@ -1,19 +1,15 @@
 //! What the words of a line say.
-ghost use Rattle.std.specs.Prelude.{ℕ, ◌≡◌, ◌≢◌, ◌+◌, ◌-◌, ◌≤◌, ◌<◌, true, false, if◌then◌else◌, Some, None, length, take, drop, not, filter, ◌==◌, [], ◌∷◌, ◌++◌, All, AllPairs, IfSome, IfOk, OnOk};
-ghost use Rattle.std.specs.List.{list_any, list_all};
-ghost use Rattle.std.specs.Str.{bytes_eq};
+ghost use Rattle.std.specs.Prelude.{◌≡◌, ◌-◌, ◌≤◌, ◌<◌, true, if◌then◌else◌, Some, None, length, not, filter, ◌==◌, ◌++◌, All, IfSome, IfOk, OnOk};
+ghost use Rattle.std.specs.List.{list_all};
 ghost use Rattle.ae_base.specs.Name.{is_source_name};
 ghost use Rattle.ae_cover.specs.Cover.{IsRow};
 ghost use Rattle.ae_lex.specs.Slices.{texts};
 ghost use Rattle.pla_read.specs.Words as spec;
 
-use ae_base::{Cube, Mask, Memory, Name, SOURCE_LINES, SOURCE_NAME_BYTES, Seq};
+use ae_base::{Memory, Name, SOURCE_LINES, Seq, cube_of, is_source_name, read_number};
 use ae_cover::{Kind, Mark, Row};
-use ae_lex::is_one_of;
+use ae_lex::{is_one_of, names_of};
 use std::alloc::Global;
-
-/// The most digits of a number.
-pub const NUMBER_DIGITS: usize = 9;
 
 /// Headers of other PLA dialects.
 static UNSUPPORTED: [&[u8]; 6] = [
@@ -42,49 +38,20 @@ pub fn is_end(words: &[&[u8]]) -> bool
     }
 }
 
-fn is_digit(b: u8) -> bool
-    ensures { result ≡ spec.is_digit b }
-{
-    b'0' <= b && b <= b'9'
-}
-
-/// The number that digits say.
-#[tactic(auto, unfolding(crate::specs::Words::value))]
-fn value(word: &[u8]) -> Option<u32>
-    requires { length word.now ≤ NUMBER_DIGITS }
-    ensures { result ≡ (if list_all spec.is_digit word.now then Some (spec.value word.now) else None) }
-{
-    let mut n: u32 = 0;
-    for b in word {
-        if !is_digit(*b) {
-            return None;
-        }
-        n = 10 * n + (*b - b'0') as u32;
-    }
-    Some(n)
-}
-
-/// One number of 1 to `NUMBER_DIGITS` digits, at least 1.
-#[tactic(auto, unfolding(crate::specs::Words::is_number))]
-pub fn read_number(words: &[&[u8]]) -> Option<u32>
+/// One number.
+pub fn read_count(words: &[&[u8]]) -> Option<u32>
     ensures positive { IfSome result (λ n. 0 < n) }
-    ensures number { result ≡ (if spec.is_number (texts words.now) then Some (spec.number (texts words.now)) else None) }
+    ensures count { result ≡ (if spec.is_count (texts words.now) then Some (spec.count_said (texts words.now)) else None) }
 {
     match words {
-        [word] => {
-            if word.len() > NUMBER_DIGITS {
-                return None;
-            }
-            let n = value(word)?;
-            if n == 0 { None } else { Some(n) }
-        }
+        [word] => read_number(word),
         _ => None,
     }
 }
 
 /// One of the four kinds.
 pub fn read_kind(words: &[&[u8]]) -> Option<Kind>
-    ensures { result ≡ (if spec.is_kind (texts words.now) then Some (spec.kind (texts words.now)) else None) }
+    ensures { result ≡ (if spec.is_kind (texts words.now) then Some (spec.kind_said (texts words.now)) else None) }
 {
     match words {
         [word] => kind_of(word),
@@ -104,68 +71,30 @@ fn kind_of(word: &[u8]) -> Option<Kind>
     }
 }
 
-/// A name of a source.
-fn read_name(alloc: Global, word: &[u8]) -> Result<Option<Name>, Memory>
-    ensures { IfOk result (λ found. found ≡ (if is_source_name word.now then Some word.now else None)) }
+/// Whether the words are so many names of a source.
+#[tactic(auto, unfolding(crate::specs::Words::are_names))]
+fn are_names(n: u32, words: &[&[u8]]) -> bool
+    ensures { result ≡ spec.are_names n (texts words.now) }
 {
-    if word.len() > SOURCE_NAME_BYTES {
-        return Ok(None);
-    }
-    Name::from_bytes(alloc, word)
+    words.len() == n as usize && each_is_name(words)
 }
 
-/// So many names.
-#[tactic(auto, unfolding(crate::specs::Words::are_names))]
+fn each_is_name(words: &[&[u8]]) -> bool
+    ensures { result ≡ list_all is_source_name (texts words.now) }
+{
+    words.iter().all(|word| is_source_name(word))
+}
+
+/// So many names of a source.
 pub fn read_names(alloc: Global, n: u32, words: &[&[u8]]) -> Result<Option<Seq<Name>>, Memory>
     ensures count { IfOk result (λ found. IfSome found (λ names. length names ≡ n)) }
     ensures named { IfOk result (λ found. IfSome found (λ names. All (λ name. is_source_name name ≡ true) names)) }
     ensures names { IfOk result (λ found. found ≡ (if spec.are_names n (texts words.now) then Some (texts words.now) else None)) }
 {
-    if words.len() != n as usize {
+    if !are_names(n, words) {
         return Ok(None);
     }
-    each_name(alloc, words)
-}
-
-fn each_name(alloc: Global, words: &[&[u8]]) -> Result<Option<Seq<Name>>, Memory>
-    ensures count { IfOk result (λ found. IfSome found (λ names. length names ≡ length words.now)) }
-    ensures named { IfOk result (λ found. IfSome found (λ names. All (λ name. is_source_name name ≡ true) names)) }
-    ensures names { IfOk result (λ found. found ≡ (if list_all is_source_name (texts words.now) then Some (texts words.now) else None)) }
-{
-    let mut names = Seq::new(alloc);
-    for word in words {
-        match read_name(alloc, word)? {
-            None => return Ok(None),
-            Some(name) => names.push(name)?,
-        }
-    }
-    Ok(Some(names))
-}
-
-/// Whether some name stands twice.
-pub fn has_twins(names: &[Name]) -> bool
-    ensures twins { result ≡ spec.has_twins names.now }
-    ensures distinct { result ≡ false → AllPairs (λ name other. name ≢ other) names.now }
-{
-    for (i, name) in names.iter().enumerate() {
-        if stands(name, &names[i + 1..]) {
-            return true;
-        }
-    }
-    false
-}
-
-/// Whether some name is in both lists.
-pub fn share(names: &[Name], others: &[Name]) -> bool
-    ensures { result ≡ spec.share names.now others.now }
-{
-    names.iter().any(|name| stands(name, others))
-}
-
-fn stands(name: &Name, names: &[Name]) -> bool
-    ensures { result ≡ list_any (bytes_eq name.now) names.now }
-{
-    names.iter().any(|other| name == other)
+    Ok(Some(names_of(alloc, words)?))
 }
 
 /// The characters of a row.
@@ -227,20 +156,6 @@ fn mark(b: u8) -> Mark
     }
 }
 
-/// The inputs that have a character.
-fn inputs_with(chars: &[u8], b: u8) -> Mask
-    requires { length chars.now ≤ SOURCE_LINES }
-    ensures { result ≡ spec.inputs_with b chars.now }
-{
-    let mut found = Mask::empty();
-    for (j, c) in chars.iter().enumerate() {
-        if *c == b {
-            found = found.with(j as u32);
-        }
-    }
-    found
-}
-
 /// The row of n inputs that characters say.
 #[tactic(auto, unfolding(crate::specs::Words::row_of))]
 pub fn row_of(alloc: Global, n: u32, chars: &[u8]) -> Result<Row, Memory>
@@ -250,10 +165,7 @@ pub fn row_of(alloc: Global, n: u32, chars: &[u8]) -> Result<Row, Memory>
     ensures row { IfOk result (λ row. row ≡ spec.row_of n chars.now) }
 {
     let (front, back) = chars.split_at(n as usize);
-    let cube = Cube {
-        pos: inputs_with(front, b'1'),
-        neg: inputs_with(front, b'0'),
-    };
+    let cube = cube_of(front);
     let mut outs = Seq::new(alloc);
     for b in back {
         outs.push(mark(*b))?;

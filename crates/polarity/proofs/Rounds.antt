@@ -10,7 +10,8 @@ use Rattle.std.proofs.lemmas.Option.{none-some, slice_get-get_or, slice_get_past
 use Rattle.ae_base.specs.Cube.{Signs}
 use Rattle.ae_base.specs.Source.{Source}
 use Rattle.expansion.specs.Flipped.{flipped_polarity}
-use Rattle.expansion.specs.Functions.{AreExpansions, KeepsFunctions}
+use Rattle.expansion.specs.Functions.{AreExpansions}
+use Rattle.expansion.specs.Kept.{KeepsFunctions}
 use Rattle.expansion.specs.Terms.{Terms, cost}
 use Rattle.polarity.specs.Cost.{cost_of, IsLocallyCheapest}
 use Rattle.polarity.specs.Round.{IsRound, NoneCheaper}

@@ -1,10 +1,13 @@
 -- A loop over a list that writes each element: what was passed, place by place, and the rest.
-use Rattle.std.proofs.Common.{◌≡◌, ℕ, ◌+◌, ◌<◌, List, [], ◌∷◌, ◌++◌, length, map, take, drop, get_or, ap, sym, subst, ◌∙◌, arith, add-one, suc}
+use Rattle.std.proofs.Common.{◌≡◌, ℕ, ◌+◌, ◌<◌, ◌≤◌, List, [], ◌∷◌, ◌++◌, length, map, take, drop, get_or, ap, sym, subst, ◌∙◌, arith, add-one, suc}
 use Rattle.std.proofs.Math.ListN.{set}
 use Rattle.std.proofs.Math.Seq.{take-suc, take-suc-set, drop-cons}
 use Rattle.std.specs.List.{AllZip}
-use Rattle.std.proofs.lemmas.List.{take-append-drop, drop-set-lt, map-append}
+use Rattle.std.proofs.lemmas.List.{take-append-drop, take-set, drop-set-lt, drop_all, map-append, take-map, drop-map}
 use Rattle.std.proofs.lemmas.List.Elements.{AllZip-push}
+use Rattle.ae_base.specs.Source.{Source}
+use Rattle.polarity.specs.Asking.{AreAskedInOrder}
+use Rattle.polarity.specs.Search.{Advised, IsAsked}
 
 -- as f sees them: the elements passed before and after the write at i, and the rest, which stays
 pub record Seam {X Y : Type 0} (f : X → Y) (xs0 xs : List X) (i : ℕ) (x y : X) : Type 0 where
@@ -49,3 +52,24 @@ AllZip-whole f R r xs0 xs i h rest =
     subst (λ l. AllZip R l (map f xs)) (map-parts f i xs0)
     (subst (λ l. AllZip R (map f (take i xs0) ++ map f (drop i xs0)) l) (ap (λ l. map f (take i xs) ++ map f l) (sym rest) ∙ map-parts f i xs)
     (AllZip-beside R r (map f (take i xs0)) (map f (take i xs)) (map f (drop i xs0)) h))
+
+-- ---- in order
+
+-- those up to i were asked, and those after i stayed
+ordered : {X : Type 0} (f : X → Advised) (s : Source) (limit : ℕ) (xs0 xs : List X) (i : ℕ) → AllZip (IsAsked s limit) (map f (take i xs0)) (map f (take i xs)) → drop (i + 1) xs ≡ drop (i + 1) xs0
+    → AreAskedInOrder s limit (map f xs0) (map f xs)
+ordered f s limit xs0 xs i asked rest = record {
+  whole = i;
+  asked = rw (take-map f i xs0, take-map f i xs) asked;
+  untouched = drop-map f (suc i) xs ∙ ap (map f) (rw add-one at rest) ∙ sym (drop-map f (suc i) xs0);
+}
+
+-- where the one at i was asked for some time
+pub ordered_stopped : {X : Type 0} (f : X → Advised) (s : Source) (limit : ℕ) (xs0 xs : List X) (i : ℕ) (x y : X) → Seam f xs0 xs i x y → AllZip (IsAsked s limit) (map f (take i xs0)) (map f (take i xs))
+    → AreAskedInOrder s limit (map f xs0) (map f (set xs i y))
+ordered_stopped f s limit xs0 xs i x y at asked = ordered f s limit xs0 (set xs i y) i (subst (λ l. AllZip (IsAsked s limit) (map f (take i xs0)) (map f l)) (sym (take-set xs i y)) asked) at.rest
+
+-- and where all were asked
+pub ordered_whole : {X : Type 0} (f : X → Advised) (s : Source) (limit : ℕ) (xs0 xs : List X) (i : ℕ) → AllZip (IsAsked s limit) (map f (take i xs0)) (map f (take i xs)) → length xs ≤ i → length xs0 ≤ i
+    → AreAskedInOrder s limit (map f xs0) (map f xs)
+ordered_whole f s limit xs0 xs i asked all all0 = ordered f s limit xs0 xs i asked (drop_all (i + 1) xs (omega arith) ∙ sym (drop_all (i + 1) xs0 (omega arith)))

@@ -1,9 +1,9 @@
 -- Words of private contracts alone: how far the asking of advisors has come.
-use Rattle.std.specs.Prelude.{◌≡◌, ℕ, ◌≤◌, nat_le, nat_lt, if◌then◌else◌, List, ◌++◌, All}
+use Rattle.std.specs.Prelude.{◌≡◌, ℕ, suc, ◌≤◌, nat_le, nat_lt, if◌then◌else◌, List, ◌++◌, All, take, drop}
 use Rattle.std.specs.List.{AllZip}
 use Rattle.ae_base.specs.Cube.{Signs}
 use Rattle.ae_base.specs.Source.{Source}
-use Rattle.expansion.specs.Functions.{KeepsFunctions}
+use Rattle.expansion.specs.Kept.{KeepsFunctions}
 use Rattle.expansion.specs.Terms.{Terms, cost}
 use Rattle.polarity.specs.Cost.{cost_of}
 use Rattle.polarity.specs.Search.{Advised, IsTold, IsAsked, IsFirstCheapest, candidates, new_entries}
@@ -30,3 +30,10 @@ pub record IsBeingAsked (s : Source) (limit : ℕ) (start : Signs) (before after
 pub record AreAsked (s : Source) (limit : ℕ) (start : Signs) (before after : List Advised) (best : Signs) : Type 0 where
   pub asked : AllZip (IsAsked s limit) before after
   pub first : (ps : List Signs) → IsFirstCheapest s ps start → IsFirstCheapest s (ps ++ candidates (new_entries before after)) best
+
+-- The advisors were asked in order: of the first so many nothing is left, and each new entry was told its cost. The next one may have been
+-- asked for some time, and those after it are as before.
+pub record AreAskedInOrder (s : Source) (limit : ℕ) (before after : List Advised) : Type 0 where
+  pub whole : ℕ
+  pub asked : AllZip (IsAsked s limit) (take whole before) (take whole after)
+  pub untouched : drop (suc whole) after ≡ drop (suc whole) before

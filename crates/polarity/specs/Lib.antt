@@ -1,6 +1,7 @@
 pub mod Advisors
 pub mod Asking
 pub mod Cost
+pub mod Draws
 pub mod Makers
 pub mod Proposals
 pub mod Round

@@ -1,4 +1,4 @@
--- What makers of expansions refuse.
+-- What makers of expansions give and refuse. For private contracts alone.
 use Rattle.std.specs.Prelude.{ℕ}
 use Rattle.ae_base.specs.Cube.{Signs}
 use Rattle.ae_base.specs.Source.{Source}
@@ -10,3 +10,7 @@ pub record HasTooManyAt (s : Source) (limit : ℕ) (p : Signs) (output : ℕ) : 
   pub expansions : Terms
   pub are_expansions : AreExpansions s p expansions
   pub passes : PassesAt limit expansions.outs output
+
+-- what holds of each source whose expansions these are
+abbrev pub OfEachSource : Terms → (Source → Type 0) → Type 0
+OfEachSource e P = (s : Source) → AreExpansions s e.polarity e → P s

@@ -1,9 +1,10 @@
--- What the advisors of this crate propose.
-use Rattle.std.specs.Prelude.{◌≡◌, ℕ, zero, suc, ◌+◌, ◌-◌, ◌*◌, ◌/◌, ◌%◌, ◌^◌, nat_lt, List, [], ◌∷◌, ◌++◌, drop, slice_index, Option, Some, None, Result, Ok, Err}
+-- What the advisors of this crate propose. For private contracts alone.
+use Rattle.std.specs.Prelude.{◌≡◌, ℕ, suc, ◌-◌, nat_lt, List, [], ◌∷◌, ◌++◌, drop, slice_index, Option, Some, None, Result, Ok, Err}
 use Rattle.ae_base.specs.Mask.{Set, both, empty, first, where_below}
 use Rattle.ae_base.specs.Cube.{Signs}
 use Rattle.ae_base.specs.declared.memory.Memory.{Memory}
 use Rattle.polarity.specs.Advisors.{entry_of}
+use Rattle.polarity.specs.Draws.{after_draws, drawn}
 use Rattle.polarity.specs.declared.entry.Entry.{Entry}
 use Rattle.polarity.specs.declared.entry.Told.TheVariants.{Untold}
 
@@ -22,20 +23,7 @@ proposed log p = log ++ entry_of p Untold ∷ []
 abbrev pub all_complemented : ℕ → Signs
 all_complemented n = record { n = n; plain = empty }
 
--- ---- a walk, by a linear congruential generator
-
--- the state after a draw
-abbrev pub stepped : ℕ → ℕ
-stepped x = (1103515245 * x + 12345) % 2 ^ 31
-
--- the state after k draws
-abbrev pub after_draws : ℕ → ℕ → ℕ
-after_draws zero x = x
-after_draws (suc k) x = stepped (after_draws k x)
-
--- what a draw gives, a number below 4, where x is the state after it
-abbrev pub drawn : ℕ → ℕ
-drawn x = x / 65536 % 4
+-- ---- a walk, by the generator of numbers
 
 -- one draw for each of n inputs in order: the input is plain where it gives 0 or 1
 abbrev pub walked : ℕ → ℕ → Signs

@@ -1,7 +1,8 @@
 -- Words of private contracts alone: a round of settling.
 use Rattle.std.specs.Prelude.{◌≡◌, ◌<◌, None}
 use Rattle.ae_base.specs.Source.{Source}
-use Rattle.expansion.specs.Functions.{AreExpansions, KeepsFunctions}
+use Rattle.expansion.specs.Functions.{AreExpansions}
+use Rattle.expansion.specs.Kept.{KeepsFunctions}
 use Rattle.expansion.specs.Terms.{Terms, cost}
 use Rattle.polarity.specs.Settling.{first_cheaper, with_flip}
 

@@ -2,8 +2,6 @@
 use Rattle.std.specs.Prelude.{◌≡◌, ℕ, ◌<◌, ◌≤◌, nat_le, Bool, true, false, not, if◌then◌else◌, List, [], ◌∷◌, ◌++◌, length, drop, map, filter, All}
 use Rattle.ae_base.specs.Cube.{Signs}
 use Rattle.ae_base.specs.Source.{Source}
-use Rattle.expansion.specs.Functions.{AreExpansions}
-use Rattle.expansion.specs.Terms.{Terms}
 use Rattle.polarity.specs.Cost.{cost_of, IsLocallyCheapest}
 use Rattle.polarity.specs.Settling.{settling}
 use Rattle.polarity.specs.declared.entry.Entry.{Entry}
@@ -17,10 +15,6 @@ pub record Advised : Type 0 where
 
 abbrev pub advised : ℕ → List Entry → Advised
 advised left log = record { left = left; log = log }
-
--- what holds of each source whose expansions these are
-abbrev pub OfEachSource : Terms → (Source → Type 0) → Type 0
-OfEachSource e P = (s : Source) → AreExpansions s e.polarity e → P s
 
 -- ---- asking
 

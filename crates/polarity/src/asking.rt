@@ -2,11 +2,12 @@
 ghost use Rattle.std.specs.Prelude.{◌≡◌, ◌≤◌, IfOk, OnOk, length, map, if◌then◌else◌, nat_lt};
 ghost use Rattle.std.specs.List.{AllZip};
 ghost use Rattle.ae_base.specs.declared.limits.TheConstants.{SOURCE_LINES};
-ghost use Rattle.expansion.specs.Functions.{KeepsFunctions};
+ghost use Rattle.expansion.specs.Kept.{KeepsFunctions};
 ghost use Rattle.expansion.specs.Terms.{cost};
 ghost use Rattle.polarity.specs.Advisors.{told_of};
-ghost use Rattle.polarity.specs.Asking.{AreAsked, IsCandidate, IsBeingAsked, cheaper_at};
-ghost use Rattle.polarity.specs.Search.{IsAsked, IsChosen, OfEachSource, Stands, advised, told_at};
+ghost use Rattle.polarity.specs.Asking.{AreAsked, AreAskedInOrder, IsCandidate, IsBeingAsked, cheaper_at};
+ghost use Rattle.polarity.specs.Search.{IsAsked, IsChosen, Stands, advised, told_at};
+ghost use Rattle.polarity.specs.Makers.{OfEachSource};
 
 use crate::advisor::Advisor;
 use crate::laws::cost_law;
@@ -86,6 +87,8 @@ fn ask_each<A: Advisor, M: Maker>(
     ensures asked { IfOk result (λ e. OfEachSource (M.base maker.now) (λ s.
         AreAsked s (M.limit maker.now) start.polarity (map (λ a. advised (A.left a) (A.log a)) advisors.old) (map (λ a. advised (A.left a) (A.log a)) advisors.new)
         e.polarity)) }
+    ensures ordered { OfEachSource (M.base maker.now) (λ s.
+        AreAskedInOrder s (M.limit maker.now) (map (λ a. advised (A.left a) (A.log a)) advisors.old) (map (λ a. advised (A.left a) (A.log a)) advisors.new)) }
     ensures stands { AllZip Stands (map (λ a. advised (A.left a) (A.log a)) advisors.old) (map (λ a. advised (A.left a) (A.log a)) advisors.new) }
 {
     let mut best = start;
@@ -108,6 +111,8 @@ fn ask_all<M: Maker>(
     ensures asked { IfOk result (λ e. OfEachSource (M.base maker.now) (λ s.
         AreAsked s (M.limit maker.now) start.polarity (map (λ b. advised (left b) (log b)) advisors.old.items) (map (λ b. advised (left b) (log b)) advisors.new.items)
         e.polarity)) }
+    ensures ordered { OfEachSource (M.base maker.now) (λ s.
+        AreAskedInOrder s (M.limit maker.now) (map (λ b. advised (left b) (log b)) advisors.old.items) (map (λ b. advised (left b) (log b)) advisors.new.items)) }
     ensures stands { AllZip Stands (map (λ b. advised (left b) (log b)) advisors.old.items) (map (λ b. advised (left b) (log b)) advisors.new.items) }
     ensures kept { length advisors.new.items ≡ length advisors.old.items }
 {
@@ -131,6 +136,8 @@ pub fn choose<M: Maker>(
     ensures within { IfOk result (λ e. cost e ≤ M.limit maker.now) }
     ensures asked { OnOk result (OfEachSource start (λ s.
         AllZip (IsAsked s (M.limit maker.now)) (map (λ b. advised (left b) (log b)) advisors.old.items) (map (λ b. advised (left b) (log b)) advisors.new.items))) }
+    ensures ordered { OfEachSource start (λ s.
+        AreAskedInOrder s (M.limit maker.now) (map (λ b. advised (left b) (log b)) advisors.old.items) (map (λ b. advised (left b) (log b)) advisors.new.items)) }
     ensures chosen { IfOk result (λ e. OfEachSource start (λ s.
         IsChosen s start.polarity (map (λ b. advised (left b) (log b)) advisors.old.items) (map (λ b. advised (left b) (log b)) advisors.new.items) e.polarity)) }
     ensures stands { AllZip Stands (map (λ b. advised (left b) (log b)) advisors.old.items) (map (λ b. advised (left b) (log b)) advisors.new.items) }

@@ -1,6 +1,6 @@
 //! A generator of numbers that look drawn by chance and are always the same.
 ghost use Rattle.std.specs.Prelude.{◌≡◌, ◌<◌, ◌%◌, ◌^◌};
-ghost use Rattle.polarity.specs.Proposals.{drawn, stepped};
+ghost use Rattle.polarity.specs.Draws.{drawn, stepped};
 
 use std::marker::Model;
 

@@ -1,10 +1,9 @@
 //! Makers of expansions, at any polarity.
 ghost use Rattle.std.specs.Prelude.{◌≡◌, ℕ, ◌<◌, ◌≤◌, ◌^◌, IfOk, IsErrOf};
-ghost use Rattle.expansion.specs.Functions.{KeepsFunctions};
+ghost use Rattle.expansion.specs.Kept.{KeepsFunctions};
 ghost use Rattle.expansion.specs.Terms.{Terms, cost};
 ghost use Rattle.expansion.specs.declared.functions.ExpandErr.TheVariants as expand_err;
-ghost use Rattle.polarity.specs.Makers.{HasTooManyAt};
-ghost use Rattle.polarity.specs.Search.{OfEachSource};
+ghost use Rattle.polarity.specs.Makers.{HasTooManyAt, OfEachSource};
 
 use ae_base::Polarity;
 use expansion::{ExpandErr, Expansion};

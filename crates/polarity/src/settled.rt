@@ -1,7 +1,8 @@
 //! Settling: the polarity goes down in cost, one input at a time.
 ghost use Rattle.std.specs.Prelude.{◌≡◌, ◌<◌, ◌≤◌, ◌^◌, IfOk, MatchOption};
 ghost use Rattle.ae_base.specs.Source.{Source};
-ghost use Rattle.expansion.specs.Functions.{AreExpansions, KeepsFunctions};
+ghost use Rattle.expansion.specs.Functions.{AreExpansions};
+ghost use Rattle.expansion.specs.Kept.{KeepsFunctions};
 ghost use Rattle.expansion.specs.Terms.{cost};
 ghost use Rattle.polarity.specs.Cost.{IsLocallyCheapest};
 ghost use Rattle.polarity.specs.Round.{IsRound, NoneCheaper};

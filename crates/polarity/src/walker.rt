@@ -2,7 +2,8 @@
 ghost use Rattle.std.specs.Prelude.{◌≡◌, ◌≤◌, ◌%◌, ◌^◌, []};
 ghost use Rattle.ae_base.specs.declared.limits.TheConstants.{SOURCE_LINES};
 ghost use Rattle.polarity.specs.Advisors.{NextGives};
-ghost use Rattle.polarity.specs.Proposals.{Moves, after_draws, walk_on, walked};
+ghost use Rattle.polarity.specs.Proposals.{Moves, walk_on, walked};
+ghost use Rattle.polarity.specs.Draws.{after_draws};
 
 use crate::advisor::Advisor;
 use crate::entry::Entry;

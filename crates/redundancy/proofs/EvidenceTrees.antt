@@ -1,23 +1,20 @@
 -- Trees whose leaves hold, and the tree of a fault.
 use Rattle.std.proofs.Common.{◌≡◌, ℕ, zero, suc, ◌+◌, ◌<◌, Bool, true, false, not, cond, ◌&&◌, ◌||◌, inl, inr, List, [], ◌++◌, length, refl, sym, ap, ap₂, ◌∙◌, arith, eq-eqb, ne_eqb, append_assoc, append-nil}
-use Rattle.std.specs.Prelude.{Option}
 use Rattle.std.proofs.lemmas.Bool.{false≢true, cases_Bool, cases_eq}
 use Rattle.ae_base.specs.Mask.{Set, has}
 use Rattle.ae_base.proofs.Sets.{has-with, has-without}
 use Rattle.ae_net.specs.declared.net.Fault.{Fault}
 use Rattle.ae_net.specs.Detects.{Detects}
 use Rattle.ae_net.specs.Network.{Network}
-use Rattle.ae_net.specs.Out.{HasOneRun}
-use Rattle.ae_net.specs.Valid.{IsValid}
 use Rattle.redundancy.specs.declared.lines.Subcube.{Subcube}
-use Rattle.redundancy.specs.declared.words.Step.{Step}
+use Rattle.ae_base.specs.declared.step.Step.{Step}
 use Rattle.redundancy.specs.Evidence.{Tree, leaf, split, written, IsTree, WordHolds, EachLeafHolds, SplitsOnNeed, IsEvidenceTree}
 use Rattle.redundancy.specs.Growing.{tree_of}
 use Rattle.redundancy.specs.Leaf.{IsIn, whole, low, high, LeafHolds}
+use Rattle.redundancy.specs.Leaves.{LeafTells}
 use Rattle.redundancy.specs.Undetectable.{IsUndetectable}
 use Rattle.redundancy.specs.Worked.{leaf_holds}
-use Rattle.redundancy.proofs.Full.{LeafHolds-worked, worked-LeafHolds, full-leaf}
-use Rattle.redundancy.proofs.Sound.{leaf-covers}
+use Rattle.redundancy.proofs.Full.{full-leaf}
 
 -- ---- halves
 
@@ -37,16 +34,16 @@ in_low x d within e j l =
 
 -- ---- a tree whose leaves hold covers every point of its subcube
 
-covered : (n : Network) (fault : Fault) → IsValid n → (t : Tree) (d : Subcube) (x : Set) → EachLeafHolds n fault d t → IsIn x d → Detects n fault x → ⊥
-covered n fault valid leaf d x h within = leaf-covers n fault d x valid h within
-covered n fault valid (split a b) d x h within =
+covered : (n : Network) (fault : Fault) → ((d : Subcube) → LeafTells n fault d) → (t : Tree) (d : Subcube) (x : Set) → EachLeafHolds n fault d t → IsIn x d → Detects n fault x → ⊥
+covered n fault tells leaf d x h within = (tells d).covers h x within
+covered n fault tells (split a b) d x h within =
     elim (cases_Bool (has x d.depth)) [
-      | inl e ↦ covered n fault valid b (high d) x (h.1) (in_high x d within e)
-      | inr e ↦ covered n fault valid a (low d) x (h.0) (in_low x d within e)
+      | inl e ↦ covered n fault tells b (high d) x (h.1) (in_high x d within e)
+      | inr e ↦ covered n fault tells a (low d) x (h.0) (in_low x d within e)
     ]
 
-pub undetectable : (n : Network) (fault : Fault) (word : List Step) → IsValid n → WordHolds n fault word → IsUndetectable n fault
-undetectable n fault word valid h x = covered n fault valid h.whole_tree.tree whole x h.leaves (λ j l. absurd (omega (arith, l)))
+pub undetectable : (n : Network) (fault : Fault) (word : List Step) → ((d : Subcube) → LeafTells n fault d) → WordHolds n fault word → IsUndetectable n fault
+undetectable n fault word tells h x = covered n fault tells h.whole_tree.tree whole x h.leaves (λ j l. absurd (omega (arith, l)))
 
 -- ---- words
 
@@ -94,21 +91,21 @@ IsTree-tree_of n fault (suc m) d e =
     by_test false h = h
 
 -- where no point of the subcube detects the fault
-needed : (n : Network) (fault : Fault) → IsValid n → ((h : Option Fault) (x : Set) → HasOneRun n h x) → IsUndetectable n fault → (m : ℕ) (d : Subcube) → m + d.depth ≡ length n.inputs → SplitsOnNeed n fault d (tree_of n fault m d)
+needed : (n : Network) (fault : Fault) → ((d : Subcube) → LeafTells n fault d) → IsUndetectable n fault → (m : ℕ) (d : Subcube) → m + d.depth ≡ length n.inputs → SplitsOnNeed n fault d (tree_of n fault m d)
 unfolding tree_of
-needed n fault valid runs none zero d e = full-leaf n fault d valid (omega arith) (λ h. runs h d.point) (none d.point)
-needed n fault valid runs none (suc m) d e =
-    by_test (leaf_holds n fault d) (LeafHolds-worked n fault d valid) (worked-LeafHolds n fault d valid) (needed n fault valid runs none m (low d) (omega arith)) (needed n fault valid runs none m (high d) (omega arith))
+needed n fault tells none zero d e = full-leaf n fault d (tells d) (omega arith) (none d.point)
+needed n fault tells none (suc m) d e =
+    by_test (leaf_holds n fault d) ((tells d).worked.0) ((tells d).worked.1) (needed n fault tells none m (low d) (omega arith)) (needed n fault tells none m (high d) (omega arith))
   where
     by_test : (b : Bool) → (b ≡ true → LeafHolds n fault d) → (LeafHolds n fault d → b ≡ true) → SplitsOnNeed n fault (low d) (tree_of n fault m (low d)) → SplitsOnNeed n fault (high d) (tree_of n fault m (high d))
         → SplitsOnNeed n fault d (cond b leaf (split (tree_of n fault m (low d)) (tree_of n fault m (high d))))
     by_test true to back g h = to refl
     by_test false to back g h = (λ holds. false≢true (back holds), g, h)
 
-pub evidence_of_undetectable : (n : Network) (fault : Fault) → IsValid n → ((h : Option Fault) (x : Set) → HasOneRun n h x) → IsUndetectable n fault → (t : Tree) × IsEvidenceTree n fault t
-evidence_of_undetectable n fault valid runs none =
+pub evidence_of_undetectable : (n : Network) (fault : Fault) → ((d : Subcube) → LeafTells n fault d) → IsUndetectable n fault → (t : Tree) × IsEvidenceTree n fault t
+evidence_of_undetectable n fault tells none =
     let all : length n.inputs + whole.depth ≡ length n.inputs = omega arith in
-    (tree_of n fault (length n.inputs) whole, record { is_tree = IsTree-tree_of n fault (length n.inputs) whole all; on_need = needed n fault valid runs none (length n.inputs) whole all })
+    (tree_of n fault (length n.inputs) whole, record { is_tree = IsTree-tree_of n fault (length n.inputs) whole all; on_need = needed n fault tells none (length n.inputs) whole all })
 
-pub undetectable_by_evidence : (n : Network) (fault : Fault) → IsValid n → (t : Tree) → IsEvidenceTree n fault t → IsUndetectable n fault
-undetectable_by_evidence n fault valid t is = undetectable n fault (written t) valid (WordHolds-evidence n fault t is)
+pub undetectable_by_evidence : (n : Network) (fault : Fault) → ((d : Subcube) → LeafTells n fault d) → (t : Tree) → IsEvidenceTree n fault t → IsUndetectable n fault
+undetectable_by_evidence n fault tells t is = undetectable n fault (written t) tells (WordHolds-evidence n fault t is)

@@ -4,7 +4,6 @@ use Rattle.std.specs.Prelude.{Option, Some, None, slice_get, unwrap_or, ◌⊎�
 use Rattle.std.proofs.lemmas.Bool.{false≢true, cases_Bool, eqb-true, eqb-false}
 use Rattle.ae_net.specs.declared.net.Fault.{Fault}
 use Rattle.ae_net.specs.Network.{Network}
-use Rattle.ae_net.specs.Valid.{IsValid}
 use Rattle.redundancy.specs.declared.TheConstants.{LEAVES}
 use Rattle.redundancy.specs.declared.lines.Subcube.{Subcube}
 use Rattle.redundancy.specs.declared.trees.Found.{Found}
@@ -13,10 +12,10 @@ use Rattle.redundancy.specs.declared.trees.Growth.{Growth}
 use Rattle.redundancy.specs.Evidence.{written, leaf_count, SplitsOnNeed}
 use Rattle.redundancy.specs.Growing.{first_stop, tree_of, Grows}
 use Rattle.redundancy.specs.Leaf.{whole, low, high}
+use Rattle.redundancy.specs.Leaves.{LeafTells}
 use Rattle.redundancy.specs.Visits.{Visit, holds, detects, visits, met, BeginsWithLeaves, IsFound}
 use Rattle.redundancy.specs.Worked.{leaf_holds}
 use Rattle.redundancy.proofs.EvidenceTrees.{IsTree-tree_of}
-use Rattle.redundancy.proofs.Full.{LeafHolds-worked, worked-LeafHolds}
 use Rattle.redundancy.proofs.Growths.{first_stop-none, first_stop-some, visits_leaf, visits_point, visits_halves, tree_leaf, tree_halves}
 
 -- ---- the first stop in a list of visits
@@ -93,22 +92,22 @@ module _ (n : Network) (fault : Fault) where
           ∙ ap₂ (λ a b. a + b) (by_test m (low d) (cases_Bool (leaf_holds n fault (low d)))) (by_test m (high d) (cases_Bool (leaf_holds n fault (high d))))
           ∙ sym (ap length (visits_halves n fault m d e) ∙ length-append (visits n fault m (low d)) (visits n fault m (high d)))
 
-  split_on_need : IsValid n → (m : ℕ) (d : Subcube) (l : ℕ) → first_stop l (visits n fault m d) ≡ None → (leaf_holds n fault d ≡ true) ⊎ (leaf_holds n fault d ≡ false) → SplitsOnNeed n fault d (tree_of n fault m d)
-  split_on_need valid m d l e (inl held) = subst (SplitsOnNeed n fault d) (sym (tree_leaf n fault m d held)) (LeafHolds-worked n fault d valid held)
-  split_on_need valid zero d l e (inr unheld) = absurd (let point : first_stop l (detects d.point ∷ []) ≡ None = ap (first_stop l) (sym (visits_point n fault d unheld)) ∙ e in let s : ⊥ = cc in s)
-  split_on_need valid (suc m) d l e (inr unheld) =
+  split_on_need : ((d : Subcube) → LeafTells n fault d) → (m : ℕ) (d : Subcube) (l : ℕ) → first_stop l (visits n fault m d) ≡ None → (leaf_holds n fault d ≡ true) ⊎ (leaf_holds n fault d ≡ false) → SplitsOnNeed n fault d (tree_of n fault m d)
+  split_on_need tells m d l e (inl held) = subst (SplitsOnNeed n fault d) (sym (tree_leaf n fault m d held)) ((tells d).worked.0 held)
+  split_on_need tells zero d l e (inr unheld) = absurd (let point : first_stop l (detects d.point ∷ []) ≡ None = ap (first_stop l) (sym (visits_point n fault d unheld)) ∙ e in let s : ⊥ = cc in s)
+  split_on_need tells (suc m) d l e (inr unheld) =
       let a = visits n fault m (low d) in
       let b = visits n fault m (high d) in
       let both : first_stop l (a ++ b) ≡ None = ap (first_stop l) (sym (visits_halves n fault m d unheld)) ∙ e in
       let first : first_stop l a ≡ None = first_none l a b both in
       subst (SplitsOnNeed n fault d) (sym (tree_halves n fault m d unheld)) (
-        λ leaf. false≢true (sym unheld ∙ worked-LeafHolds n fault d valid leaf),
-        split_on_need valid m (low d) l first (cases_Bool (leaf_holds n fault (low d))),
-        split_on_need valid m (high d) (l + length a) (sym (first_stop-none l a b first) ∙ both) (cases_Bool (leaf_holds n fault (high d))),
+        λ leaf. false≢true (sym unheld ∙ (tells d).worked.1 leaf),
+        split_on_need tells m (low d) l first (cases_Bool (leaf_holds n fault (low d))),
+        split_on_need tells m (high d) (l + length a) (sym (first_stop-none l a b first) ∙ both) (cases_Bool (leaf_holds n fault (high d))),
       )
 
-  pub found : IsValid n → (old new : Growth) → old.word.items ≡ [] → old.leaves ≡ 0 → (stop : Option Found) → Grows n fault (length n.inputs - whole.depth) whole old new stop → IsFound n fault (unwrap_or stop (found_tree new.word))
-  found valid old new empty none stop grows =
+  pub found : ((d : Subcube) → LeafTells n fault d) → (old new : Growth) → old.word.items ≡ [] → old.leaves ≡ 0 → (stop : Option Found) → Grows n fault (length n.inputs - whole.depth) whole old new stop → IsFound n fault (unwrap_or stop (found_tree new.word))
+  found tells old new empty none stop grows =
       let inputs : length n.inputs - whole.depth ≡ length n.inputs = omega arith in
       let stop_is : stop ≡ first_stop 0 (met n fault) = grows.stop_is ∙ ap₂ (λ l k. first_stop l (visits n fault k whole)) none inputs in
       by_stop stop stop_is grows
@@ -119,7 +118,7 @@ module _ (n : Network) (fault : Fault) where
           let all : length n.inputs + whole.depth ≡ length n.inputs = omega arith in
           let few : 0 + length (met n fault) ≤ LEAVES = few_visits 0 (met n fault) (omega arith) (sym e) in (
             tree_of n fault (length n.inputs) whole,
-            record { is_tree = IsTree-tree_of n fault (length n.inputs) whole all; on_need = split_on_need valid (length n.inputs) whole 0 (sym e) (cases_Bool (leaf_holds n fault whole)) },
+            record { is_tree = IsTree-tree_of n fault (length n.inputs) whole all; on_need = split_on_need tells (length n.inputs) whole 0 (sym e) (cases_Bool (leaf_holds n fault whole)) },
             grows.grown.word ∙ ap (λ w. w ++ written (tree_of n fault (length n.inputs - whole.depth) whole)) empty ∙ ap (λ k. written (tree_of n fault k whole)) inputs,
             omega (arith, leaf_count-tree_of (length n.inputs) whole, few),
           )

@@ -2,24 +2,25 @@
 use Rattle.std.proofs.Common.{◌≡◌, ℕ, zero, suc, ◌+◌, ◌<◌, ◌≤◌, Bool, true, false, not, cond, ◌&&◌, inl, inr, List, length, refl, sym, ap, ◌∙◌, subst, arith, ltb}
 use Rattle.std.specs.Prelude.{Option, Some, None, slice_index, All, ◌⊎◌}
 use Rattle.std.proofs.lemmas.Bool.{false≢true, cases_Bool, and_from, or_cases, or_left, or_right, lt-ltb, cond-true}
-use Rattle.std.proofs.lemmas.List.{ext_get_or}
-use Rattle.ae_base.specs.Mask.{has, differ, where_below}
+use Rattle.ae_base.specs.Mask.{Set, has, differ, where_below}
 use Rattle.ae_base.proofs.Sets.{has-where_below}
 use Rattle.ae_net.specs.declared.net.Gate.{Gate}
-use Rattle.ae_net.specs.declared.net.Place.TheVariants.{Stem, Pin, Port}
+use Rattle.ae_net.specs.declared.net.Place.TheVariants.{Port}
 use Rattle.ae_net.specs.declared.net.Fault.{Fault}
 use Rattle.ae_net.specs.Detects.{Detects}
-use Rattle.ae_net.specs.Network.{Network, signals}
+use Rattle.ae_net.specs.Evaluation.{IsKept, HoldsWhereKept, HasOneEvaluation}
+use Rattle.ae_net.specs.Network.{Network}
 use Rattle.ae_net.specs.Out.{HasOneRun}
 use Rattle.ae_net.specs.Run.{same_place, seen, value_of, IsRun, ports_of}
 use Rattle.ae_net.specs.Valid.{IsValid, IsRowOf}
 use Rattle.redundancy.specs.declared.lines.Line.{Line}
 use Rattle.redundancy.specs.declared.lines.Subcube.{Subcube}
 use Rattle.redundancy.specs.Leaf.{line_at, port_line, IsUntouched, LeafHolds}
-use Rattle.redundancy.specs.Simulation.{each_below, held, input_line, gate_line, line_of, pin_line, IsSimulation}
-use Rattle.redundancy.specs.Worked.{lines_in, is_known, are_same, is_untouched, holds_by, leaf_holds}
-use Rattle.redundancy.proofs.Simulated.{unknown, each_signal, only_simulation, IsSimulation-lines_in}
-use Rattle.redundancy.proofs.Sound.{IsSound, each_at, port-sound, leaf-covers}
+use Rattle.redundancy.specs.Leaves.{IsSound, SoundFor, AreKnown, LeafTells}
+use Rattle.redundancy.specs.Simulation.{each_below, held, input_line, gate_line, line_of, IsSimulation}
+use Rattle.redundancy.specs.Worked.{known_lines, lines_in, is_known, are_same, is_untouched, holds_by, leaf_holds}
+use Rattle.redundancy.proofs.Simulated.{evaluation-of_simulation, only_simulation, IsSimulation-lines_in}
+use Rattle.redundancy.proofs.Sound.{each_at, port-sound, leaf-covers}
 use Rattle.redundancy.proofs.Tables.{table-decided}
 
 each_from : (n : ℕ) (p : ℕ → Bool) → ((k : ℕ) → k < n → p k ≡ true) → each_below n p ≡ true
@@ -62,29 +63,23 @@ holds_from : (n : Network) (fault : Fault) (lines : List Line) → ((line_at n l
 holds_from n fault lines (inl known) = or_left _ _ (known_at fault.value _ known)
 holds_from n fault lines (inr untouched) = or_right _ _ (each_from (length n.outputs) _ (λ o l. untouched_at (port_line n fault lines o) (untouched o l)))
 
-pub LeafHolds-worked : (n : Network) (fault : Fault) (d : Subcube) → IsValid n → leaf_holds n fault d ≡ true → LeafHolds n fault d
-unfolding leaf_holds
-LeafHolds-worked n fault d valid h = record {
-  lines = lines_in n fault d;
-  is_simulation = IsSimulation-lines_in n fault d valid;
-  shows_nothing = elim (or_cases _ _ h) [
-    | inl known ↦ inl (known_is fault.value _ known)
-    | inr all ↦ inr (λ o l. untouched_is (port_line n fault (lines_in n fault d) o) (each_at (length n.outputs) (λ o. is_untouched (port_line n fault (lines_in n fault d) o)) all o l))
-  ];
-}
+module _ (n : Network) (fault : Fault) (d : Subcube) (one : HasOneEvaluation (known_lines fault d) n) where
+  LeafHolds-worked : leaf_holds n fault d ≡ true → LeafHolds n fault d
+  unfolding leaf_holds
+  LeafHolds-worked h = record {
+    lines = lines_in n fault d;
+    is_simulation = IsSimulation-lines_in n fault d one;
+    shows_nothing = elim (or_cases _ _ h) [
+      | inl known ↦ inl (known_is fault.value _ known)
+      | inr all ↦ inr (λ o l. untouched_is (port_line n fault (lines_in n fault d) o) (each_at (length n.outputs) (λ o. is_untouched (port_line n fault (lines_in n fault d) o)) all o l))
+    ];
+  }
 
-pub worked-LeafHolds : (n : Network) (fault : Fault) (d : Subcube) → IsValid n → LeafHolds n fault d → leaf_holds n fault d ≡ true
-unfolding leaf_holds
-worked-LeafHolds n fault d valid leaf =
-    let is : IsSimulation n fault d (lines_in n fault d) = IsSimulation-lines_in n fault d valid in
-    let one : leaf.lines ≡ lines_in n fault d = ext_get_or unknown leaf.lines (lines_in n fault d) (leaf.is_simulation.all ∙ sym is.all) (λ s l. only_simulation n fault d valid leaf.lines (lines_in n fault d) leaf.is_simulation is s (omega (arith, leaf.is_simulation.all))) in
-    subst (λ lines. holds_by n fault lines ≡ true) one (holds_from n fault leaf.lines leaf.shows_nothing)
+  worked-LeafHolds : LeafHolds n fault d → leaf_holds n fault d ≡ true
+  unfolding leaf_holds
+  worked-LeafHolds leaf = subst (λ lines. holds_by n fault lines ≡ true) (only_simulation n fault d one leaf.lines leaf.is_simulation) (holds_from n fault leaf.lines leaf.shows_nothing)
 
 -- ---- where all inputs are known
-
--- known both without and with the fault
-abbrev AreKnown : Line → Type 0
-AreKnown l = ((b : Bool) × (l.good ≡ Some b)) × ((b : Bool) × (l.faulty ≡ Some b))
 
 known_held : (t v : Bool) (l : Line) → AreKnown l → AreKnown (cond t (record { good = l.good; faulty = Some v; quiet = false }) l)
 known_held true v l h = (h.0, (v, refl))
@@ -106,40 +101,58 @@ same_below n p q e k l =
 untouched_known : (l : Line) (a b : Bool) → AreKnown l → IsSound l a b → b ≡ a → is_untouched l ≡ true
 untouched_known l a b ((g, e), (h, f)) s same = or_right _ _ (same_at g l.good l.faulty e (f ∙ ap Some (sym (s.faulty h f) ∙ same ∙ s.good g e)))
 
-module _ (n : Network) (fault : Fault) (d : Subcube) (valid : IsValid n) (full : length n.inputs ≤ d.depth) where
-  known_signal : (lines : List Line) → IsSimulation n fault d lines → (s : ℕ) → s < signals n → AreKnown (line_of lines s)
-  known_signal lines sim =
-      each_signal n valid (λ s. AreKnown (line_of lines s))
-      (λ j l. subst AreKnown (sym (sim.inputs j l)) (known_held (same_place fault.place (Stem j)) fault.value _ (known_input d j (omega arith))))
-      (λ i gate there pins. subst AreKnown (sym (sim.gates i gate there)) (known_held (same_place fault.place (Stem (length n.inputs + i))) fault.value _
-      (known_gate gate (pin_line fault lines i gate) ((valid.gates i gate there).rows) (λ k l. known_held (same_place fault.place (Pin i k)) fault.value _ (pins k l)))))
+known_kept : (n : Network) (fault : Fault) (d : Subcube) → length n.inputs ≤ d.depth → IsKept (λ (l m : Line). AreKnown l) n (known_lines fault d) (known_lines fault d)
+known_kept n fault d full = record {
+  inputs = λ j l. known_input d j (omega arith);
+  tables = λ s gate is p q h. known_gate gate p is.rows h;
+  places = λ at l m h. known_held (same_place fault.place at) fault.value l h;
+}
 
+-- what the laws of ae_net say of lines
+pub record Laws (n : Network) (fault : Fault) : Type 0 where
+  pub runs : (h : Option Fault) (x : Set) → HasOneRun n h x
+  pub lines : (d : Subcube) → HasOneEvaluation (known_lines fault d) n
+  pub sound : HoldsWhereKept SoundFor
+  pub known : HoldsWhereKept (λ (l m : Line). AreKnown l)
+
+module _ (n : Network) (fault : Fault) (d : Subcube) (valid : IsValid n) (laws : Laws n fault) where
   -- where the ports show the same, the leaf holds
-  holds_where_same : (w v : List Bool) → IsRun n None d.point w → IsRun n (Some fault) d.point v → ports_of n (Some fault) v ≡ ports_of n None w → leaf_holds n fault d ≡ true
+  holds_where_same : length n.inputs ≤ d.depth → (w v : List Bool) → IsRun n None d.point w → IsRun n (Some fault) d.point v → ports_of n (Some fault) v ≡ ports_of n None w → leaf_holds n fault d ≡ true
   unfolding leaf_holds
-  holds_where_same w v good faulty same =
+  holds_where_same full w v good faulty same =
       let lines = lines_in n fault d in
-      let sim : IsSimulation n fault d lines = IsSimulation-lines_in n fault d valid in
+      let sim : IsSimulation n fault d lines = IsSimulation-lines_in n fault d (laws.lines d) in
+      let is = evaluation-of_simulation n fault d lines sim in
+      let known = laws.known n (known_lines fault d) (known_lines fault d) (line_of lines) (line_of lines) valid (known_kept n fault d full) is is in
       or_right _ _
       (each_from (length n.outputs) _ (λ o l.
-      untouched_known (port_line n fault lines o) _ _
-      (known_held (same_place fault.place (Port o)) fault.value _ (known_signal lines sim (slice_index n.outputs o) ((valid.ports o 0 l).1)))
-      (port-sound n fault d d.point lines w v valid sim (λ j m. refl) good faulty o l)
+      untouched_known (port_line n fault lines o) _ _ (known.ports o l)
+      (port-sound n fault d d.point lines w v laws.sound valid sim (λ j m. refl) good faulty o l)
       (same_below (length n.outputs) (λ o. seen (Some fault) (Port o) (value_of v (slice_index n.outputs o))) (λ o. value_of w (slice_index n.outputs o)) same o l)))
 
   -- a leaf that does not hold
-  pub point-detects : ((h : Option Fault) → HasOneRun n h d.point) → leaf_holds n fault d ≡ false → Detects n fault d.point
-  point-detects runs unheld = record {
-    good = ports_of n None (runs None).0;
-    shows_good = record { run = (runs None).0; is_run = (runs None).1; ports = refl };
-    faulty = ports_of n (Some fault) (runs (Some fault)).0;
-    shows_faulty = record { run = (runs (Some fault)).0; is_run = (runs (Some fault)).1; ports = refl };
-    differ = λ e. false≢true (sym unheld ∙ holds_where_same (runs None).0 (runs (Some fault)).0 (runs None).1 (runs (Some fault)).1 e);
+  point-detects : length n.inputs ≤ d.depth → leaf_holds n fault d ≡ false → Detects n fault d.point
+  point-detects full unheld =
+      let good = laws.runs None d.point in
+      let faulty = laws.runs (Some fault) d.point in
+      record {
+        good = ports_of n None good.0;
+        shows_good = record { run = good.0; is_run = good.1; ports = refl };
+        faulty = ports_of n (Some fault) faulty.0;
+        shows_faulty = record { run = faulty.0; is_run = faulty.1; ports = refl };
+        differ = λ e. false≢true (sym unheld ∙ holds_where_same full good.0 faulty.0 good.1 faulty.1 e);
+      }
+
+  pub leaf_tells : LeafTells n fault d
+  leaf_tells = record {
+    worked = (LeafHolds-worked n fault d (laws.lines d), worked-LeafHolds n fault d (laws.lines d));
+    covers = λ leaf x within. leaf-covers n fault d x laws.sound (laws.runs (Some fault) x) valid leaf within;
+    detects = point-detects;
   }
 
-  pub full-leaf : ((h : Option Fault) → HasOneRun n h d.point) → (Detects n fault d.point → ⊥) → LeafHolds n fault d
-  full-leaf runs none = elim (cases_Bool (leaf_holds n fault d)) [ inl held ↦ LeafHolds-worked n fault d valid held | inr unheld ↦ absurd (none (point-detects runs unheld)) ]
+-- where all inputs are known, a leaf holds exactly where its point does not detect the fault
+pub full-leaf : (n : Network) (fault : Fault) (d : Subcube) → LeafTells n fault d → length n.inputs ≤ d.depth → (Detects n fault d.point → ⊥) → LeafHolds n fault d
+full-leaf n fault d tells full none = elim (cases_Bool (leaf_holds n fault d)) [ inl held ↦ tells.worked.0 held | inr unheld ↦ absurd (none (tells.detects full unheld)) ]
 
--- a leaf that holds at its own point
-pub leaf-full : (n : Network) (fault : Fault) (d : Subcube) → IsValid n → LeafHolds n fault d → Detects n fault d.point → ⊥
-leaf-full n fault d valid leaf = leaf-covers n fault d d.point valid leaf (λ j l. refl)
+pub leaf-full : (n : Network) (fault : Fault) (d : Subcube) → LeafTells n fault d → LeafHolds n fault d → Detects n fault d.point → ⊥
+leaf-full n fault d tells leaf = tells.covers leaf d.point (λ j l. refl)

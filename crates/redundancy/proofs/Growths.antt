@@ -8,8 +8,8 @@ use Rattle.redundancy.specs.declared.lines.Subcube.{Subcube}
 use Rattle.redundancy.specs.declared.trees.Found.{Found}
 use Rattle.redundancy.specs.declared.trees.Found.TheVariants.{TooWide, Differs}
 use Rattle.redundancy.specs.declared.trees.Growth.{Growth}
-use Rattle.redundancy.specs.declared.words.Step.{Step}
-use Rattle.redundancy.specs.declared.words.Step.TheVariants.{S}
+use Rattle.ae_base.specs.declared.step.Step.{Step}
+use Rattle.ae_base.specs.declared.step.Step.TheVariants.{S}
 use Rattle.redundancy.specs.Evidence.{leaf, split, written}
 use Rattle.redundancy.specs.Growing.{first_stop, tree_of, AddsLeaf, AddsSplit, Grows}
 use Rattle.redundancy.specs.Leaf.{low, high}

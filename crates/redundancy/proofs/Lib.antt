@@ -3,7 +3,6 @@ pub mod EvidenceTrees
 pub mod Findings
 pub mod Full
 pub mod Growths
-pub mod Places
 pub mod Readings
 pub mod Simulated
 pub mod Sound

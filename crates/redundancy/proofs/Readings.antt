@@ -5,8 +5,8 @@ use Rattle.std.specs.Prelude.{Option, Some, None, MatchOption}
 use Rattle.ae_net.specs.declared.net.Fault.{Fault}
 use Rattle.ae_net.specs.Network.{Network}
 use Rattle.redundancy.specs.declared.lines.Subcube.{Subcube}
-use Rattle.redundancy.specs.declared.words.Step.{Step}
-use Rattle.redundancy.specs.declared.words.Step.TheVariants.{S, L}
+use Rattle.ae_base.specs.declared.step.Step.{Step}
+use Rattle.ae_base.specs.declared.step.Step.TheVariants.{S, L}
 use Rattle.redundancy.specs.Evidence.{leaf, split, written, WordHolds}
 use Rattle.redundancy.specs.Leaf.{whole, low, high, LeafHolds}
 use Rattle.redundancy.specs.Reading.{ReadsTo, HasNoTree}

@@ -2,28 +2,27 @@
 use Rattle.std.proofs.Common.{◌≡◌, ℕ, zero, suc, ◌+◌, ◌<◌, Bool, true, false, cond, inl, inr, List, length, refl, sym, ap, ap₂, ◌∙◌, arith, ltb, eqb, eqb-true}
 use Rattle.std.specs.Prelude.{Option, Some, None, is_some, slice_get, slice_index, ◌⊎◌}
 use Rattle.std.proofs.lemmas.Bool.{false≢true, cases_eq, and_parts, or_cases, ltb-true}
-use Rattle.std.proofs.lemmas.Option.{slice_get_within}
+use Rattle.std.proofs.lemmas.Option.{slice_get_within, get_or_from_slice_get}
 use Rattle.ae_base.specs.Mask.{Set, has, where_below}
+use Rattle.ae_base.proofs.Below.{where_below_agree}
 use Rattle.ae_net.specs.declared.net.Gate.{Gate}
 use Rattle.ae_net.specs.declared.net.Place.{Place}
 use Rattle.ae_net.specs.declared.net.Place.TheVariants.{Stem, Pin, Port}
 use Rattle.ae_net.specs.declared.net.Fault.{Fault}
 use Rattle.ae_net.specs.Detects.{Detects}
+use Rattle.ae_net.specs.Evaluation.{Domain, IsEvaluation, IsKept, HoldsAtEach, HoldsWhereKept}
 use Rattle.ae_net.specs.Network.{Network, signals}
+use Rattle.ae_net.specs.Out.{HasOneRun}
 use Rattle.ae_net.specs.Run.{table, same_place, seen, value_of, IsRun, ports_of}
 use Rattle.ae_net.specs.Valid.{IsValid}
 use Rattle.redundancy.specs.declared.lines.Line.{Line}
 use Rattle.redundancy.specs.declared.lines.Subcube.{Subcube}
 use Rattle.redundancy.specs.Leaf.{IsIn, line_at, port_line, IsUntouched, LeafHolds}
-use Rattle.redundancy.specs.Simulation.{Known, each_below, known_pins, known_table, held, input_line, gate_line, line_of, pin_line, IsSimulation}
-use Rattle.redundancy.proofs.Simulated.{where_below_agree, each_signal, gate_is}
-use Rattle.redundancy.proofs.Tables.{IsAs, table-known}
-
--- what is known of a line holds of its values without and with the fault
-pub record IsSound (l : Line) (a b : Bool) : Type 0 where
-  pub good : IsAs l.good a
-  pub faulty : IsAs l.faulty b
-  pub quiet : l.quiet ≡ true → b ≡ a
+use Rattle.redundancy.specs.Leaves.{IsAs, IsSound, SoundFor}
+use Rattle.redundancy.specs.Simulation.{Known, each_below, known_pins, known_table, held, input_line, gate_line, line_of, IsSimulation}
+use Rattle.redundancy.specs.Worked.{known_lines}
+use Rattle.redundancy.proofs.Simulated.{evaluation-of_simulation}
+use Rattle.redundancy.proofs.Tables.{table-known}
 
 -- ---- one line
 
@@ -100,28 +99,43 @@ kept_value false v a b h e = e
 seen_inactive : (fault : Fault) (at : Place) (a b : Bool) → (same_place fault.place at ≡ true → a ≡ fault.value) → b ≡ a → seen (Some fault) at b ≡ a
 seen_inactive fault at a b h e = kept_value (same_place fault.place at) fault.value a b h e
 
-moved : (l l' : Line) (a a' b b' : Bool) → l ≡ l' → a ≡ a' → b ≡ b' → IsSound l' a' b' → IsSound l a b
-moved l l' a a' b b' e f g s = rw (e, f, g) s
-
 -- ---- all signals, at a point of the subcube
 
-module _ (n : Network) (fault : Fault) (d : Subcube) (x : Set) (lines : List Line) (w v : List Bool) (valid : IsValid n) (sim : IsSimulation n fault d lines) (within : IsIn x d) (good : IsRun n None x w) (faulty : IsRun n (Some fault) x v) where
-  pub signal-sound : (s : ℕ) → s < signals n → IsSound (line_of lines s) (value_of w s) (value_of v s)
-  signal-sound =
-      each_signal n valid (λ s. IsSound (line_of lines s) (value_of w s) (value_of v s))
-      (λ j l. moved _ _ _ _ _ _ (sim.inputs j l) (good.inputs j l) (faulty.inputs j l) (held-sound fault (Stem j) _ _ _ (input-sound d x j within)))
-      (λ i gate there pins. moved _ _ _ _ _ _ (sim.gates i gate there) (good.gates i gate there) (faulty.gates i gate there)
-      (held-sound fault (Stem (length n.inputs + i)) _ _ _ (gate-sound gate (pin_line fault lines i gate) (λ k. seen None (Pin i k) (value_of w (slice_index gate.pins k))) (λ k. seen (Some fault) (Pin i k) (value_of v (slice_index gate.pins k))) (λ k l. held-sound fault (Pin i k) _ _ _ (pins k l)))))
+-- pairs of truth values at a point, without the fault and with it
+abbrev pairs : Fault → Set → Domain (Bool × Bool)
+pairs fault x = record {
+  nothing = (false, false);
+  input = λ j. (has x j, has x j);
+  table = λ gate sees. (table gate (where_below (length gate.pins) (λ k. (sees k).0)), table gate (where_below (length gate.pins) (λ k. (sees k).1)));
+  seen = λ at v. (seen None at v.0, seen (Some fault) at v.1);
+}
+
+two_runs : (n : Network) (fault : Fault) (x : Set) (w v : List Bool) → IsRun n None x w → IsRun n (Some fault) x v → IsEvaluation (pairs fault x) n (λ s. (value_of w s, value_of v s))
+two_runs n fault x w v good faulty = record {
+  inputs = λ j l. ap₂ (λ a b. (a, b)) (good.inputs j l) (faulty.inputs j l);
+  gates = λ i gate there. ap₂ (λ a b. (a, b)) (good.gates i gate there) (faulty.gates i gate there);
+}
+
+soundness_kept : (n : Network) (fault : Fault) (d : Subcube) (x : Set) → IsIn x d → IsKept SoundFor n (known_lines fault d) (pairs fault x)
+soundness_kept n fault d x within = record {
+  inputs = λ j l. input-sound d x j within;
+  tables = λ s gate is p q h. gate-sound gate p (λ k. (q k).0) (λ k. (q k).1) h;
+  places = λ at l v h. held-sound fault at l v.0 v.1 h;
+}
+
+module _ (n : Network) (fault : Fault) (d : Subcube) (x : Set) (lines : List Line) (w v : List Bool) (law : HoldsWhereKept SoundFor) (valid : IsValid n) (sim : IsSimulation n fault d lines) (within : IsIn x d) (good : IsRun n None x w) (faulty : IsRun n (Some fault) x v) where
+  pub each-sound : HoldsAtEach SoundFor n (known_lines fault d) (pairs fault x) (line_of lines) (λ s. (value_of w s, value_of v s))
+  each-sound = law n (known_lines fault d) (pairs fault x) (line_of lines) (λ s. (value_of w s, value_of v s)) valid (soundness_kept n fault d x within) (evaluation-of_simulation n fault d lines sim) (two_runs n fault x w v good faulty)
 
   pub port-sound : (o : ℕ) → o < length n.outputs → IsSound (port_line n fault lines o) (value_of w (slice_index n.outputs o)) (seen (Some fault) (Port o) (value_of v (slice_index n.outputs o)))
-  port-sound o l = held-sound fault (Port o) _ _ _ (signal-sound (slice_index n.outputs o) ((valid.ports o 0 l).1))
+  port-sound o l = each-sound.ports o l
 
   -- the fault's line has the stuck value without the fault
   abbrev IsInactive : Type 0
   IsInactive = (line_at n lines fault.place).good ≡ Some fault.value
 
   site_value : IsInactive → (s : ℕ) → s < signals n → line_at n lines fault.place ≡ line_of lines s → value_of w s ≡ fault.value
-  site_value known s l e = (signal-sound s l).good fault.value (ap (λ k. k.good) (sym e) ∙ known)
+  site_value known s l e = (each-sound.signals s l).good fault.value (ap (λ k. k.good) (sym e) ∙ known)
 
   stem_site : IsInactive → (s : ℕ) → s < signals n → same_place fault.place (Stem s) ≡ true → value_of w s ≡ fault.value
   stem_site known s l e = site_value known s l (ap (line_at n lines) (same-place-is fault.place (Stem s) e))
@@ -129,34 +143,37 @@ module _ (n : Network) (fault : Fault) (d : Subcube) (x : Set) (lines : List Lin
   pin_site : IsInactive → (i : ℕ) (gate : Gate) → slice_get n.gates i ≡ Some gate → (k : ℕ) → k < length gate.pins → same_place fault.place (Pin i k) ≡ true → value_of w (slice_index gate.pins k) ≡ fault.value
   pin_site known i gate there k l e =
       site_value known (slice_index gate.pins k) (omega (arith, (valid.gates i gate there).earlier k 0 l, slice_get_within n.gates i gate there))
-      (ap (line_at n lines) (same-place-is fault.place (Pin i k) e) ∙ ap (λ g. line_of lines (slice_index g.pins k)) (gate_is n i gate there))
+      (ap (line_at n lines) (same-place-is fault.place (Pin i k) e) ∙ ap (λ g. line_of lines (slice_index g.pins k)) (get_or_from_slice_get n.gates i gate _ there))
 
   port_site : IsInactive → (o : ℕ) → o < length n.outputs → same_place fault.place (Port o) ≡ true → value_of w (slice_index n.outputs o) ≡ fault.value
   port_site known o l e = site_value known (slice_index n.outputs o) ((valid.ports o 0 l).1) (ap (line_at n lines) (same-place-is fault.place (Port o) e))
 
-  same_values : IsInactive → (s : ℕ) → s < signals n → value_of v s ≡ value_of w s
-  same_values known =
-      each_signal n valid (λ s. value_of v s ≡ value_of w s)
-      (λ j l. faulty.inputs j l ∙ seen_inactive fault (Stem j) (has x j) (has x j) (λ e. sym (good.inputs j l) ∙ stem_site known j (omega arith) e) refl ∙ sym (good.inputs j l))
-      (λ i gate there pins.
-      faulty.gates i gate there
-      ∙ seen_inactive fault (Stem (length n.inputs + i)) _ _ (λ e. sym (good.gates i gate there) ∙ stem_site known (length n.inputs + i) (omega (arith, slice_get_within n.gates i gate there)) e)
-      (ap (table gate) (where_below_agree (length gate.pins) _ _ (λ k l. seen_inactive fault (Pin i k) _ _ (pin_site known i gate there k l) (pins k l))))
-      ∙ sym (good.gates i gate there))
+  -- the run without the fault is then one with it
+  inactive_run : IsInactive → IsRun n (Some fault) x w
+  inactive_run known = record {
+    all = good.all;
+    inputs = λ j l. good.inputs j l ∙ sym (seen_inactive fault (Stem j) (has x j) (has x j) (λ e. sym (good.inputs j l) ∙ stem_site known j (omega arith) e) refl);
+    gates = λ i gate there.
+        good.gates i gate there
+        ∙ sym (seen_inactive fault (Stem (length n.inputs + i)) _ _ (λ e. sym (good.gates i gate there) ∙ stem_site known (length n.inputs + i) (omega (arith, slice_get_within n.gates i gate there)) e)
+        (ap (table gate) (where_below_agree (length gate.pins) _ _ (λ k l. seen_inactive fault (Pin i k) _ _ (pin_site known i gate there k l) refl))));
+  }
 
   port_same : (o : ℕ) → o < length n.outputs → IsUntouched (port_line n fault lines o) → seen (Some fault) (Port o) (value_of v (slice_index n.outputs o)) ≡ value_of w (slice_index n.outputs o)
   port_same o l (inl quiet) = (port-sound o l).quiet quiet
   port_same o l (inr (b, g, h)) = (port-sound o l).faulty b h ∙ sym ((port-sound o l).good b g)
 
   -- what the leaf shows leaves each port as it is without the fault
-  pub ports_same : ((line_at n lines fault.place).good ≡ Some fault.value) ⊎ ((o : ℕ) → o < length n.outputs → IsUntouched (port_line n fault lines o)) → ports_of n (Some fault) v ≡ ports_of n None w
-  ports_same (inl known) = where_below_agree (length n.outputs) _ _ (λ o l. seen_inactive fault (Port o) _ _ (port_site known o l) (same_values known (slice_index n.outputs o) ((valid.ports o 0 l).1)))
-  ports_same (inr untouched) = where_below_agree (length n.outputs) _ _ (λ o l. port_same o l (untouched o l))
+  pub ports_same : HasOneRun n (Some fault) x → ((line_at n lines fault.place).good ≡ Some fault.value) ⊎ ((o : ℕ) → o < length n.outputs → IsUntouched (port_line n fault lines o)) → ports_of n (Some fault) v ≡ ports_of n None w
+  ports_same run (inl known) =
+      let same : v ≡ w = run.2 v faulty ∙ sym (run.2 w (inactive_run known)) in
+      where_below_agree (length n.outputs) _ _ (λ o l. seen_inactive fault (Port o) _ _ (port_site known o l) (ap (λ u. value_of u (slice_index n.outputs o)) same))
+  ports_same run (inr untouched) = where_below_agree (length n.outputs) _ _ (λ o l. port_same o l (untouched o l))
 
 -- a leaf that holds covers every point in it
-pub leaf-covers : (n : Network) (fault : Fault) (d : Subcube) (x : Set) → IsValid n → LeafHolds n fault d → IsIn x d → Detects n fault x → ⊥
-leaf-covers n fault d x valid leaf within detects =
+pub leaf-covers : (n : Network) (fault : Fault) (d : Subcube) (x : Set) → HoldsWhereKept SoundFor → HasOneRun n (Some fault) x → IsValid n → LeafHolds n fault d → IsIn x d → Detects n fault x → ⊥
+leaf-covers n fault d x law run valid leaf within detects =
     detects.differ
     (detects.shows_faulty.ports
-    ∙ ports_same n fault d x leaf.lines detects.shows_good.run detects.shows_faulty.run valid leaf.is_simulation within detects.shows_good.is_run detects.shows_faulty.is_run leaf.shows_nothing
+    ∙ ports_same n fault d x leaf.lines detects.shows_good.run detects.shows_faulty.run law valid leaf.is_simulation within detects.shows_good.is_run detects.shows_faulty.is_run run leaf.shows_nothing
     ∙ sym detects.shows_good.ports)

@@ -13,11 +13,8 @@ use Rattle.ae_net.specs.declared.net.Gate.{Gate}
 use Rattle.ae_net.specs.Run.{table}
 use Rattle.ae_net.specs.Valid.{IsRowOf}
 use Rattle.redundancy.proofs.Bytes.{IsProduct-known_pins}
+use Rattle.redundancy.specs.Leaves.{IsAs}
 use Rattle.redundancy.specs.Simulation.{Known, is_one, is_zero, known_pins, surely_holds, surely_fails, known_table}
-
--- the value agrees with what is known of it
-abbrev pub IsAs : Known → Bool → Type 0
-IsAs k a = (c : Bool) → k ≡ Some c → a ≡ c
 
 one_is : (k : Option Bool) → is_one k ≡ true → k ≡ Some true
 one_is None h = absurd (false≢true h)

@@ -11,17 +11,16 @@ use Rattle.ae_net.specs.declared.net.Fault.{Fault}
 use Rattle.ae_net.specs.Detects.{Detects}
 use Rattle.ae_net.specs.Network.{Network}
 use Rattle.ae_net.specs.Out.{HasOneRun}
-use Rattle.ae_net.specs.Valid.{IsValid}
 use Rattle.redundancy.specs.declared.TheConstants.{LEAVES}
 use Rattle.redundancy.specs.declared.lines.Subcube.{Subcube}
 use Rattle.redundancy.specs.declared.trees.Found.{Found}
 use Rattle.redundancy.specs.declared.trees.Found.TheVariants.{Tree as found_tree, TooWide, Differs}
 use Rattle.redundancy.specs.Evidence.{Tree, leaf, split, written, leaf_count, IsTree, SplitsOnNeed, IsEvidenceTree, WordHolds}
 use Rattle.redundancy.specs.Leaf.{whole, low, high, LeafHolds}
+use Rattle.redundancy.specs.Leaves.{LeafTells}
 use Rattle.redundancy.specs.Visits.{Visit, holds, detects, visits, met, IsFound, AreSame, Tells}
 use Rattle.redundancy.specs.Worked.{leaf_holds}
 use Rattle.redundancy.proofs.EvidenceTrees.{only_evidence, undetectable_by_evidence, WordHolds-evidence}
-use Rattle.redundancy.proofs.Full.{LeafHolds-worked, worked-LeafHolds, point-detects}
 use Rattle.redundancy.proofs.Growths.{visits_leaf, visits_point, visits_halves}
 
 -- ---- a visit that detects
@@ -46,12 +45,12 @@ below_low d h j l = has-without d.point d.depth j ∙ and_right _ _ (h j (omega 
 below_high : (d : Subcube) → IsBelow d → IsBelow (high d)
 below_high d h j l = has-with d.point d.depth j ∙ or_from _ _ (ne_eqb j d.depth (λ e. omega arith)) (h j (omega arith))
 
-module _ (n : Network) (fault : Fault) (valid : IsValid n) (runs : (h : Option Fault) (x : Set) → HasOneRun n h x) where
+module _ (n : Network) (fault : Fault) (tells_each : (d : Subcube) → LeafTells n fault d) where
   true_visits : (m : ℕ) (d : Subcube) → m + d.depth ≡ length n.inputs → IsBelow d → (leaf_holds n fault d ≡ true) ⊎ (leaf_holds n fault d ≡ false) → AllByRecursion (IsTrueVisit n fault) (visits n fault m d)
   true_visits m d e below (inl held) = subst (AllByRecursion (IsTrueVisit n fault)) (sym (visits_leaf n fault m d held)) (tt, tt)
   true_visits zero d e below (inr unheld) =
       subst (AllByRecursion (IsTrueVisit n fault)) (sym (visits_point n fault d unheld))
-      ((inside-from (length n.inputs) d.point (λ k l. below k (omega arith)), point-detects n fault d valid (omega arith) (λ h. runs h d.point) unheld), tt)
+      ((inside-from (length n.inputs) d.point (λ k l. below k (omega arith)), (tells_each d).detects (omega arith) unheld), tt)
   true_visits (suc m) d e below (inr unheld) =
       subst (AllByRecursion (IsTrueVisit n fault)) (sym (visits_halves n fault m d unheld))
       (each-append (IsTrueVisit n fault) (visits n fault m (low d)) (visits n fault m (high d))
@@ -59,7 +58,7 @@ module _ (n : Network) (fault : Fault) (valid : IsValid n) (runs : (h : Option F
       (true_visits m (high d) (omega arith) (below_high d below) (cases_Bool (leaf_holds n fault (high d)))))
 
   pub tells : (f : Found) → IsFound n fault f → Tells n fault f
-  tells (found_tree word) (tree, is, e, few) = (subst (WordHolds n fault) (sym e) (WordHolds-evidence n fault tree is), undetectable_by_evidence n fault valid tree is)
+  tells (found_tree word) (tree, is, e, few) = (subst (WordHolds n fault) (sym e) (WordHolds-evidence n fault tree is), undetectable_by_evidence n fault tells_each tree is)
   tells TooWide h = tt
   tells (Differs x) (k, few, leaves, there) =
       each_get (IsTrueVisit n fault) (met n fault) k (detects x) (true_visits (length n.inputs) whole (omega arith) (λ j l. has-empty j) (cases_Bool (leaf_holds n fault whole))) there
@@ -70,13 +69,13 @@ replicate-append : (a b : ℕ) → replicate a holds ++ replicate b holds ≡ re
 replicate-append zero b = let z : zero + b ≡ b = omega arith in rw z refl
 replicate-append (suc a) b = let z : suc a + b ≡ suc (a + b) = omega arith in rw z (ap (λ vs. holds ∷ vs) (replicate-append a b))
 
-module _ (n : Network) (fault : Fault) (valid : IsValid n) where
+module _ (n : Network) (fault : Fault) (tells_each : (d : Subcube) → LeafTells n fault d) where
   -- where there is a tree, its leaves are what is met
   met_leaves : (t : Tree) (m : ℕ) (d : Subcube) → m + d.depth ≡ length n.inputs → IsTree (length n.inputs) d.depth t → SplitsOnNeed n fault d t → visits n fault m d ≡ replicate (leaf_count t) holds
-  met_leaves leaf m d e is h = visits_leaf n fault m d (worked-LeafHolds n fault d valid h)
+  met_leaves leaf m d e is h = visits_leaf n fault m d ((tells_each d).worked.1 h)
   met_leaves (split a b) zero d e is h = absurd (omega (arith, is.0, e))
   met_leaves (split a b) (suc m) d e is h =
-      visits_halves n fault m d (unheld (leaf_holds n fault d) (LeafHolds-worked n fault d valid))
+      visits_halves n fault m d (unheld (leaf_holds n fault d) ((tells_each d).worked.0))
       ∙ ap₂ (λ v w. v ++ w) (met_leaves a m (low d) (omega (arith, e)) (is.1) (h.1)) (met_leaves b m (high d) (omega (arith, e)) (is.2) (h.2))
       ∙ replicate-append (leaf_count a) (leaf_count b)
     where

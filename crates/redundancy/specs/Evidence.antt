@@ -3,8 +3,8 @@ use Rattle.std.specs.Prelude.{◌≡◌, ℕ, suc, ◌+◌, ◌<◌, List, [], �
 use Rattle.ae_net.specs.declared.net.Fault.{Fault}
 use Rattle.ae_net.specs.Network.{Network}
 use Rattle.redundancy.specs.declared.lines.Subcube.{Subcube}
-use Rattle.redundancy.specs.declared.words.Step.{Step}
-use Rattle.redundancy.specs.declared.words.Step.TheVariants.{S, L}
+use Rattle.ae_base.specs.declared.step.Step.{Step}
+use Rattle.ae_base.specs.declared.step.Step.TheVariants.{S, L}
 use Rattle.redundancy.specs.Leaf.{whole, low, high, LeafHolds}
 
 -- a leaf, or a split on the next input into the tree for its value 0 and the tree for its value 1

@@ -7,8 +7,8 @@ use Rattle.redundancy.specs.declared.lines.Subcube.{Subcube}
 use Rattle.redundancy.specs.declared.trees.Growth.{Growth}
 use Rattle.redundancy.specs.declared.trees.Found.{Found}
 use Rattle.redundancy.specs.declared.trees.Found.TheVariants.{TooWide, Differs}
-use Rattle.redundancy.specs.declared.words.Step.{Step}
-use Rattle.redundancy.specs.declared.words.Step.TheVariants.{S, L}
+use Rattle.ae_base.specs.declared.step.Step.{Step}
+use Rattle.ae_base.specs.declared.step.Step.TheVariants.{S, L}
 use Rattle.redundancy.specs.Evidence.{Tree, leaf, split, written}
 use Rattle.redundancy.specs.Leaf.{low, high}
 use Rattle.redundancy.specs.Visits.{Visit, holds, detects, visits}

@@ -24,10 +24,6 @@ byte_of line = digit line.good + 3 * digit line.faulty + (if line.quiet then 9 e
 abbrev pub line_in : ℕ → Line
 line_in byte = record { good = known_digit (byte % 3); faulty = known_digit (byte / 3 % 3); quiet = not (nat_lt byte 9) }
 
--- the bytes hold the lines
-abbrev pub AreKept : List ℕ → List Line → Type 0
-AreKept bytes lines = (s : ℕ) → s < length lines → line_in (slice_index bytes s) ≡ line_of lines s
-
 -- what pin k of the gate in place i sees, where the signals have these bytes
 abbrev pub pin_kept : Fault → List ℕ → ℕ → Gate → ℕ → Line
 pin_kept fault bytes i gate k = held fault (Pin i k) (line_in (slice_index bytes (slice_index gate.pins k)))

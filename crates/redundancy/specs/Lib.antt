@@ -2,6 +2,7 @@ pub mod Evidence
 pub mod Growing
 pub mod Kept
 pub mod Leaf
+pub mod Leaves
 pub mod Reading
 pub mod Simulation
 pub mod Undetectable

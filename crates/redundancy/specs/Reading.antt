@@ -3,7 +3,7 @@ use Rattle.std.specs.Prelude.{◌≡◌, ℕ, ◌≤◌, List, ◌++◌, length,
 use Rattle.ae_net.specs.declared.net.Fault.{Fault}
 use Rattle.ae_net.specs.Network.{Network}
 use Rattle.redundancy.specs.declared.lines.Subcube.{Subcube}
-use Rattle.redundancy.specs.declared.words.Step.{Step}
+use Rattle.ae_base.specs.declared.step.Step.{Step}
 use Rattle.redundancy.specs.Evidence.{Tree, written, IsTree, EachLeafHolds}
 
 -- a tree of the subcube, each of whose leaves holds

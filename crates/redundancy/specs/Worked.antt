@@ -1,22 +1,22 @@
--- The simulation of a subcube as the code works it out, gate by gate. The law of evidence ties it to the relation.
-use Rattle.std.specs.Prelude.{ℕ, zero, suc, ◌+◌, Bool, false, not, ◌||◌, Some, None, List, [], ◌∷◌, ◌++◌, length, map}
-use Rattle.std.specs.List.{range_with_len}
+-- The simulation of a subcube as the code works it out, gate by gate: it is the evaluation over lines. The law of evidence ties it to the
+-- relation.
+use Rattle.std.specs.Prelude.{Bool, false, not, ◌||◌, Some, None, List, length}
 use Rattle.ae_base.specs.Mask.{differ}
-use Rattle.ae_net.specs.declared.net.Place.TheVariants.{Stem}
 use Rattle.ae_net.specs.declared.net.Fault.{Fault}
-use Rattle.ae_net.specs.Network.{Network, gate_at}
+use Rattle.ae_net.specs.Evaluation.{Domain, values_of}
+use Rattle.ae_net.specs.Network.{Network}
 use Rattle.redundancy.specs.declared.lines.Line.{Line}
 use Rattle.redundancy.specs.declared.lines.Subcube.{Subcube}
-use Rattle.redundancy.specs.Simulation.{Known, each_below, held, input_line, gate_line, pin_line}
+use Rattle.redundancy.specs.Simulation.{Known, each_below, held, input_line, gate_line}
 use Rattle.redundancy.specs.Leaf.{line_at, port_line}
 
--- the lines of the inputs and of the first k gates, each gate's from those before it
-unfoldable pub lines_to : Network → Fault → Subcube → ℕ → List Line
-lines_to n fault d zero = map (λ j. held fault (Stem j) (input_line d j)) (range_with_len 0 (length n.inputs))
-lines_to n fault d (suc k) = let lines = lines_to n fault d k in lines ++ held fault (Stem (length n.inputs + k)) (gate_line (gate_at n k) (pin_line fault lines k (gate_at n k))) ∷ []
+-- what is known of lines, as a kind of values
+abbrev pub known_lines : Fault → Subcube → Domain Line
+known_lines fault d = record { nothing = record { good = None; faulty = None; quiet = false }; input = input_line d; table = gate_line; seen = held fault }
 
+-- the lines of all signals
 unfoldable pub lines_in : Network → Fault → Subcube → List Line
-lines_in n fault d = lines_to n fault d (length n.gates)
+lines_in n fault d = values_of (known_lines fault d) n
 
 -- known to be b
 abbrev pub is_known : Bool → Known → Bool

@@ -8,6 +8,7 @@ ghost use Rattle.ae_net.specs.Network.{Network};
 ghost use Rattle.ae_net.specs.Valid.{IsValid};
 ghost use Rattle.redundancy.specs.Evidence.{Tree, WordHolds, IsEvidenceTree, written, leaf_count};
 ghost use Rattle.redundancy.specs.Leaf.{LeafHolds};
+ghost use Rattle.redundancy.specs.Leaves.{LeafTells};
 ghost use Rattle.redundancy.specs.Undetectable.{IsUndetectable};
 ghost use Rattle.redundancy.specs.Visits.{IsFound, AreSame, Tells};
 ghost use Rattle.redundancy.specs.Worked.{leaf_holds};
@@ -15,9 +16,49 @@ ghost use Rattle.redundancy.specs.declared.TheConstants.{LEAVES};
 ghost use Rattle.redundancy.specs.declared.lines.Subcube.{Subcube};
 ghost use Rattle.redundancy.specs.declared.trees.Found.{Found};
 ghost use Rattle.redundancy.specs.declared.trees.Found.TheVariants.{TooWide};
-ghost use Rattle.redundancy.specs.declared.words.Step.{Step};
+ghost use Rattle.ae_base.specs.declared.step.Step.{Step};
 
-use ae_net::one_run;
+use crate::lines::Lines;
+use ae_net::{Relation, one_evaluation, one_run, relation_law};
+
+/// What is known of a line holds of its values, without the fault and with it.
+struct Soundness;
+
+impl Relation for Soundness {
+    ghost use Rattle.std.specs.Prelude.{Bool};
+    ghost use Rattle.redundancy.specs.Leaves.{SoundFor};
+    ghost use Rattle.redundancy.specs.declared.lines.Line.{Line};
+
+    ghost One = { Line };
+
+    ghost Other = { Bool × Bool };
+
+    ghost holds = { SoundFor };
+}
+
+/// A line is known without the fault and with it.
+struct Knowledge;
+
+impl Relation for Knowledge {
+    ghost use Rattle.redundancy.specs.Leaves.{AreKnown};
+    ghost use Rattle.redundancy.specs.declared.lines.Line.{Line};
+
+    ghost One = { Line };
+
+    ghost Other = { Line };
+
+    ghost holds = { λ line _. AreKnown line };
+}
+
+/// What a leaf tells of a valid network and a fault.
+pub(crate) fn leaf_law()
+    ensures { (n : Network) (fault : Fault) (d : Subcube) → IsValid n → LeafTells n fault d }
+{
+    one_run();
+    one_evaluation::<Lines<'_>>();
+    relation_law::<Soundness>();
+    relation_law::<Knowledge>();
+}
 
 /// A word that holds for a fault proves it undetectable. Where all inputs are known, a leaf holds exactly where its point does not detect the
 /// fault. The tree of a fault exists exactly where the fault is undetectable, and there is one. A word is the word of one tree at most.
@@ -30,7 +71,7 @@ pub fn evidence_law()
     ensures proves { (n : Network) (fault : Fault) (t : Tree) → IsEvidenceTree n fault t → WordHolds n fault (written t) }
     ensures reads { (t u : Tree) → written t ≡ written u → t ≡ u }
 {
-    one_run();
+    leaf_law();
 }
 
 /// What is found for a fault is one thing. Where the fault has a tree, it is found too wide exactly where the tree has more than `LEAVES`
@@ -40,5 +81,5 @@ pub fn found_law()
     ensures wide { (n : Network) (fault : Fault) (t : Tree) → IsValid n → IsEvidenceTree n fault t → IsFound n fault TooWide ↔ (LEAVES < leaf_count t) }
     ensures tells { (n : Network) (fault : Fault) (f : Found) → IsValid n → IsFound n fault f → Tells n fault f }
 {
-    one_run();
+    leaf_law();
 }

@@ -8,7 +8,7 @@ mod words;
 
 pub use laws::{evidence_law, found_law};
 pub use trees::{Found, evidence};
-pub use words::{Step, check_tree};
+pub use words::check_tree;
 
 /// The most leaves of an evidence tree that is written.
 pub const LEAVES: u32 = 4_096;

@@ -7,12 +7,14 @@ ghost use Rattle.ae_net.specs.Faults.{IsPlace};
 ghost use Rattle.ae_net.specs.Network.{signals};
 ghost use Rattle.redundancy.specs.Kept as kept;
 ghost use Rattle.redundancy.specs.Leaf as leaf;
+ghost use Rattle.redundancy.specs.Leaves.{LeafTells};
 ghost use Rattle.redundancy.specs.Simulation as spec;
 ghost use Rattle.redundancy.specs.Worked as worked;
 ghost use Rattle.redundancy.specs.declared.lines.Subcube.{Subcube};
 
+use crate::laws::leaf_law;
 use ae_base::{Cube, Mask};
-use ae_net::{Fault, Gate, Net, Place, Sig};
+use ae_net::{Fault, Gate, Net, Place, Sig, Values, evaluate, fault_laws};
 
 /// Known 0, known 1, or unknown.
 type Known = Option<bool>;
@@ -272,30 +274,36 @@ fn gate_line(gate: &Gate, i: u32, fault: Fault, bytes: &[u8]) -> Line
     }
 }
 
-/// Writes the lines of the inputs.
-#[tactic(auto, unfolding(crate::specs::Worked::lines_to))]
-fn keep_inputs(net: &Net, fault: Fault, cube: &Subcube, bytes: &mut [u8])
-    requires { signals net.now ≤ length bytes.old }
-    ensures { kept.AreKept bytes.new (worked.lines_to net.now fault cube.now 0) }
-{
-    for j in 0..net.inputs().len() {
-        let line = held(fault, Place::Stem(j as u32), input_line(cube, j as u32));
-        bytes[j] = byte_of(line);
-    }
+/// What is known of lines in a subcube, without a fault and with it. A byte keeps a line.
+#[derive(Drop)]
+pub struct Lines<'a> {
+    fault: Fault,
+    cube: &'a Subcube,
 }
 
-/// Writes the lines of the gates, in order.
-fn keep_gates(net: &Net, fault: Fault, bytes: &mut [u8])
-    requires { signals net.now ≤ length bytes.old }
-    ensures { (d : Subcube) → kept.AreKept bytes.old (worked.lines_to net.now fault d 0)
-        → kept.AreKept bytes.new (worked.lines_to net.now fault d (length net.now.gates)) }
-{
-    let first = net.inputs().len();
-    let gates = net.gates().len();
-    for i in 0..gates {
-        let gate = net.gate(i);
-        let line = gate_line(gate, i as u32, fault, bytes);
-        bytes[first + i] = byte_of(held(fault, Place::Stem((first + i) as u32), line));
+impl Values for Lines<'_> {
+    ghost use Rattle.redundancy.specs.declared.lines.Line.{Line};
+    ghost use Rattle.redundancy.specs.Kept.{line_in};
+    ghost use Rattle.redundancy.specs.Worked.{known_lines};
+
+    type Cell = u8;
+
+    ghost Value = { Line };
+
+    ghost domain = { λ lines. known_lines lines.fault lines.cube.now };
+
+    ghost told = { line_in };
+
+    fn input(&self, j: u32) -> u8 {
+        byte_of(input_line(self.cube, j))
+    }
+
+    fn seen(&self, at: Place, byte: u8) -> u8 {
+        byte_of(held(self.fault, at, line_in(byte)))
+    }
+
+    fn gate(&self, gate: &Gate, i: u32, bytes: &[u8]) -> u8 {
+        byte_of(gate_line(gate, i, self.fault, bytes))
     }
 }
 
@@ -305,6 +313,7 @@ fn signal_of(net: &Net, place: Place) -> Sig
     ensures signal { result ≡ kept.signal_of net.now place }
     ensures within { result < signals net.now }
 {
+    fault_laws();
     let outputs = net.outputs();
     match place {
         Place::Stem(s) => s,
@@ -360,10 +369,12 @@ fn all_untouched(outputs: &[Sig], fault: Fault, bytes: &[u8]) -> bool
 pub fn leaf_holds(net: &Net, fault: Fault, cube: &Subcube, bytes: &mut [u8]) -> bool
     requires place { IsPlace net.now fault.place }
     requires room { signals net.now ≤ length bytes.old }
-    ensures { result ≡ worked.leaf_holds net.now fault cube.now }
+    ensures worked { result ≡ worked.leaf_holds net.now fault cube.now }
+    ensures tells { LeafTells net.now fault cube.now }
 {
-    keep_inputs(net, fault, cube, bytes);
-    keep_gates(net, fault, bytes);
+    leaf_law();
+    let outputs = net.outputs();
+    evaluate(&Lines { fault, cube }, net, bytes);
     let site = line_in(bytes[signal_of(net, fault.place) as usize]);
-    is_known(fault.value, site.good) || all_untouched(net.outputs(), fault, bytes)
+    is_known(fault.value, site.good) || all_untouched(outputs, fault, bytes)
 }

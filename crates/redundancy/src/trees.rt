@@ -7,9 +7,9 @@ ghost use Rattle.redundancy.specs.Visits.{IsFound};
 ghost use Rattle.redundancy.specs.Growing as growing;
 
 use crate::LEAVES;
+use crate::laws::leaf_law;
 use crate::lines::{Subcube, leaf_holds};
-use crate::words::Step;
-use ae_base::{Memory, Point};
+use ae_base::{Memory, Point, Step};
 use ae_net::{Fault, Net, scratch_for};
 use std::alloc::Global;
 
@@ -91,6 +91,7 @@ pub fn evidence(alloc: Global, net: &Net, fault: Fault) -> Result<Found, Memory>
     requires { IsPlace net.now fault.place }
     ensures { IfOk result (IsFound net.now fault) }
 {
+    leaf_law();
     let mut scratch = scratch_for(alloc, net)?;
     let mut tree = Growth {
         word: Vec::new(alloc),

@@ -8,17 +8,10 @@ ghost use Rattle.redundancy.specs.Evidence.{WordHolds};
 ghost use Rattle.redundancy.specs.Reading.{ReadsTo, HasNoTree};
 ghost use Rattle.redundancy.specs.Undetectable.{IsUndetectable};
 
+use crate::laws::evidence_law;
 use crate::lines::{Subcube, leaf_holds};
+use ae_base::Step;
 use ae_net::{Fault, Net, Scratch};
-
-/// A letter of a tree's word.
-#[derive(Clone, Copy, Debug, PartialEq, Eq)]
-pub enum Step {
-    /// A split on the next input: the tree for its value 0 follows, and then the tree for its value 1.
-    S,
-    /// A leaf.
-    L,
-}
 
 /// Reads a tree from the letter in place `at` on. `None` where there is no tree, or a leaf of it does not hold; else the place after it.
 fn read_tree(
@@ -76,6 +69,7 @@ pub fn check_tree(net: &Net, fault: Fault, word: &[Step], scratch: &mut Scratch)
     ensures undetectable { OnTrue result (IsUndetectable net.now fault) }
     ensures room { scratch.new ≡ scratch.old }
 {
+    evidence_law();
     let end = read_tree(net, fault, &Subcube::whole(), word, 0, scratch.bytes());
     is_whole(end, word)
 }

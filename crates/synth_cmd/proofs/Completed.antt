@@ -1,215 +1,141 @@
--- Which status a synthesis ends with, by what its source was.
-use Rattle.std.proofs.Common.{◌≡◌, ◌<◌, ◌≤◌, ◌∷◌, [], inl, inr, ℕ, List, Option, Some, None, length, sym, ap, refl, ◌∙◌, subst, arith}
-use Rattle.std.specs.Prelude.{Contains, Ok, Err, IfSome}
+-- Which status a command ends with, by what its files were.
+use Rattle.std.proofs.Common.{◌≡◌, ◌⊎◌, inl, inr, ℕ, List, Option, Some, None, sym, ap, refl, ◌∙◌, subst}
+use Rattle.std.specs.Prelude.{Contains}
 use Rattle.std.specs.FinMap.{get}
-use Rattle.ae_base.specs.declared.limits.TheConstants.{TEXT_BYTES}
-use Rattle.ae_outside.specs.Files.{Shelf, bytes_of}
-use Rattle.synth_core.specs.Asked.{HasOtherCount, HasTooMany, IsWithin, polarity_of}
-use Rattle.synth_core.specs.Made.{Texts}
-use Rattle.ae_base.specs.Source.{Source}
-use Rattle.synth_core.specs.Says.{source_says}
-use Rattle.synth_core.specs.declared.fault.TextFault.{TextFault}
+use Rattle.ae_outside.specs.Files.{Shelf}
+use Rattle.grading.specs.Grade.{IsGraded}
+use Rattle.grading.specs.Pair.{AreGradable, HasOtherNames}
+use Rattle.grading.specs.declared.report.GradeReport.{GradeReport}
+use Rattle.grading.specs.declared.report.Mode.{Mode}
+use Rattle.synth_core.specs.Asked.{HasTooMany, IsWithin}
 use Rattle.synth_core.specs.declared.settings.Settings.{Settings}
-use Rattle.synth_cmd.specs.Complete.{OrMemory, WasOnly, NoRead, NoFault, IsComplete}
-use Rattle.synth_cmd.specs.Headline.{Holds}
-use Rattle.synth_cmd.specs.Asked.{Origin}
-use Rattle.synth_cmd.specs.Asked.Origin.{File, Demo}
-use Rattle.synth_cmd.specs.Outcome.{Ending, HoldsText, IsMadeOf, Stage, Stands, Answers, WasText, read_names}
+use Rattle.synth_cmd.specs.Asked.{Asked}
+use Rattle.synth_cmd.specs.Complete.{Accepts, IsComplete, NoFault, NoRead, OrMemory}
+use Rattle.synth_cmd.specs.Ends.{Ends}
+use Rattle.synth_cmd.specs.Lines.{status_of}
+use Rattle.synth_cmd.specs.Outcome.{Answers, Ending, IsMadeOf, Objects, Product, Stage, Stands, Unread}
 use Rattle.synth_cmd.specs.Outcome.Ending.{at_stage, untouched, in_part, half_told}
-use Rattle.synth_cmd.specs.Outcome.Stage.{Refuses, Fails, Writes}
+use Rattle.synth_cmd.specs.Outcome.Stage.{Refuses, Fails, Finishes}
 use Rattle.synth_cmd.specs.Outside.{Outside}
-use Rattle.synth_cmd.specs.declared.tell.Refusal.TheVariants.{ReadFault, TooLong, Text, BitCount, TooManyTerms}
-use Rattle.synth_cmd.specs.declared.TheConstants.{DONE, WORDS, READ_FAULT, REFUSED, TOO_LONG, TOO_MANY_TERMS}
-use Rattle.synth_cmd.proofs.Names.{is_only}
-
--- ---- what a file held
-
--- where the files tell, the name holds the bytes
-pub held_at : (held : Option Shelf) (m : Shelf) (name bytes : List ℕ) → held ≡ Some m → HoldsText held name bytes → get m name ≡ Some bytes
-held_at held m name bytes tells was = let h = subst (λ x. Holds x name bytes) tells was.is_held in h
-
-pub short_at : (held : Option Shelf) (m : Shelf) (name bytes : List ℕ) → held ≡ Some m → HoldsText held name bytes → length (bytes_of m name) ≤ TEXT_BYTES
-short_at held m name bytes tells was = rw (held_at held m name bytes tells was) was.short
-
--- files that do not tell could have held anything short
-tells_of : (held : Option Shelf) (name bytes : List ℕ) → WasOnly (HoldsText held name) bytes → (m : Shelf) × (held ≡ Some m)
-tells_of (Some m) name bytes was = (m, refl)
-tells_of None name bytes was =
-    let none : [] ≡ bytes = was.only [] (record { is_held = tt; short = omega arith }) in
-    let one : 0 ∷ [] ≡ bytes = was.only (0 ∷ []) (record { is_held = tt; short = omega arith }) in
-    absurd (cc (none, one))
-
--- a name that is too long
-pub long_at : (held : Option Shelf) (m : Shelf) (name : List ℕ) → held ≡ Some m → IfSome held (λ m. TEXT_BYTES < length (bytes_of m name)) → TEXT_BYTES < length (bytes_of m name)
-long_at held m name tells long = let h = subst (λ x. IfSome x (λ m. TEXT_BYTES < length (bytes_of m name))) tells long in h
-
-pub none_short : (m : Shelf) (name : List ℕ) → get m name ≡ None → TEXT_BYTES < length (bytes_of m name) → ⊥
-none_short m name none long = let h = rw none at long in omega (arith, h)
+use Rattle.synth_cmd.specs.Reading.{ComesTo, HoldOnly, HoldTexts, IsLong, names_read, names_written}
+use Rattle.synth_cmd.specs.Telling.{Closes}
+use Rattle.synth_cmd.specs.declared.stop.Refusal.{Refusal}
+use Rattle.synth_cmd.specs.declared.stop.Refusal.TheVariants.{Words, ReadFault, TooLong, Text, NamesDiffer, BitCount, TooManyTerms}
+use Rattle.synth_cmd.specs.declared.TheConstants.{READ_FAULT, TOO_LONG}
+use Rattle.synth_cmd.proofs.Answered.{accepted_or_refused, accepted_status, made_or_refused, one_refusal}
+use Rattle.synth_cmd.proofs.Held.{comes_named, holds_come, holds_named, none_or_long, not_long, not_none, only_short}
 
 module _ (apart : (settings : Settings) (bytes : List ℕ) (output : ℕ) → IsWithin settings bytes → HasTooMany settings bytes output → ⊥)
-    (settings : Settings) (Was : List ℕ → Type 0) (reads writes : List (List ℕ)) (old new : Outside) (status : ℕ) where
+    (same_names : (net_bytes vec_bytes : List ℕ) → AreGradable net_bytes vec_bytes → HasOtherNames net_bytes vec_bytes → ⊥)
+    (one_grade : (mode : Mode) (net_bytes vec_bytes : List ℕ) (a b : GradeReport) → IsGraded mode net_bytes vec_bytes a → IsGraded mode net_bytes vec_bytes b → a ≡ b)
+    (asked : Asked) (old new : Outside) (status : ℕ) where
+  abbrev reads : List (List ℕ)
+  reads = names_read asked
+
+  abbrev Caused : Refusal → Type 0
+  Caused r = Unread old.world.held old.world.reads new.world.reads reads r ⊎ ((texts : List (List ℕ)) × HoldTexts old.world.held reads texts × Objects asked texts r)
+
   -- each stage has its status, and want of memory answers every question
-  by_stage : (wanted : ℕ) → ((stage : Stage) → Stands settings Was reads writes old new stage → Answers stage old new status → OrMemory wanted status) → Ending settings Was reads writes old new status → OrMemory wanted status
+  by_stage : (wanted : ℕ) → ((stage : Stage) → Stands asked old.world new.world stage → Answers stage old new status → OrMemory wanted status) → Ending asked old new status → OrMemory wanted status
   by_stage wanted f (at_stage stage stands answers) = f stage stands answers
   by_stage wanted f (untouched is stays front) = inr is
-  by_stage wanted f (in_part name texts is made stops front) = inr is
+  by_stage wanted f (in_part name product is made stops front) = inr is
   by_stage wanted f (half_told stage is stands front) = inr is
 
-  module _ (bytes : List ℕ) (was : WasOnly Was bytes) (never_long : (name : List ℕ) → Contains reads name → IfSome old.held (λ m. TEXT_BYTES < length (bytes_of m name)) → ⊥) where
-    -- what was made of a text was made of this one
-    made_within : (texts : Texts) → IsMadeOf settings Was old.advisors new.advisors texts → IsWithin settings bytes
-    made_within texts of = subst (λ b. IsWithin settings b) (was.only of.bytes of.was) of.is_made.within
+  -- ---- a file is not held
 
-    made_no_fault : (texts : Texts) (line : ℕ) (what : TextFault) → source_says settings.kind bytes ≡ Err (line, what) → IsMadeOf settings Was old.advisors new.advisors texts → ⊥
-    made_no_fault texts line what says of = let both = sym says ∙ (made_within texts of).expanded.says in cc both
+  module _ (m : Shelf) (name : List ℕ) (tells : old.world.held ≡ Some m) (to : ComesTo old.world.held reads name) (none : get m name ≡ None) where
+    none_hold : (texts : List (List ℕ)) → HoldTexts old.world.held reads texts → ⊥
+    none_hold texts hold = let holds = holds_come old.world.held reads texts name hold to in not_none old.world.held m name holds.0 tells holds.1 none
 
-    -- ---- the source has a fault
-    faulty_by : (line : ℕ) (what : TextFault) → source_says settings.kind bytes ≡ Err (line, what) → NoRead reads old new → (stage : Stage) → Stands settings Was reads writes old new stage → Answers stage old new status → OrMemory REFUSED status
-    faulty_by line what says quiet (Refuses name ReadFault) stands answers = absurd (quiet name stands.0 stands.1)
-    faulty_by line what says quiet (Refuses name TooLong) stands answers = absurd (never_long name stands.0 stands.1)
-    faulty_by line what says quiet (Refuses name (Text a b)) stands answers = inl answers.0
-    faulty_by line what says quiet (Refuses name (BitCount given wanted)) stands answers =
-        let other = subst (λ b. HasOtherCount settings b given wanted) (was.only stands.1.0 stands.1.1) stands.1.2 in
-        absurd (let both = sym says ∙ other.says in cc both)
-    faulty_by line what says quiet (Refuses name (TooManyTerms output)) stands answers =
-        let many = subst (λ b. HasTooMany settings b output) (was.only stands.1.0 stands.1.1) stands.1.2 in
-        absurd (let both = sym says ∙ many.expanded.says in cc both)
-    faulty_by line what says quiet (Fails name texts) stands answers = absurd (made_no_fault texts line what says stands.2)
-    faulty_by line what says quiet (Writes texts) stands answers = absurd (made_no_fault texts line what says stands.0)
+    none_refused : (r : Refusal) → Caused r → status ≡ status_of r → OrMemory READ_FAULT status
+    none_refused r (inr cause) is = absurd (none_hold cause.0 cause.1)
+    none_refused (ReadFault file) (inl cause) is = inl is
+    none_refused (TooLong file) (inl cause) is = absurd (none_or_long old.world.held m reads name file.now tells none cause.1 to cause.0)
+    none_refused Words (inl cause) is = absurd cause
+    none_refused (Text file line what) (inl cause) is = absurd cause
+    none_refused (NamesDiffer file) (inl cause) is = absurd cause
+    none_refused (BitCount given wanted) (inl cause) is = absurd cause
+    none_refused (TooManyTerms output) (inl cause) is = absurd cause
 
-    -- ---- the polarity has another number of inputs
-    other_count : (given wanted : ℕ) → HasOtherCount settings bytes given wanted → (s : Source) → source_says settings.kind bytes ≡ Ok s
-        → (polarity_of settings.polarity (length s.inputs)).n ≡ length s.inputs → ⊥
-    other_count given wanted other s says same =
-        let sources : other.source ≡ s = (let both = sym other.says ∙ says in cc both) in
-        let wants : wanted ≡ length s.inputs = other.wants ∙ ap (λ r. length r.inputs) sources in
-        other.differ (other.gives ∙ ap (λ n. (polarity_of settings.polarity n).n) wants ∙ same ∙ sym wants)
+    not_held_by : (stage : Stage) → Stands asked old.world new.world stage → Answers stage old new status → OrMemory READ_FAULT status
+    not_held_by (Refuses r) stands answers = none_refused r stands.cause answers.0
+    not_held_by (Fails file product) stands answers = absurd (none_hold stands.2.texts stands.2.hold)
+    not_held_by (Finishes product) stands answers = absurd (none_hold stands.0.texts stands.0.hold)
 
-    other_not_within : (given wanted : ℕ) → HasOtherCount settings bytes given wanted → IsWithin settings bytes → ⊥
-    other_not_within given wanted other within = other_count given wanted other within.source within.expanded.says within.expanded.expansions.inputs
+  -- ---- a file is too long
 
-    other_not_many : (given wanted output : ℕ) → HasOtherCount settings bytes given wanted → HasTooMany settings bytes output → ⊥
-    other_not_many given wanted output other many = other_count given wanted other many.source many.expanded.says many.expanded.expansions.inputs
+  module _ (m : Shelf) (name : List ℕ) (tells : old.world.held ≡ Some m) (named : Contains reads name) (long : IsLong old.world.held name) (quiet : NoRead reads old new) where
+    long_hold : (texts : List (List ℕ)) → HoldTexts old.world.held reads texts → ⊥
+    long_hold texts hold = let holds = holds_named old.world.held reads texts name hold named in not_long old.world.held m name holds.0 tells holds.1 long
 
-    bit_count_by : (given wanted : ℕ) → HasOtherCount settings bytes given wanted → NoRead reads old new → (stage : Stage) → Stands settings Was reads writes old new stage → Answers stage old new status → OrMemory WORDS status
-    bit_count_by given wanted other quiet (Refuses name ReadFault) stands answers = absurd (quiet name stands.0 stands.1)
-    bit_count_by given wanted other quiet (Refuses name TooLong) stands answers = absurd (never_long name stands.0 stands.1)
-    bit_count_by given wanted other quiet (Refuses name (Text line what)) stands answers =
-        let says = subst (λ b. source_says settings.kind b ≡ Err (line, what)) (was.only stands.1.0 stands.1.1) stands.1.2 in
-        absurd (let both = sym says ∙ other.says in cc both)
-    bit_count_by given wanted other quiet (Refuses name (BitCount g n)) stands answers = inl answers.0
-    bit_count_by given wanted other quiet (Refuses name (TooManyTerms o)) stands answers =
-        absurd (other_not_many given wanted o other (subst (λ b. HasTooMany settings b o) (was.only stands.1.0 stands.1.1) stands.1.2))
-    bit_count_by given wanted other quiet (Fails name texts) stands answers = absurd (other_not_within given wanted other (made_within texts stands.2))
-    bit_count_by given wanted other quiet (Writes texts) stands answers = absurd (other_not_within given wanted other (made_within texts stands.0))
+    long_refused : (r : Refusal) → Caused r → status ≡ status_of r → OrMemory TOO_LONG status
+    long_refused r (inr cause) is = absurd (long_hold cause.0 cause.1)
+    long_refused (ReadFault file) (inl cause) is = absurd (quiet file.now (comes_named old.world.held reads file.now cause.0) cause.1)
+    long_refused (TooLong file) (inl cause) is = inl is
+    long_refused Words (inl cause) is = absurd cause
+    long_refused (Text file line what) (inl cause) is = absurd cause
+    long_refused (NamesDiffer file) (inl cause) is = absurd cause
+    long_refused (BitCount given wanted) (inl cause) is = absurd cause
+    long_refused (TooManyTerms output) (inl cause) is = absurd cause
 
-    -- ---- the source has too many terms
-    too_many_by : (output : ℕ) → HasTooMany settings bytes output → NoRead reads old new → (stage : Stage) → Stands settings Was reads writes old new stage → Answers stage old new status → OrMemory TOO_MANY_TERMS status
-    too_many_by output many quiet (Refuses name ReadFault) stands answers = absurd (quiet name stands.0 stands.1)
-    too_many_by output many quiet (Refuses name TooLong) stands answers = absurd (never_long name stands.0 stands.1)
-    too_many_by output many quiet (Refuses name (Text line what)) stands answers =
-        let says = subst (λ b. source_says settings.kind b ≡ Err (line, what)) (was.only stands.1.0 stands.1.1) stands.1.2 in
-        absurd (let both = sym says ∙ many.expanded.says in cc both)
-    too_many_by output many quiet (Refuses name (BitCount given wanted)) stands answers =
-        absurd (other_not_many given wanted output (subst (λ b. HasOtherCount settings b given wanted) (was.only stands.1.0 stands.1.1) stands.1.2) many)
-    too_many_by output many quiet (Refuses name (TooManyTerms o)) stands answers = inl answers.0
-    too_many_by output many quiet (Fails name texts) stands answers = absurd (apart settings bytes output (made_within texts stands.2) many)
-    too_many_by output many quiet (Writes texts) stands answers = absurd (apart settings bytes output (made_within texts stands.0) many)
+    too_long_by : (stage : Stage) → Stands asked old.world new.world stage → Answers stage old new status → OrMemory TOO_LONG status
+    too_long_by (Refuses r) stands answers = long_refused r stands.cause answers.0
+    too_long_by (Fails file product) stands answers = absurd (long_hold stands.2.texts stands.2.hold)
+    too_long_by (Finishes product) stands answers = absurd (long_hold stands.0.texts stands.0.hold)
 
-    -- ---- every other source
-    done_or : NoFault reads writes old new → (texts : Texts) → Answers (Writes texts) old new status → OrMemory DONE status
-    done_or none texts (inl done) = inl done.0
-    done_or none texts (inr fault) = absurd (none.no_report fault.1)
+  -- ---- all files held texts
 
-    complete_by : IsWithin settings bytes → NoFault reads writes old new → (stage : Stage) → Stands settings Was reads writes old new stage → Answers stage old new status → OrMemory DONE status
-    complete_by within none (Refuses name ReadFault) stands answers = absurd (none.no_read name stands.0 stands.1)
-    complete_by within none (Refuses name TooLong) stands answers = absurd (never_long name stands.0 stands.1)
-    complete_by within none (Refuses name (Text line what)) stands answers =
-        let says = subst (λ b. source_says settings.kind b ≡ Err (line, what)) (was.only stands.1.0 stands.1.1) stands.1.2 in
-        absurd (let both = sym says ∙ within.expanded.says in cc both)
-    complete_by within none (Refuses name (BitCount given wanted)) stands answers =
-        absurd (other_not_within given wanted (subst (λ b. HasOtherCount settings b given wanted) (was.only stands.1.0 stands.1.1) stands.1.2) within)
-    complete_by within none (Refuses name (TooManyTerms output)) stands answers =
-        absurd (apart settings bytes output within (subst (λ b. HasTooMany settings b output) (was.only stands.1.0 stands.1.1) stands.1.2))
-    complete_by within none (Fails name texts) stands answers = absurd (none.no_write name stands.0 stands.1)
-    complete_by within none (Writes texts) stands answers = done_or none texts answers
+  module _ (texts : List (List ℕ)) (only : HoldOnly old.world.held reads texts) (quiet : NoRead reads old new) where
+    -- a refusal is one of these texts
+    objects_to : (r : Refusal) → Caused r → Objects asked texts r
+    objects_to r (inr cause) = subst (λ t. Objects asked t r) (only.only cause.0 cause.1) cause.2
+    objects_to (ReadFault file) (inl cause) = absurd (quiet file.now (comes_named old.world.held reads file.now cause.0) cause.1)
+    objects_to (TooLong file) (inl cause) = absurd (only_short old.world.held reads texts file.now only (comes_named old.world.held reads file.now cause.0) cause.1)
+    objects_to Words (inl cause) = absurd cause
+    objects_to (Text file line what) (inl cause) = absurd cause
+    objects_to (NamesDiffer file) (inl cause) = absurd cause
+    objects_to (BitCount given wanted) (inl cause) = absurd cause
+    objects_to (TooManyTerms output) (inl cause) = absurd cause
 
-  -- from what concerns the names alone: where one is not held, where one is too long, and that the one text is short
-  complete_by_names : ((m : Shelf) (name : List ℕ) → old.held ≡ Some m → Contains reads name → get m name ≡ None → OrMemory READ_FAULT status)
-      → ((m : Shelf) (name : List ℕ) → old.held ≡ Some m → Contains reads name → TEXT_BYTES < length (bytes_of m name) → NoRead reads old new → OrMemory TOO_LONG status)
-      → ((bytes : List ℕ) → WasOnly Was bytes → (name : List ℕ) → Contains reads name → IfSome old.held (λ m. TEXT_BYTES < length (bytes_of m name)) → ⊥)
-      → Ending settings Was reads writes old new status → IsComplete settings Was reads writes old new status
-  complete_by_names not_held too_long never_long ending = record {
-    not_held = not_held;
-    too_long = too_long;
-    faulty = λ bytes line what was says quiet. by_stage REFUSED (faulty_by bytes was (never_long bytes was) line what says quiet) ending;
-    bit_count = λ bytes given wanted was other quiet. by_stage WORDS (bit_count_by bytes was (never_long bytes was) given wanted other quiet) ending;
-    too_many = λ bytes output was many quiet. by_stage TOO_MANY_TERMS (too_many_by bytes was (never_long bytes was) output many quiet) ending;
-    complete = λ bytes was within none. by_stage DONE (complete_by bytes was (never_long bytes was) within none) ending;
+    -- and so is what is made
+    made_refused : (product : Product) (r : Refusal) → IsMadeOf asked old.world new.world product → Objects asked texts r → ⊥
+    made_refused product r made objects = made_or_refused apart same_names asked old.world.advisors new.world.advisors made.texts product r made.makes
+        (subst (λ t. Objects asked t r) (sym (only.only made.texts made.hold)) objects)
+
+    refused_by : (r : Refusal) → Objects asked texts r → (stage : Stage) → Stands asked old.world new.world stage → Answers stage old new status → OrMemory (status_of r) status
+    refused_by r objects (Refuses q) stands answers = inl (answers.0 ∙ one_refusal apart asked texts q r (objects_to q stands.cause) objects)
+    refused_by r objects (Fails file product) stands answers = absurd (made_refused product r stands.2 objects)
+    refused_by r objects (Finishes product) stands answers = absurd (made_refused product r stands.0 objects)
+
+    module _ (wanted : ℕ) (accepts : Accepts asked texts wanted) (none : NoFault reads (names_written asked) old new) where
+      is_wanted : (product : Product) → IsMadeOf asked old.world new.world product → product.status ≡ wanted
+      is_wanted product made = accepted_status one_grade asked old.world.advisors new.world.advisors made.texts wanted product
+          (subst (λ t. Accepts asked t wanted) (sym (only.only made.texts made.hold)) accepts) made.makes
+
+      complete_by : (stage : Stage) → Stands asked old.world new.world stage → Answers stage old new status → OrMemory wanted status
+      complete_by (Refuses r) stands answers = absurd (accepted_or_refused apart same_names asked texts wanted r accepts (objects_to r stands.cause))
+      complete_by (Fails file product) stands answers = absurd (none.no_write file stands.0 stands.1)
+      complete_by (Finishes product) stands (inl told) = inl (told.0 ∙ is_wanted product stands.0)
+      complete_by (Finishes product) stands (inr fault) = absurd (none.no_report fault.1)
+
+  is_complete : Ending asked old new status → IsComplete asked old new status
+  is_complete ending = record {
+    not_held = λ m name tells to none. by_stage READ_FAULT (not_held_by m name tells to none) ending;
+    too_long = λ m name tells named long quiet. by_stage TOO_LONG (too_long_by m name tells named long quiet) ending;
+    refused = λ texts r only objects quiet. by_stage (status_of r) (refused_by texts only quiet r objects) ending;
+    complete = λ texts wanted only accepts none. by_stage wanted (complete_by texts only none.no_read wanted accepts none) ending;
   }
 
--- ---- a file
+  pub ends_of : Closes asked old new status → Ends asked old new status
+  ends_of closes = record {
+    ending = closes.ending;
+    complete = is_complete closes.ending;
+    reads = closes.reads;
+    writes = closes.writes;
+    faults = closes.faults;
+    advisors = closes.advisors;
+  }
 
-module _ (apart : (settings : Settings) (bytes : List ℕ) (output : ℕ) → IsWithin settings bytes → HasTooMany settings bytes output → ⊥)
-    (settings : Settings) (source : List ℕ) (writes : List (List ℕ)) (old new : Outside) (status : ℕ) where
-  abbrev reads : List (List ℕ)
-  reads = source ∷ []
-
-  abbrev Was : List ℕ → Type 0
-  Was = HoldsText old.held source
-
-  no_bytes : (m : Shelf) → old.held ≡ Some m → get m source ≡ None → (bytes : List ℕ) → Was bytes → ⊥
-  no_bytes m tells none bytes was = let both = sym (held_at old.held m source bytes tells was) ∙ none in cc both
-
-  not_long : (m : Shelf) → old.held ≡ Some m → TEXT_BYTES < length (bytes_of m source) → (bytes : List ℕ) → Was bytes → ⊥
-  not_long m tells long bytes was = omega (arith, long, short_at old.held m source bytes tells was)
-
-  -- a refusal as too long is one of the source
-  source_long : (m : Shelf) (name : List ℕ) → old.held ≡ Some m → Contains reads name → IfSome old.held (λ m. TEXT_BYTES < length (bytes_of m name)) → TEXT_BYTES < length (bytes_of m source)
-  source_long m name tells named long = subst (λ n. TEXT_BYTES < length (bytes_of m n)) (sym (is_only source name named)) (long_at old.held m name tells long)
-
-  -- ---- the source is not held
-  not_held_by : (m : Shelf) → old.held ≡ Some m → get m source ≡ None → (stage : Stage) → Stands settings Was reads writes old new stage → Answers stage old new status → OrMemory READ_FAULT status
-  not_held_by m tells none (Refuses name ReadFault) stands answers = inl answers.0
-  not_held_by m tells none (Refuses name TooLong) stands answers = absurd (none_short m source none (source_long m name tells stands.0 stands.1))
-  not_held_by m tells none (Refuses name (Text line what)) stands answers = absurd (no_bytes m tells none stands.1.0 stands.1.1)
-  not_held_by m tells none (Refuses name (BitCount given wanted)) stands answers = absurd (no_bytes m tells none stands.1.0 stands.1.1)
-  not_held_by m tells none (Refuses name (TooManyTerms output)) stands answers = absurd (no_bytes m tells none stands.1.0 stands.1.1)
-  not_held_by m tells none (Fails name texts) stands answers = absurd (no_bytes m tells none stands.2.bytes stands.2.was)
-  not_held_by m tells none (Writes texts) stands answers = absurd (no_bytes m tells none stands.0.bytes stands.0.was)
-
-  -- ---- the source is too long
-  too_long_by : (m : Shelf) → old.held ≡ Some m → TEXT_BYTES < length (bytes_of m source) → NoRead reads old new → (stage : Stage) → Stands settings Was reads writes old new stage → Answers stage old new status → OrMemory TOO_LONG status
-  too_long_by m tells long quiet (Refuses name ReadFault) stands answers = absurd (quiet name stands.0 stands.1)
-  too_long_by m tells long quiet (Refuses name TooLong) stands answers = inl answers.0
-  too_long_by m tells long quiet (Refuses name (Text line what)) stands answers = absurd (not_long m tells long stands.1.0 stands.1.1)
-  too_long_by m tells long quiet (Refuses name (BitCount given wanted)) stands answers = absurd (not_long m tells long stands.1.0 stands.1.1)
-  too_long_by m tells long quiet (Refuses name (TooManyTerms output)) stands answers = absurd (not_long m tells long stands.1.0 stands.1.1)
-  too_long_by m tells long quiet (Fails name texts) stands answers = absurd (not_long m tells long stands.2.bytes stands.2.was)
-  too_long_by m tells long quiet (Writes texts) stands answers = absurd (not_long m tells long stands.0.bytes stands.0.was)
-
-  never_long : (bytes : List ℕ) → WasOnly Was bytes → (name : List ℕ) → Contains reads name → IfSome old.held (λ m. TEXT_BYTES < length (bytes_of m name)) → ⊥
-  never_long bytes was name named long =
-      let told = tells_of old.held source bytes was in
-      not_long told.0 told.1 (source_long told.0 name told.1 named long) bytes was.was
-
-  file_complete : Ending settings Was reads writes old new status → IsComplete settings Was reads writes old new status
-  file_complete ending = complete_by_names apart settings Was reads writes old new status
-      (λ m name tells named none. by_stage apart settings Was reads writes old new status READ_FAULT (not_held_by m tells (subst (λ n. get m n ≡ None) (sym (is_only source name named)) none)) ending)
-      (λ m name tells named long quiet. by_stage apart settings Was reads writes old new status TOO_LONG (too_long_by m tells (subst (λ n. TEXT_BYTES < length (bytes_of m n)) (sym (is_only source name named)) long) quiet) ending)
-      never_long ending
-
--- ---- either source
-
-no_name : (name : List ℕ) → Contains [] name → ⊥
-no_name name named = omega (arith, named.1)
-
-pub is_complete : (apart : (settings : Settings) (bytes : List ℕ) (output : ℕ) → IsWithin settings bytes → HasTooMany settings bytes output → ⊥)
-    (settings : Settings) (source : Origin) (writes : List (List ℕ)) (old new : Outside) (status : ℕ)
-    → Ending settings (WasText settings old.held source) (read_names source) writes old new status → IsComplete settings (WasText settings old.held source) (read_names source) writes old new status
-is_complete apart settings (File name) writes old new status ending = file_complete apart settings name writes old new status ending
-is_complete apart settings (Demo number) writes old new status ending =
-    complete_by_names apart settings (WasText settings old.held (Demo number)) [] writes old new status
-    (λ m name tells named none. absurd (no_name name named))
-    (λ m name tells named long quiet. absurd (no_name name named))
-    (λ bytes was name named long. no_name name named) ending
+  pub ends_as : (command : Asked) → command ≡ asked → Closes command old new status → Ends asked old new status
+  ends_as command same closes = ends_of (subst (λ a. Closes a old new status) same closes)

@@ -5,6 +5,7 @@ use Rattle.std.specs.Option.{option_and_then, option_map_or}
 use Rattle.std.specs.Str.Parse.{digits_value}
 use Rattle.std.specs.declared.alloc.Global.{Global}
 use Rattle.ae_base.specs.Cube.{Signs}
+use Rattle.ae_base.specs.Form.{form_of}
 use Rattle.ae_base.specs.Mask.{where_below}
 use Rattle.ae_base.specs.declared.limits.TheConstants.{SOURCE_LINES}
 use Rattle.synth_core.specs.declared.settings.Choice.{Choice}
@@ -13,8 +14,9 @@ use Rattle.synth_core.specs.declared.settings.SourceKind.TheVariants.{Pla, Blif}
 use Rattle.synth_core.specs.declared.settings.Choice.TheVariants.{Positive, Search, Given}
 use Rattle.synth_core.specs.declared.settings.Settings.{Settings}
 use Rattle.synth_cmd.specs.CommandLine.{Said, said}
-use Rattle.vec_text.specs.declared.file.Form.{Form}
-use Rattle.vec_text.specs.declared.file.Form.TheVariants.{Reddy, Factored}
+use Rattle.ae_base.specs.declared.form.Form.TheVariants.{Reddy}
+use Rattle.grading.specs.declared.report.Mode.{Mode}
+use Rattle.grading.specs.declared.report.Mode.TheVariants as mode
 
 -- where a source comes from: a file of this name, or the demo of this number
 pub data Origin : Type 0 where
@@ -24,8 +26,7 @@ pub data Origin : Type 0 where
 pub data Asked : Type 0 where
   Refused : Asked
   Synth : Settings → (source : Origin) → (net vectors : List ℕ) → Asked
-  Grade : (net vectors : List ℕ) → Asked
-  Check : (net vectors : List ℕ) → Asked
+  Grade : Mode → (net vectors : List ℕ) → Asked
 
 -- ---- values
 
@@ -33,15 +34,11 @@ pub data Asked : Type 0 where
 abbrev pub kind_of : List ℕ → Option SourceKind
 kind_of word = if bytes_eq word (codes "pla") then Some Pla else if bytes_eq word (codes "blif") then Some Blif else None
 
--- the form that a word names
-abbrev pub form_of : List ℕ → Option Form
-form_of word = if bytes_eq word (codes "reddy") then Some Reddy else if bytes_eq word (codes "factored") then Some Factored else None
-
 -- a digit 0 or 1
 abbrev pub is_bit : ℕ → Bool
 is_bit b = (b == 48) || (b == 49)
 
--- the polarity that a word tells: 1 to 64 digits, of which the k-th is 1 where the literal of input k is plain
+-- the polarity that a word tells: 1 to SOURCE_LINES digits, of which the k-th is 1 where the literal of input k is plain
 abbrev pub bits_of : List ℕ → Option Signs
 bits_of word =
     if nat_lt 0 (length word) && (nat_le (length word) SOURCE_LINES && list_all is_bit word)
@@ -99,7 +96,7 @@ has_options said = is_some said.kind || (is_some said.form || is_some said.polar
 -- `grade` or `check`, which have no options
 abbrev pub pair_of : Said → (net vectors : List ℕ) → Asked
 pair_of said net vectors =
-    if has_options said then Refused else if bytes_eq said.mode (codes "grade") then Grade net vectors else if bytes_eq said.mode (codes "check") then Check net vectors else Refused
+    if has_options said then Refused else if bytes_eq said.mode (codes "grade") then Grade mode.Grade net vectors else if bytes_eq said.mode (codes "check") then Grade mode.Check net vectors else Refused
 
 -- one of these, by the number of names; those of files differ as texts
 abbrev pub command_by : Said → List (List ℕ) → Asked

@@ -1,42 +1,39 @@
--- How each command ends.
-use Rattle.std.specs.Prelude.{◌≡◌, ◌⊎◌, ℕ, List, [], ◌∷◌}
-use Rattle.pairs.specs.Check.{IsChecked}
-use Rattle.pairs.specs.Grade.{IsGraded}
-use Rattle.pairs.specs.declared.checking.CheckReport.{CheckReport}
-use Rattle.pairs.specs.declared.grading.GradeReport.{GradeReport}
-use Rattle.synth_cmd.specs.Asked.{Asked}
-use Rattle.synth_cmd.specs.Asked.Asked.{Refused, Synth, Grade, Check}
-use Rattle.synth_cmd.specs.Lines.{check_lines, finding_status, grade_lines}
-use Rattle.synth_cmd.specs.Outcome.{SynthEnds, WasText, WordsEnd, read_names}
-use Rattle.synth_cmd.specs.Outside.{Outside}
+-- How a command ends.
+use Rattle.std.specs.Prelude.{◌≡◌, ◌⊎◌, ◌≤◌, ℕ, List, Option}
+use Rattle.ae_outside.specs.Files.{Shelf}
+use Rattle.demo_source.specs.Demo.{demo_text}
+use Rattle.polarity.specs.Search.{Advised}
+use Rattle.synth_core.specs.Searched.{AdvisorsStand}
+use Rattle.synth_core.specs.declared.settings.Settings.{Settings}
+use Rattle.synth_cmd.specs.Asked.{Asked, Origin}
+use Rattle.synth_cmd.specs.Asked.Asked.{Refused, Synth, Grade}
+use Rattle.synth_cmd.specs.Asked.Origin.{File, Demo}
+use Rattle.synth_cmd.specs.Complete.{IsComplete}
+use Rattle.synth_cmd.specs.Outcome.{Ending}
+use Rattle.synth_cmd.specs.Outside.{CountsAmong, Outside}
+use Rattle.synth_cmd.specs.Reading.{HoldsText, names_read, names_written}
 use Rattle.synth_cmd.specs.declared.TheConstants.{DONE, SHORTFALL}
-use Rattle.synth_cmd.specs.Pairs.{Finding, PairEnds}
 
--- what is told of a report: the status is that of a shortfall exactly where some response is wrong or some fault is missed
-abbrev pub finding_of : GradeReport → Finding
-finding_of report = record { lines = grade_lines report; status = finding_status report.wrong report.missed }
+-- A source was these bytes: those of a file that is not too long, or those of the demo of a number.
+abbrev pub WasText : Settings → Option Shelf → Origin → List ℕ → Type 0
+WasText settings held (File name) bytes = HoldsText held name bytes
+WasText settings held (Demo number) bytes = bytes ≡ demo_text number settings.form
 
--- The bytes of the two files are graded, and this is what is told of the report.
-pub record GradeFinds (net_bytes vec_bytes : List ℕ) (finding : Finding) : Type 0 where
-  pub report : GradeReport
-  pub graded : IsGraded net_bytes vec_bytes report
-  pub is : finding ≡ finding_of report
+-- no advisor is asked but for a search
+abbrev pub KeepsAdvisors : Asked → Option Shelf → (before after : List Advised) → Type 0
+KeepsAdvisors Refused held before after = after ≡ before
+KeepsAdvisors (Synth settings source net vectors) held before after = AdvisorsStand settings (WasText settings held source) before after
+KeepsAdvisors (Grade mode net vectors) held before after = after ≡ before
 
--- what is told of a check: the status is that of a shortfall exactly where some response is wrong or some fault is neither detected nor proved undetectable
-abbrev pub checked_finding : CheckReport → Finding
-checked_finding report = record { lines = check_lines report; status = finding_status report.wrong report.unproved }
-
--- The bytes of the two files are checked, and this is what is told of the report.
-pub record CheckFinds (net_bytes vec_bytes : List ℕ) (finding : Finding) : Type 0 where
-  pub report : CheckReport
-  pub checked : IsChecked net_bytes vec_bytes report
-  pub is : finding ≡ checked_finding report
-
-abbrev pub Ends : Asked → (old new : Outside) → (status : ℕ) → Type 0
-Ends Refused old new status = WordsEnd old new status
-Ends (Synth settings source net vectors) old new status = SynthEnds settings (WasText settings old.held source) (read_names source) (net ∷ vectors ∷ []) old new status
-Ends (Grade net vectors) old new status = PairEnds GradeFinds net vectors old new status
-Ends (Check net vectors) old new status = PairEnds CheckFinds net vectors old new status
+-- each status by its stage, and each cause with its status; no count rises but those of the names that it reads, of those that it writes,
+-- and of the report
+pub record Ends (asked : Asked) (old new : Outside) (status : ℕ) : Type 0 where
+  pub ending : Ending asked old new status
+  pub complete : IsComplete asked old new status
+  pub reads : CountsAmong (names_read asked) old.world.reads new.world.reads
+  pub writes : CountsAmong (names_written asked) old.world.writes new.world.writes
+  pub faults : old.faults ≤ new.faults
+  pub advisors : KeepsAdvisors asked old.world.held old.world.advisors new.world.advisors
 
 -- the report of what was asked for is written
 abbrev pub IsReported : ℕ → Type 0

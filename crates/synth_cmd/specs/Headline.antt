@@ -1,16 +1,16 @@
 -- The headline of a call, by what the files hold before and after it.
 use Rattle.std.specs.Prelude.{◌≡◌, ℕ, Ok, List, Option, Some, IfSome}
 use Rattle.std.specs.FinMap.{get}
-use Rattle.ae_base.specs.Cube.{Signs}
 use Rattle.ae_base.specs.Source.{Source}
 use Rattle.ae_outside.specs.Files.{Shelf}
 use Rattle.demo_source.specs.Demo.{demo_text}
-use Rattle.pairs.specs.Check.{IsSound}
+use Rattle.grading.specs.Grade.{IsSound}
+use Rattle.grading.specs.declared.report.Mode.TheVariants as mode
 use Rattle.synth_core.specs.Headline.{Headline}
 use Rattle.synth_core.specs.Says.{source_says}
 use Rattle.synth_core.specs.declared.settings.Settings.{Settings}
 use Rattle.synth_cmd.specs.Asked.{Asked, Origin}
-use Rattle.synth_cmd.specs.Asked.Asked.{Refused, Synth, Grade, Check}
+use Rattle.synth_cmd.specs.Asked.Asked.{Refused, Synth, Grade}
 use Rattle.synth_cmd.specs.Asked.Origin.{File, Demo}
 
 -- The name holds these bytes, where the files tell what they hold.
@@ -28,12 +28,11 @@ pub record Tested (settings : Settings) (Was : List ℕ → Type 0) (net vectors
   pub was : Was bytes
   pub source : Source
   pub says : source_says settings.kind bytes ≡ Ok source
-  pub polarity : Signs
   pub net_bytes : List ℕ
   pub net_holds : Holds held net net_bytes
   pub vec_bytes : List ℕ
   pub vec_holds : Holds held vectors vec_bytes
-  pub headline : Headline settings.form polarity source net_bytes vec_bytes
+  pub headline : Headline settings.form source net_bytes vec_bytes
 
 -- NET and VEC held bytes of a pair whose responses are right, and whose vectors detect each fault that any point detects.
 pub record Checked (net vectors : List ℕ) (held : Option Shelf) : Type 0 where
@@ -47,5 +46,5 @@ pub record Checked (net vectors : List ℕ) (held : Option Shelf) : Type 0 where
 abbrev pub HasHeadline : Asked → (old new : Option Shelf) → Type 0
 HasHeadline Refused old new = ⊥
 HasHeadline (Synth settings source net vectors) old new = Tested settings (WasSource settings old source) net vectors new
-HasHeadline (Grade net vectors) old new = Unit {0}
-HasHeadline (Check net vectors) old new = Checked net vectors old
+HasHeadline (Grade mode.Grade net vectors) old new = Unit {0}
+HasHeadline (Grade mode.Check net vectors) old new = Checked net vectors old

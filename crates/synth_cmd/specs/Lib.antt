@@ -6,8 +6,7 @@ pub mod Headline
 pub mod Lines
 pub mod Outcome
 pub mod Outside
-pub mod PairStops
-pub mod Pairs
+pub mod Reading
 pub mod Stops
 pub mod Telling
 pub mod Words

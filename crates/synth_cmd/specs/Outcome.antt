@@ -1,25 +1,26 @@
--- How a synthesis ends: what the files hold, what the report took, and the counts of faults.
-use Rattle.std.specs.Prelude.{⊤, ◌≡◌, ◌⊎◌, ◌≤◌, ◌<◌, ◌++◌, ℕ, List, [], ◌∷◌, Option, Err, IfSome, length, take, Contains}
+-- How far a command comes, what then stands, and how it ends: what the files hold, what the report took, and the counts of faults.
+use Rattle.std.specs.Prelude.{◌≡◌, ◌⊎◌, ◌++◌, ℕ, List, [], ◌∷◌, Option, take, Contains}
 use Rattle.std.specs.List.{zip}
-use Rattle.ae_base.specs.declared.limits.TheConstants.{TEXT_BYTES}
 use Rattle.ae_outside.specs.Counts.{Tally, Rose, RoseAt}
-use Rattle.ae_outside.specs.Files.{Shelf, bytes_of, written, added, IsWrittenInPart, TookFront}
+use Rattle.ae_outside.specs.Files.{Shelf, written, added, IsWrittenInPart, TookFront}
 use Rattle.demo_source.specs.Demo.{demo_text}
+use Rattle.grading.specs.Grade.{IsGraded}
+use Rattle.grading.specs.Pair.{HasOtherNames}
+use Rattle.grading.specs.declared.report.GradeReport.{GradeReport}
+use Rattle.grading.specs.declared.report.Mode.{Mode}
 use Rattle.polarity.specs.Search.{Advised}
 use Rattle.synth_core.specs.Asked.{HasOtherCount, HasTooMany}
 use Rattle.synth_core.specs.Made.{IsMade, Texts}
-use Rattle.synth_core.specs.Says.{source_says}
-use Rattle.synth_core.specs.Searched.{AdvisorsStand}
 use Rattle.synth_core.specs.declared.settings.Settings.{Settings}
-use Rattle.synth_cmd.specs.Asked.{Origin}
+use Rattle.synth_cmd.specs.Asked.{Asked, Origin}
+use Rattle.synth_cmd.specs.Asked.Asked.{Refused, Synth, Grade}
 use Rattle.synth_cmd.specs.Asked.Origin.{File, Demo}
-use Rattle.synth_cmd.specs.Complete.{IsComplete}
-use Rattle.synth_cmd.specs.Headline.{Holds}
-use Rattle.synth_cmd.specs.Outside.{Outside, CountsAmong}
-use Rattle.synth_cmd.specs.Lines.{write_fault_line, usage_line, memory_line, report_lines, status_of, line_of}
-use Rattle.synth_cmd.specs.declared.tell.Refusal.{Refusal}
-use Rattle.synth_cmd.specs.declared.tell.Refusal.TheVariants.{ReadFault, TooLong, Text, BitCount, TooManyTerms}
-use Rattle.synth_cmd.specs.declared.TheConstants.{DONE, WORDS, WRITE_FAULT, MEMORY}
+use Rattle.synth_cmd.specs.Lines.{finding_status, grade_lines, line_of, memory_line, report_lines, status_of, write_fault_line}
+use Rattle.synth_cmd.specs.Outside.{Outside, World}
+use Rattle.synth_cmd.specs.Reading.{ComesTo, HoldTexts, IsFaulty, IsLong, names_read, names_written, reads_of}
+use Rattle.synth_cmd.specs.declared.stop.Refusal.{Refusal}
+use Rattle.synth_cmd.specs.declared.stop.Refusal.TheVariants.{Words, ReadFault, TooLong, Text, NamesDiffer, BitCount, TooManyTerms}
+use Rattle.synth_cmd.specs.declared.TheConstants.{DONE, WRITE_FAULT, MEMORY}
 
 -- ---- the report
 
@@ -34,28 +35,7 @@ pub record TellsMemory (text : List ℕ) (old new : Option (List ℕ)) : Type 0 
   pub last : ℕ
   pub took : new ≡ added old (take first text ++ take last memory_line)
 
-abbrev pub ToldFrom : List ℕ → Outside → Outside → Type 0
-ToldFrom text old new = Told text old.taken new.taken old.faults new.faults
-
-abbrev pub MemoryFrom : List ℕ → Outside → Outside → Type 0
-MemoryFrom text old new = TellsMemory text old.taken new.taken
-
 -- ---- the files
-
--- The name holds these bytes, no more than a text may have.
-pub record HoldsText (held : Option Shelf) (name bytes : List ℕ) : Type 0 where
-  pub is_held : Holds held name bytes
-  pub short : length bytes ≤ TEXT_BYTES
-
--- A source was these bytes: those of a file that is not too long, or those of the demo of a number.
-abbrev pub WasText : Settings → Option Shelf → Origin → List ℕ → Type 0
-WasText settings held (File name) bytes = HoldsText held name bytes
-WasText settings held (Demo number) bytes = bytes ≡ demo_text number settings.form
-
--- the names of the files that a source is read from
-abbrev pub read_names : Origin → List (List ℕ)
-read_names (File name) = name ∷ []
-read_names (Demo number) = []
 
 -- each name in turn holds its text, and all others stay
 abbrev pub all_written : Option Shelf → List (List ℕ × List ℕ) → Option Shelf
@@ -71,83 +51,94 @@ pub record StopsAt (name : List ℕ) (files : List (List ℕ × List ℕ)) (old 
   pub order : files ≡ before ++ (name, text) ∷ after
   pub in_part : IsWrittenInPart (all_written old before) name text new
 
--- ---- how far a synthesis comes
+-- ---- what is made of the texts that are read
 
--- The texts were made of the bytes that the source was, by what the advisors were before and are after.
-pub record IsMadeOf (settings : Settings) (Was : List ℕ → Type 0) (before after : List Advised) (texts : Texts) : Type 0 where
-  pub bytes : List ℕ
-  pub was : Was bytes
-  pub is_made : IsMade settings bytes before after texts
+-- what a command makes: the texts that it writes, the bytes of its report, and the status where all is written
+pub record Product : Type 0 where
+  pub texts : List (List ℕ)
+  pub lines : List ℕ
+  pub status : ℕ
 
--- the texts with the names that they are written to, in order
-abbrev pub files_of : List (List ℕ) → Texts → List (List ℕ × List ℕ)
-files_of names texts = zip names (texts.net_text ∷ texts.vec_text ∷ [])
+abbrev pub synthesis_of : Texts → Product
+synthesis_of made = record { texts = made.net_text ∷ made.vec_text ∷ []; lines = report_lines made.summary; status = DONE }
 
--- the source is refused, which has a name; a write of a name failed; or all is written
+-- the status is that of a shortfall exactly where some response is wrong or some fault is left
+abbrev pub grading_of : Mode → GradeReport → Product
+grading_of mode report = record { texts = []; lines = grade_lines mode report; status = finding_status report.wrong report.left }
+
+-- the bytes of a source: those of its file, or those of the demo of a number
+abbrev pub source_bytes : Settings → Origin → (texts : List (List ℕ)) → List ℕ
+source_bytes settings (Demo number) texts = demo_text number settings.form
+source_bytes settings (File name) [] = []
+source_bytes settings (File name) (bytes ∷ texts) = bytes
+
+-- this is made of the texts, by what the advisors were before and are after
+abbrev pub Makes : Asked → (before after : List Advised) → (texts : List (List ℕ)) → Product → Type 0
+Makes (Synth settings source net vectors) before after texts product =
+    (made : Texts) × IsMade settings (source_bytes settings source texts) before after made × (product ≡ synthesis_of made)
+Makes (Grade mode net vectors) before after (net_bytes ∷ vec_bytes ∷ []) product = (report : GradeReport) × IsGraded mode net_bytes vec_bytes report × (product ≡ grading_of mode report)
+Makes asked before after texts product = ⊥
+
+-- The texts that are read held what this is made of.
+pub record IsMadeOf (asked : Asked) (old new : World) (product : Product) : Type 0 where
+  pub texts : List (List ℕ)
+  pub hold : HoldTexts old.held (names_read asked) texts
+  pub makes : Makes asked old.advisors new.advisors texts product
+
+-- the texts are refused for this cause
+abbrev pub Objects : Asked → (texts : List (List ℕ)) → Refusal → Type 0
+Objects asked texts (Text name line what) = IsFaulty (reads_of asked) texts name.now line what
+Objects Refused texts Words = Unit {0}
+Objects (Synth settings source net vectors) texts (BitCount given wanted) = HasOtherCount settings (source_bytes settings source texts) given wanted
+Objects (Synth settings (File name) net vectors) texts (TooManyTerms output) = HasTooMany settings (source_bytes settings (File name) texts) output
+Objects (Grade mode net vectors) (net_bytes ∷ vec_bytes ∷ []) (NamesDiffer name) = (name.now ≡ vectors) × HasOtherNames net_bytes vec_bytes
+Objects asked texts refusal = ⊥
+
+-- a file is not read, by what was held and by the counts of reads before and now: a read of it failed, or it is too long
+abbrev pub Unread : Option Shelf → (before now : Tally) → (names : List (List ℕ)) → Refusal → Type 0
+Unread held before now names (ReadFault name) = ComesTo held names name.now × RoseAt name.now before now
+Unread held before now names (TooLong name) = ComesTo held names name.now × IsLong held name.now
+Unread held before now names refusal = ⊥
+
+-- A refusal has a cause, and the files and the advisors are as before.
+pub record IsRefused (asked : Asked) (old new : World) (refusal : Refusal) : Type 0 where
+  pub cause : Unread old.held old.reads new.reads (names_read asked) refusal ⊎ ((texts : List (List ℕ)) × HoldTexts old.held (names_read asked) texts × Objects asked texts refusal)
+  pub held : new.held ≡ old.held
+  pub advisors : new.advisors ≡ old.advisors
+
+-- ---- how far a command comes
+
+-- it is refused; a write of a name failed; or all is written
 pub data Stage : Type 0 where
-  Refuses : (name : List ℕ) → Refusal → Stage
-  Fails : (name : List ℕ) → Texts → Stage
-  Writes : Texts → Stage
+  Refuses : Refusal → Stage
+  Fails : (name : List ℕ) → Product → Stage
+  Finishes : Product → Stage
 
--- the cause of a refusal, by what the files held and by the counts of their reads before and now
-abbrev pub Cause : Settings → (List ℕ → Type 0) → Option Shelf → (before now : Tally) → (name : List ℕ) → Refusal → Type 0
-Cause settings Was held before now name ReadFault = RoseAt name before now
-Cause settings Was held before now name TooLong = IfSome held (λ m. TEXT_BYTES < length (bytes_of m name))
-Cause settings Was held before now name (Text line what) = (bytes : List ℕ) × Was bytes × (source_says settings.kind bytes ≡ Err (line, what))
-Cause settings Was held before now name (BitCount given wanted) = (bytes : List ℕ) × Was bytes × HasOtherCount settings bytes given wanted
-Cause settings Was held before now name (TooManyTerms output) = (bytes : List ℕ) × Was bytes × HasTooMany settings bytes output
-
--- a refusal is one of a name that is read; that of a polarity of another number of inputs is one of the words
-abbrev pub Concerns : (reads : List (List ℕ)) → (name : List ℕ) → Refusal → Type 0
-Concerns reads name (BitCount given wanted) = ⊤
-Concerns reads name refusal = Contains reads name
-
--- what stands at a stage, by the names that are read and those that are written
-abbrev pub Stands : Settings → (List ℕ → Type 0) → (reads writes : List (List ℕ)) → (old new : Outside) → Stage → Type 0
-Stands settings Was reads writes old new (Refuses name refusal) = Concerns reads name refusal × Cause settings Was old.held old.reads new.reads name refusal × (new.held ≡ old.held)
-Stands settings Was reads writes old new (Fails name texts) =
-    Contains writes name × RoseAt name old.writes new.writes × IsMadeOf settings Was old.advisors new.advisors texts × StopsAt name (files_of writes texts) old.held new.held
-Stands settings Was reads writes old new (Writes texts) = IsMadeOf settings Was old.advisors new.advisors texts × (new.held ≡ all_written old.held (files_of writes texts))
+-- what stands at a stage
+abbrev pub Stands : Asked → (old new : World) → Stage → Type 0
+Stands asked old new (Refuses refusal) = IsRefused asked old new refusal
+Stands asked old new (Fails name product) =
+    Contains (names_written asked) name × RoseAt name old.writes new.writes × IsMadeOf asked old new product × StopsAt name (zip (names_written asked) product.texts) old.held new.held
+Stands asked old new (Finishes product) = IsMadeOf asked old new product × (new.held ≡ all_written old.held (zip (names_written asked) product.texts))
 
 -- what is told at a stage
 abbrev pub text_at : Stage → List ℕ
-text_at (Refuses name refusal) = line_of refusal name
-text_at (Fails name texts) = write_fault_line name
-text_at (Writes texts) = report_lines texts.summary
+text_at (Refuses refusal) = line_of refusal
+text_at (Fails name product) = write_fault_line name
+text_at (Finishes product) = product.lines
 
--- the status at a stage; the report of what is written is itself written whole, or a write of it failed
+-- the status at a stage; the report of what is made is itself written whole, or a write of it failed
 abbrev pub Answers : Stage → (old new : Outside) → (status : ℕ) → Type 0
-Answers (Refuses name refusal) old new status = (status ≡ status_of refusal) × ToldFrom (line_of refusal name) old new
-Answers (Fails name texts) old new status = (status ≡ WRITE_FAULT) × ToldFrom (write_fault_line name) old new
-Answers (Writes texts) old new status =
-    ((status ≡ DONE) × (new.taken ≡ added old.taken (report_lines texts.summary)))
-    ⊎ ((status ≡ WRITE_FAULT) × Rose old.faults new.faults × TookFront (report_lines texts.summary) old.taken new.taken)
+Answers (Refuses refusal) old new status = (status ≡ status_of refusal) × Told (line_of refusal) old.taken new.taken old.faults new.faults
+Answers (Fails name product) old new status = (status ≡ WRITE_FAULT) × Told (write_fault_line name) old.taken new.taken old.faults new.faults
+Answers (Finishes product) old new status =
+    ((status ≡ product.status) × (new.taken ≡ added old.taken product.lines))
+    ⊎ ((status ≡ WRITE_FAULT) × Rose old.faults new.faults × TookFront product.lines old.taken new.taken)
 
--- ---- how commands end
-
--- A synthesis ends with the status of a stage; or memory is wanting, before anything is told, or where a stage is told.
-pub data Ending (settings : Settings) (Was : List ℕ → Type 0) (reads writes : List (List ℕ)) (old new : Outside) (status : ℕ) : Type 0 where
-  at_stage : (stage : Stage) → Stands settings Was reads writes old new stage → Answers stage old new status → Ending settings Was reads writes old new status
-  untouched : status ≡ MEMORY → new.held ≡ old.held → TookFront memory_line old.taken new.taken → Ending settings Was reads writes old new status
-  in_part : (name : List ℕ) (texts : Texts) → status ≡ MEMORY → IsMadeOf settings Was old.advisors new.advisors texts → StopsAt name (files_of writes texts) old.held new.held
-      → TookFront memory_line old.taken new.taken → Ending settings Was reads writes old new status
-  half_told : (stage : Stage) → status ≡ MEMORY → Stands settings Was reads writes old new stage → MemoryFrom (text_at stage) old new → Ending settings Was reads writes old new status
-
--- how a synthesis ends: each status by its stage, and each cause with its status; no count rises but those of its names and of the report,
--- and no advisor is asked but for a search
-pub record SynthEnds (settings : Settings) (Was : List ℕ → Type 0) (reads writes : List (List ℕ)) (old new : Outside) (status : ℕ) : Type 0 where
-  pub ending : Ending settings Was reads writes old new status
-  pub complete : IsComplete settings Was reads writes old new status
-  pub reads_counted : CountsAmong reads old.reads new.reads
-  pub writes_counted : CountsAmong writes old.writes new.writes
-  pub faults : old.faults ≤ new.faults
-  pub advisors : AdvisorsStand settings Was old.advisors new.advisors
-
--- how words end that ask for nothing
-pub record WordsEnd (old new : Outside) (status : ℕ) : Type 0 where
-  pub known : ((status ≡ WORDS) × ToldFrom usage_line old new) ⊎ ((status ≡ MEMORY) × MemoryFrom usage_line old new)
-  pub held : new.held ≡ old.held
-  pub reads : new.reads ≡ old.reads
-  pub writes : new.writes ≡ old.writes
-  pub faults : old.faults ≤ new.faults
-  pub advisors : new.advisors ≡ old.advisors
+-- A command ends with the status of a stage; or memory is wanting, before anything is told, or where a stage is told.
+pub data Ending (asked : Asked) (old new : Outside) (status : ℕ) : Type 0 where
+  at_stage : (stage : Stage) → Stands asked old.world new.world stage → Answers stage old new status → Ending asked old new status
+  untouched : status ≡ MEMORY → new.world.held ≡ old.world.held → TookFront memory_line old.taken new.taken → Ending asked old new status
+  in_part : (name : List ℕ) (product : Product) → status ≡ MEMORY → IsMadeOf asked old.world new.world product
+      → StopsAt name (zip (names_written asked) product.texts) old.world.held new.world.held → TookFront memory_line old.taken new.taken → Ending asked old new status
+  half_told : (stage : Stage) → status ≡ MEMORY → Stands asked old.world new.world stage → TellsMemory (text_at stage) old.taken new.taken → Ending asked old new status

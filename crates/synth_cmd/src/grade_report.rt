@@ -1,4 +1,4 @@
-//! The report of a grading.
+//! The report of a grading or a check.
 ghost use Rattle.std.specs.Prelude.{◌≡◌, ◌++◌, ◌∷◌, [], IfOk, OnOk, map};
 ghost use Rattle.std.specs.List.{flat_map};
 ghost use Rattle.ae_base.specs.Text.{text_of};
@@ -8,8 +8,9 @@ ghost use Rattle.vec_text.specs.VectorFile.{place_words, value_word};
 use crate::report::{push_count, push_number};
 use crate::{DONE, SHORTFALL};
 use ae_base::{Memory, push_word};
+use grading::{GradeReport, Mode};
+use named_faults::NamedFault;
 use std::alloc::Global;
-use synth_core::{GradeReport, NamedFault};
 use vec_text::{PlaceName, line_law};
 
 /// Writes the words of a fault site, each after a blank.
@@ -51,7 +52,7 @@ fn push_miss(alloc: Global, out: &mut Vec<u8>, fault: &NamedFault) -> Result<(),
 }
 
 /// Writes the lines of missed faults.
-pub fn push_misses(alloc: Global, out: &mut Vec<u8>, missed: &[NamedFault]) -> Result<(), Memory>
+fn push_misses(alloc: Global, out: &mut Vec<u8>, missed: &[NamedFault]) -> Result<(), Memory>
     ensures { OnOk result (out.new.items ≡ out.old.items ++ text_of (map spec.miss_line missed.now)) }
 {
     for fault in missed {
@@ -60,34 +61,64 @@ pub fn push_misses(alloc: Global, out: &mut Vec<u8>, missed: &[NamedFault]) -> R
     Ok(())
 }
 
+/// Writes the lines of the numbers of faults that are left, and in a check that are proved undetectable.
+fn push_left(
+    alloc: Global,
+    out: &mut Vec<u8>,
+    mode: Mode,
+    found: &GradeReport,
+) -> Result<(), Memory>
+    ensures { OnOk result (out.new.items ≡ out.old.items ++ text_of (spec.left_counts mode found.now)) }
+{
+    line_law();
+    let left = found.left.len() as u64;
+    match mode {
+        Mode::Grade => push_count(alloc, out, b"missed", left),
+        Mode::Check => {
+            push_count(alloc, out, b"proved", found.proved)?;
+            push_count(alloc, out, b"unproved", left)
+        }
+    }
+}
+
 /// Writes the lines of the numbers of faults.
-fn push_faults(alloc: Global, out: &mut Vec<u8>, found: &GradeReport) -> Result<(), Memory>
-    ensures { OnOk result (out.new.items ≡ out.old.items ++ text_of (spec.fault_counts found.now)) }
+fn push_faults(
+    alloc: Global,
+    out: &mut Vec<u8>,
+    mode: Mode,
+    found: &GradeReport,
+) -> Result<(), Memory>
+    ensures { OnOk result (out.new.items ≡ out.old.items ++ text_of (spec.fault_counts mode found.now)) }
 {
     line_law();
     push_count(alloc, out, b"faults", found.faults)?;
     push_count(alloc, out, b"told", found.told)?;
-    push_count(alloc, out, b"missed", found.missed.len() as u64)
+    push_left(alloc, out, mode, found)
 }
 
 /// Writes the lines of the numbers.
-fn push_counts(alloc: Global, out: &mut Vec<u8>, found: &GradeReport) -> Result<(), Memory>
-    ensures { OnOk result (out.new.items ≡ out.old.items ++ text_of (spec.grade_counts found.now)) }
+fn push_counts(
+    alloc: Global,
+    out: &mut Vec<u8>,
+    mode: Mode,
+    found: &GradeReport,
+) -> Result<(), Memory>
+    ensures { OnOk result (out.new.items ≡ out.old.items ++ text_of (spec.grade_counts mode found.now)) }
 {
     line_law();
     push_count(alloc, out, b"vectors", found.vectors)?;
     push_count(alloc, out, b"wrong", found.wrong)?;
-    push_faults(alloc, out, found)
+    push_faults(alloc, out, mode, found)
 }
 
-/// The report of a grading.
-pub fn grade_report(alloc: Global, found: &GradeReport) -> Result<Vec<u8>, Memory>
-    ensures { IfOk result (λ bytes. bytes.items ≡ spec.grade_lines found.now) }
+/// The report of a grading or a check.
+pub fn grade_report(alloc: Global, mode: Mode, found: &GradeReport) -> Result<Vec<u8>, Memory>
+    ensures { IfOk result (λ bytes. bytes.items ≡ spec.grade_lines mode found.now) }
 {
     line_law();
     let mut out = Vec::new(alloc);
-    push_counts(alloc, &mut out, found)?;
-    push_misses(alloc, &mut out, found.missed.as_slice())?;
+    push_counts(alloc, &mut out, mode, found)?;
+    push_misses(alloc, &mut out, found.left.as_slice())?;
     Ok(out)
 }
 

@@ -1,138 +1,155 @@
-//! The files of a synthesis: the source is read or drawn, and the network and its vectors are written.
-ghost use Rattle.std.specs.Prelude.{◌≡◌, ◌⊎◌, ℕ, List, [], ◌∷◌, IfOk, OnOk, IsErrOf, map};
-ghost use Rattle.ae_outside.specs.Counts.{CountsAt, RoseAt};
-ghost use Rattle.ae_outside.specs.Files.{written, IsWrittenInPart};
-ghost use Rattle.polarity.specs.Search.{advised};
+//! What a command makes of the texts that it reads, and the texts that it writes.
+ghost use Rattle.std.specs.Prelude.{◌≡◌, ◌≤◌, [], ◌∷◌, List, IfOk, length, map};
+ghost use Rattle.polarity.specs.Search.{Advised, advised};
 ghost use Rattle.synth_core.specs.Made.{texts_of};
 ghost use Rattle.synth_core.specs.Searched.{AdvisorsStand};
-ghost use Rattle.synth_cmd.specs.declared.stop.SourceErr.TheVariants as source_err;
-ghost use Rattle.synth_cmd.specs.declared.stop.Stop.TheVariants as stop;
-ghost use Rattle.synth_cmd.specs.Outcome.{HoldsText, IsMadeOf, WasText, read_names};
-ghost use Rattle.synth_cmd.specs.Outside.{CountsAmong};
-ghost use Rattle.synth_cmd.specs.Telling.{Refuses, StopsMade, WritesMade};
-ghost use Rattle.synth_cmd.specs.Words.{HasKind, name_of, source_of};
+ghost use Rattle.synth_cmd.specs.Asked.Asked.{Grade};
+ghost use Rattle.synth_cmd.specs.Ends.{WasText};
+ghost use Rattle.synth_cmd.specs.Outcome.{grading_of, synthesis_of};
+ghost use Rattle.synth_cmd.specs.Outside.{CountsAmong, world_of};
+ghost use Rattle.synth_cmd.specs.Reading.{names_read};
+ghost use Rattle.synth_cmd.specs.Telling.{Gives, GivesSource, WritesTexts, Works};
+ghost use Rattle.synth_cmd.specs.Words as spec;
+ghost use Rattle.synth_cmd.specs.Words.{HasKind, IsAcceptedDemo, source_of, synth_asked};
 
-use crate::stop::{SourceErr, Stop, TextsErr};
-use crate::tell::Refusal;
-use crate::words::{FileNames, Origin};
+use crate::reading::{read_pair, read_text};
+use crate::stop::{Stop, Unmade, no_grading, no_synthesis, stop_of};
+use crate::words::{FileNames, Origin, PairNames};
 use ae_base::TEXT_BYTES;
-use ae_outside::{Files, WriteErr, read_whole, write_whole};
+use ae_outside::{Files, WriteErr, write_whole};
+use grading::{GradeReport, Mode, grade};
 use polarity::Advisor;
 use std::alloc::Global;
-use synth_core::{Made, Settings, demo_law, demo_text, synthesise};
+use synth_core::{Made, Settings, demo_text, one_answer_law, synthesise};
 
-/// Reads the file of a source.
-fn read_source<F: Files>(alloc: Global, files: &mut F, name: &str) -> Result<Vec<u8>, SourceErr>
-    ensures held { IfOk result (λ bytes. HoldsText (F.held files.old) name.now bytes.items) }
-    ensures refused { (r : Refusal) → IsErrOf result (source_err.Refused r) → (settings : Settings) → Refuses settings (HoldsText (F.held files.old) name.now) (name.now ∷ []) (F.held files.old) (F.read_faults files.old) (F.read_faults files.new) name.now r }
-    ensures stays { F.held files.new ≡ F.held files.old }
-    ensures reads { CountsAt name.now (F.read_faults files.old) (F.read_faults files.new) }
-    ensures writes { F.write_faults files.new ≡ F.write_faults files.old }
+/// The name that a source is refused by.
+fn name_of<'a>(source: &Origin<'a>) -> &'a str
+    ensures { result.now ≡ spec.name_of (source_of source.now) }
 {
-    Ok(read_whole(alloc, files, name, TEXT_BYTES as u64)?)
+    match source {
+        Origin::File(name) => name,
+        Origin::Demo(_) => "demo",
+    }
 }
 
 /// The bytes of a source: those of its file, or the text of the demo.
-fn source_bytes<F: Files>(
+fn source_text<'a, F: Files>(
     alloc: Global,
     files: &mut F,
     settings: &Settings,
-    source: &Origin<'_>,
-) -> Result<Vec<u8>, SourceErr>
-    ensures was { IfOk result (λ bytes. WasText settings.now (F.held files.old) (source_of source.now) bytes.items) }
-    ensures refused { (r : Refusal) → IsErrOf result (source_err.Refused r) → Refuses settings.now (WasText settings.now (F.held files.old) (source_of source.now)) (read_names (source_of source.now)) (F.held files.old) (F.read_faults files.old) (F.read_faults files.new) (name_of (source_of source.now)) r }
+    names: &FileNames<'a>,
+) -> Result<Vec<u8>, Unmade<'a>>
+    ensures text { GivesSource settings.now (source_of names.now.source) (names_read (synth_asked settings.now names.now)) (F.held files.old) (F.read_faults files.old) (F.read_faults files.new) result }
+    ensures short { IfOk result (λ bytes. length bytes.items ≤ TEXT_BYTES) }
+    ensures drawn { IfOk result (λ _. IsAcceptedDemo settings.now.form (source_of names.now.source)) }
     ensures stays { F.held files.new ≡ F.held files.old }
-    ensures reads { CountsAmong (read_names (source_of source.now)) (F.read_faults files.old) (F.read_faults files.new) }
+    ensures reads { CountsAmong (names_read (synth_asked settings.now names.now)) (F.read_faults files.old) (F.read_faults files.new) }
     ensures writes { F.write_faults files.new ≡ F.write_faults files.old }
 {
-    match source {
-        Origin::File(name) => read_source(alloc, files, name),
-        Origin::Demo(number) => Ok(demo_text(alloc, *number, settings.form)?),
+    match names.source {
+        Origin::File(name) => read_text(alloc, files, name),
+        Origin::Demo(number) => match demo_text(alloc, number, settings.form) {
+            Ok(bytes) => Ok(bytes),
+            Err(_) => Err(Unmade::Memory),
+        },
     }
 }
 
 /// Takes the source's bytes and synthesises them.
-fn make<F: Files>(
+fn make<'a, F: Files>(
     alloc: Global,
     files: &mut F,
     settings: &Settings,
-    source: &Origin<'_>,
+    names: &FileNames<'a>,
     advisors: &mut Vec<Box<dyn Advisor>>,
-) -> Result<Made, SourceErr>
-    requires { HasKind settings.now (source_of source.now) }
-    ensures made { IfOk result (λ made. IsMadeOf settings.now (WasText settings.now (F.held files.old) (source_of source.now)) (map (λ b. advised (left b) (log b)) advisors.old.items) (map (λ b. advised (left b) (log b)) advisors.new.items) (texts_of made)) }
-    ensures advisors { AdvisorsStand settings.now (WasText settings.now (F.held files.old) (source_of source.now)) (map (λ b. advised (left b) (log b)) advisors.old.items) (map (λ b. advised (left b) (log b)) advisors.new.items) }
-    ensures refused { (r : Refusal) → IsErrOf result (source_err.Refused r)
-        → Refuses settings.now (WasText settings.now (F.held files.old) (source_of source.now)) (read_names (source_of source.now)) (F.held files.old) (F.read_faults files.old) (F.read_faults files.new) (name_of (source_of source.now)) r }
+) -> Result<Made, Unmade<'a>>
+    requires { HasKind settings.now (source_of names.now.source) }
+    ensures gives { Gives (λ made. synthesis_of (texts_of made)) (synth_asked settings.now names.now)
+        (world_of F.held F.read_faults F.write_faults files.old (map (λ b. advised (left b) (log b)) advisors.old.items))
+        (world_of F.held F.read_faults F.write_faults files.new (map (λ b. advised (left b) (log b)) advisors.new.items))
+        result }
     ensures stays { F.held files.new ≡ F.held files.old }
-    ensures reads { CountsAmong (read_names (source_of source.now)) (F.read_faults files.old) (F.read_faults files.new) }
+    ensures reads { CountsAmong (names_read (synth_asked settings.now names.now)) (F.read_faults files.old) (F.read_faults files.new) }
     ensures writes { F.write_faults files.new ≡ F.write_faults files.old }
+    ensures advisors { AdvisorsStand settings.now (WasText settings.now (F.held files.old) (source_of names.now.source)) (map (λ b. advised (left b) (log b)) advisors.old.items) (map (λ b. advised (left b) (log b)) advisors.new.items) }
 {
-    demo_law();
-    let bytes = source_bytes(alloc, files, settings, source)?;
-    Ok(synthesise(alloc, &bytes, settings, advisors)?)
+    one_answer_law();
+    let bytes = match source_text(alloc, files, settings, names) {
+        Ok(bytes) => bytes,
+        Err(unmade) => return Err(unmade),
+    };
+    match synthesise(alloc, &bytes, settings, advisors) {
+        Ok(made) => Ok(made),
+        Err(error) => Err(no_synthesis(name_of(&names.source), error)),
+    }
 }
 
 /// Writes the network's text, and then that of the vectors.
-fn write_texts<F: Files>(
+fn write_texts<'a, F: Files>(
     files: &mut F,
-    net: &str,
-    vectors: &str,
+    net: &'a str,
+    vectors: &'a str,
     made: &Made,
-) -> Result<(), TextsErr>
-    ensures done { OnOk result (F.held files.new ≡ written (written (F.held files.old) net.now made.now.net_text.items) vectors.now made.now.vec_text.items) }
-    ensures net_fault { IsErrOf result TextsErr.NetFault → RoseAt net.now (F.write_faults files.old) (F.write_faults files.new) }
-    ensures net_in_part { IsErrOf result TextsErr.NetFault → IsWrittenInPart (F.held files.old) net.now made.now.net_text.items (F.held files.new) }
-    ensures vectors_fault { IsErrOf result TextsErr.VectorsFault → RoseAt vectors.now (F.write_faults files.old) (F.write_faults files.new) }
-    ensures vectors_in_part { IsErrOf result TextsErr.VectorsFault
-        → IsWrittenInPart (written (F.held files.old) net.now made.now.net_text.items) vectors.now made.now.vec_text.items (F.held files.new) }
-    ensures memory { IsErrOf result TextsErr.Memory → IsWrittenInPart (F.held files.old) net.now made.now.net_text.items (F.held files.new)
-        ⊎ IsWrittenInPart (written (F.held files.old) net.now made.now.net_text.items) vectors.now made.now.vec_text.items (F.held files.new) }
-
+) -> Result<(), Stop<'a>>
+    ensures writes { WritesTexts (net.now ∷ vectors.now ∷ []) (made.now.net_text.items ∷ made.now.vec_text.items ∷ []) (F.write_faults files.old) (F.write_faults files.new) (F.held files.old) (F.held files.new) result }
     ensures reads { F.read_faults files.new ≡ F.read_faults files.old }
-    ensures writes { CountsAmong (net.now ∷ vectors.now ∷ []) (F.write_faults files.old) (F.write_faults files.new) }
+    ensures counts { CountsAmong (net.now ∷ vectors.now ∷ []) (F.write_faults files.old) (F.write_faults files.new) }
 {
     match write_whole(files, net, &made.net_text) {
         Ok(()) => {}
-        Err(WriteErr::Fault) => return Err(TextsErr::NetFault),
-        Err(WriteErr::Memory) => return Err(TextsErr::Memory),
+        Err(WriteErr::Fault) => return Err(Stop::WriteFault { file: net }),
+        Err(WriteErr::Memory) => return Err(Stop::Memory),
     }
     match write_whole(files, vectors, &made.vec_text) {
         Ok(()) => Ok(()),
-        Err(WriteErr::Fault) => Err(TextsErr::VectorsFault),
-        Err(WriteErr::Memory) => Err(TextsErr::Memory),
+        Err(WriteErr::Fault) => Err(Stop::WriteFault { file: vectors }),
+        Err(WriteErr::Memory) => Err(Stop::Memory),
     }
 }
 
 /// Takes the source's bytes, synthesises, and writes the network and its vectors.
-pub fn synthesise_files<F: Files>(
+pub fn synthesise_files<'a, F: Files>(
     alloc: Global,
     files: &mut F,
     settings: &Settings,
-    names: &FileNames<'_>,
+    names: &FileNames<'a>,
     advisors: &mut Vec<Box<dyn Advisor>>,
-) -> Result<Made, Stop>
+) -> Result<Made, Stop<'a>>
     requires { HasKind settings.now (source_of names.now.source) }
-    ensures done { IfOk result (λ made. WritesMade settings.now (WasText settings.now (F.held files.old) (source_of names.now.source)) (map (λ b. advised (left b) (log b)) advisors.old.items) (map (λ b. advised (left b) (log b)) advisors.new.items)
-        (names.now.net.now ∷ names.now.vectors.now ∷ []) (texts_of made) (F.held files.old) (F.held files.new)) }
-    ensures refused { (r : Refusal) → IsErrOf result (stop.Refused r)
-        → Refuses settings.now (WasText settings.now (F.held files.old) (source_of names.now.source)) (read_names (source_of names.now.source)) (F.held files.old) (F.read_faults files.old) (F.read_faults files.new) (name_of (source_of names.now.source)) r }
-    ensures refused_stays { (r : Refusal) → IsErrOf result (stop.Refused r) → F.held files.new ≡ F.held files.old }
-    ensures net_fault { IsErrOf result stop.NetFault → RoseAt names.now.net.now (F.write_faults files.old) (F.write_faults files.new) }
-    ensures net_stops { IsErrOf result stop.NetFault → StopsMade settings.now (WasText settings.now (F.held files.old) (source_of names.now.source)) (map (λ b. advised (left b) (log b)) advisors.old.items) (map (λ b. advised (left b) (log b)) advisors.new.items)
-        (names.now.net.now ∷ names.now.vectors.now ∷ []) names.now.net.now (F.held files.old) (F.held files.new) }
-    ensures vectors_fault { IsErrOf result stop.VectorsFault → RoseAt names.now.vectors.now (F.write_faults files.old) (F.write_faults files.new) }
-    ensures vectors_stop { IsErrOf result stop.VectorsFault → StopsMade settings.now (WasText settings.now (F.held files.old) (source_of names.now.source)) (map (λ b. advised (left b) (log b)) advisors.old.items) (map (λ b. advised (left b) (log b)) advisors.new.items)
-        (names.now.net.now ∷ names.now.vectors.now ∷ []) names.now.vectors.now (F.held files.old) (F.held files.new) }
-    ensures memory { IsErrOf result stop.Memory → (F.held files.new ≡ F.held files.old)
-        ⊎ ((name : List ℕ) × StopsMade settings.now (WasText settings.now (F.held files.old) (source_of names.now.source)) (map (λ b. advised (left b) (log b)) advisors.old.items) (map (λ b. advised (left b) (log b)) advisors.new.items)
-        (names.now.net.now ∷ names.now.vectors.now ∷ []) name (F.held files.old) (F.held files.new)) }
-
-    ensures reads { CountsAmong (read_names (source_of names.now.source)) (F.read_faults files.old) (F.read_faults files.new) }
-    ensures writes { CountsAmong (names.now.net.now ∷ names.now.vectors.now ∷ []) (F.write_faults files.old) (F.write_faults files.new) }
-    ensures advisors { AdvisorsStand settings.now (WasText settings.now (F.held files.old) (source_of names.now.source)) (map (λ b. advised (left b) (log b)) advisors.old.items) (map (λ b. advised (left b) (log b)) advisors.new.items) }
+    ensures { Works (λ made. synthesis_of (texts_of made)) (synth_asked settings.now names.now)
+        (world_of F.held F.read_faults F.write_faults files.old (map (λ b. advised (left b) (log b)) advisors.old.items))
+        (world_of F.held F.read_faults F.write_faults files.new (map (λ b. advised (left b) (log b)) advisors.new.items))
+        result }
 {
-    let made = make(alloc, files, settings, &names.source, advisors)?;
-    write_texts(files, names.net, names.vectors, &made)?;
-    Ok(made)
+    let made = match make(alloc, files, settings, names, advisors) {
+        Ok(made) => made,
+        Err(unmade) => return Err(stop_of(unmade)),
+    };
+    match write_texts(files, names.net, names.vectors, &made) {
+        Ok(()) => Ok(made),
+        Err(stop) => Err(stop),
+    }
+}
+
+/// Reads a netlist and a vector file, and grades them.
+pub fn grade_files<'a, F: Files>(
+    alloc: Global,
+    files: &mut F,
+    mode: Mode,
+    names: &PairNames<'a>,
+) -> Result<GradeReport, Unmade<'a>>
+    ensures gives { (advisors : List Advised) → Gives (grading_of mode) (Grade mode names.now.net.now names.now.vectors.now)
+        (world_of F.held F.read_faults F.write_faults files.old advisors) (world_of F.held F.read_faults F.write_faults files.new advisors) result }
+    ensures stays { F.held files.new ≡ F.held files.old }
+    ensures reads { CountsAmong (names.now.net.now ∷ names.now.vectors.now ∷ []) (F.read_faults files.old) (F.read_faults files.new) }
+    ensures writes { F.write_faults files.new ≡ F.write_faults files.old }
+{
+    let texts = match read_pair(alloc, files, names) {
+        Ok(texts) => texts,
+        Err(unmade) => return Err(unmade),
+    };
+    match grade(alloc, mode, &texts.net, &texts.vectors) {
+        Ok(report) => Ok(report),
+        Err(error) => Err(no_grading(names.net, names.vectors, error)),
+    }
 }

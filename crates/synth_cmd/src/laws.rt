@@ -5,24 +5,25 @@ ghost use Rattle.std.specs.Prelude.{◌≡◌, ◌≢◌, ℕ, List, [], ◌∷�
 ghost use Rattle.ae_outside.specs.Counts.{Rose};
 ghost use Rattle.ae_outside.specs.Files.{Shelf};
 ghost use Rattle.synth_cmd.specs.Asked.{Asked, Origin};
-ghost use Rattle.synth_cmd.specs.Asked.Asked.{Check, Grade, Synth};
+ghost use Rattle.synth_cmd.specs.Asked.Asked.{Grade, Synth};
 ghost use Rattle.synth_cmd.specs.Asked.Origin.{Demo};
 ghost use Rattle.synth_cmd.specs.Ends.{Ends, IsReported};
 ghost use Rattle.synth_cmd.specs.Outside.{Outside};
 ghost use Rattle.synth_cmd.specs.declared.TheConstants.{DONE, MEMORY, SHORTFALL, TOO_MANY_TERMS, WORDS, WRITE_FAULT};
+ghost use Rattle.grading.specs.declared.report.Mode.{Mode};
 ghost use Rattle.synth_core.specs.declared.settings.Settings.{Settings};
 
-use synth_core::{check_law, grade_law, one_answer_law};
+use grading::grade_law;
+use synth_core::one_answer_law;
 
 /// Where the files tell what they hold, two calls of the same words over the same outside that both write their report, and leave the same
 /// of the advisors, as they do unless a search is asked for, end with the same status and leave the same files and the same report.
 pub fn one_end_law()
-    ensures { (words : Asked) (m : Shelf) (old a b : Outside) (s t : ℕ) → old.held ≡ Some m → a.advisors ≡ b.advisors → IsReported s → IsReported t → Ends words old a s → Ends words old b t
-        → (s ≡ t) × (a.held ≡ b.held) × (a.taken ≡ b.taken) }
+    ensures { (words : Asked) (m : Shelf) (old a b : Outside) (s t : ℕ) → old.world.held ≡ Some m → a.world.advisors ≡ b.world.advisors → IsReported s → IsReported t → Ends words old a s → Ends words old b t
+        → (s ≡ t) × (a.world.held ≡ b.world.held) × (a.taken ≡ b.taken) }
 {
     one_answer_law();
     grade_law();
-    check_law();
 }
 
 /// Statuses that a command never ends with: a synthesis with that of a shortfall; a demo, whose text is its own, with any but that it is
@@ -31,6 +32,5 @@ pub fn one_end_law()
 pub fn status_law()
     ensures synth { (settings : Settings) (source : Origin) (net vectors : List ℕ) (old new : Outside) (s : ℕ) → Ends (Synth settings source net vectors) old new s → s ≢ SHORTFALL }
     ensures demo { (settings : Settings) (number : ℕ) (net vectors : List ℕ) (old new : Outside) (s : ℕ) → Ends (Synth settings (Demo number) net vectors) old new s → Contains (DONE ∷ WORDS ∷ WRITE_FAULT ∷ MEMORY ∷ []) s }
-    ensures grade { (net vectors : List ℕ) (old new : Outside) (s : ℕ) → Ends (Grade net vectors) old new s → (s ≢ TOO_MANY_TERMS) × (s ≡ WRITE_FAULT → Rose old.faults new.faults) }
-    ensures check { (net vectors : List ℕ) (old new : Outside) (s : ℕ) → Ends (Check net vectors) old new s → (s ≢ TOO_MANY_TERMS) × (s ≡ WRITE_FAULT → Rose old.faults new.faults) }
+    ensures grade { (mode : Mode) (net vectors : List ℕ) (old new : Outside) (s : ℕ) → Ends (Grade mode net vectors) old new s → (s ≢ TOO_MANY_TERMS) × (s ≡ WRITE_FAULT → Rose old.faults new.faults) }
 {}

@@ -1,18 +1,15 @@
 //! The command line over any files and any sink: a source read, its network and vectors written, and a report.
 #![tactic(auto)]
 
-mod check_report;
 mod command_line;
-mod findings;
 mod grade_report;
 mod job;
 mod laws;
 mod lines;
-mod pair;
+mod reading;
 mod report;
 mod stop;
 mod tell;
-mod tell_pair;
 mod top;
 mod words;
 

@@ -7,7 +7,7 @@ ghost use Rattle.synth_cmd.specs.Lines as spec;
 use ae_base::{Memory, push_word};
 use std::alloc::Global;
 use synth_core::Summary;
-use vec_text::{Form, line_law, push_form, push_polarity};
+use vec_text::{line_law, push_form, push_polarity};
 
 /// Writes a blank and a number.
 pub fn push_number(alloc: Global, out: &mut Vec<u8>, number: u64) -> Result<(), Memory>
@@ -40,13 +40,14 @@ pub fn push_count(alloc: Global, out: &mut Vec<u8>, word: &[u8], number: u64) ->
     Ok(())
 }
 
-/// Writes the line of the number of cubes, in factored form.
+/// Writes the line of the number of cubes, where the form has some.
 fn push_cubes(alloc: Global, out: &mut Vec<u8>, summary: &Summary) -> Result<(), Memory>
     ensures { OnOk result (out.new.items ≡ out.old.items ++ text_of (spec.cubes_lines summary.now.form summary.now)) }
 {
-    match summary.form {
-        Form::Reddy => Ok(()),
-        Form::Factored => push_count(alloc, out, b"cubes", summary.cubes),
+    if summary.form.features().cubes {
+        push_count(alloc, out, b"cubes", summary.cubes)
+    } else {
+        Ok(())
     }
 }
 

@@ -1,72 +1,26 @@
 //! The top call, and a function for each command.
-ghost use Rattle.std.specs.Prelude.{◌≡◌, ◌≢◌, ◌≤◌, [], ◌∷◌, map};
-ghost use Rattle.polarity.specs.Search.{advised};
-ghost use Rattle.synth_core.specs.Searched.{AdvisorsStand};
+ghost use Rattle.std.specs.Prelude.{◌≡◌, ◌≢◌, ◌≤◌, List, [], ◌∷◌, map};
+ghost use Rattle.polarity.specs.Search.{Advised, advised};
+ghost use Rattle.synth_core.specs.Made.{texts_of};
 ghost use Rattle.synth_cmd.specs.Asked.{asked};
-ghost use Rattle.synth_cmd.specs.Headline.{Checked, HasHeadline, Tested, WasSource};
-ghost use Rattle.synth_cmd.specs.Outcome.{Ending, SynthEnds, WasText, WordsEnd, read_names};
-ghost use Rattle.synth_cmd.specs.Ends.{CheckFinds, Ends, GradeFinds};
-ghost use Rattle.synth_cmd.specs.Pairs.{PairEnding, PairEnds};
-ghost use Rattle.synth_cmd.specs.Outside.{CountsAmong, outside};
-ghost use Rattle.synth_cmd.specs.Words as spec;
-ghost use Rattle.synth_cmd.specs.Words.{HasKind, IsFit, command_of, source_of};
+ghost use Rattle.synth_cmd.specs.Asked.Asked.{Grade};
+ghost use Rattle.synth_cmd.specs.Ends.{Ends};
+ghost use Rattle.synth_cmd.specs.Headline.{HasHeadline};
+ghost use Rattle.synth_cmd.specs.Outside.{outside, world_of};
+ghost use Rattle.synth_cmd.specs.Telling.{Closes};
+ghost use Rattle.synth_cmd.specs.Words.{HasKind, IsFit, command_of, source_of, synth_asked};
 
-use crate::findings::Findings;
-use crate::job::synthesise_files;
-use crate::pair::{PairStop, find_in};
-use crate::stop::Stop;
-use crate::tell::{finish, refuse, tell, tell_write_fault, want_memory};
-use crate::tell_pair::{finish_pair, refuse_pair};
-use crate::words::{Command, FileNames, Origin, PairNames, read_command};
-use crate::{DONE, WORDS};
+use crate::DONE;
+use crate::job::{grade_files, synthesise_files};
+use crate::stop::{Refusal, stop_of};
+use crate::tell::{finish, finish_grade, refuse, tell_stop, want_memory};
+use crate::words::{Command, FileNames, PairNames, read_command};
 use ae_base::Memory;
 use ae_outside::{Files, Sink, file_laws};
+use grading::{Mode, grade_law};
 use polarity::Advisor;
 use std::alloc::Global;
-use synth_core::{CheckReport, GradeReport, Settings, check_law, grade_law, one_answer_law};
-
-/// The name that a source is refused by.
-fn name_of<'a>(source: &Origin<'a>) -> &'a str
-    ensures { result.now ≡ spec.name_of (source_of source.now) }
-{
-    match source {
-        Origin::File(name) => name,
-        Origin::Demo(_) => "demo",
-    }
-}
-
-/// Does the work of `synth` and `demo`, and tells how it ended.
-fn synth_work<F: Files, K: Sink>(
-    alloc: Global,
-    files: &mut F,
-    report: &mut K,
-    settings: &Settings,
-    names: &FileNames<'_>,
-    advisors: &mut Vec<Box<dyn Advisor>>,
-) -> u8
-    requires apart { names.now.net.now ≢ names.now.vectors.now }
-    requires kind { HasKind settings.now (source_of names.now.source) }
-    ensures ending { Ending settings.now (WasText settings.now (F.held files.old) (source_of names.now.source)) (read_names (source_of names.now.source)) (names.now.net.now ∷ names.now.vectors.now ∷ [])
-        (outside F.held F.read_faults F.write_faults K.taken K.faults files.old report.old
-        (map (λ b. advised (left b) (log b)) advisors.old.items))
-        (outside F.held F.read_faults F.write_faults K.taken K.faults files.new report.new
-        (map (λ b. advised (left b) (log b)) advisors.new.items))
-        result }
-    ensures headline { result ≡ DONE → Tested settings.now (WasSource settings.now (F.held files.old) (source_of names.now.source)) names.now.net.now names.now.vectors.now (F.held files.new) }
-    ensures reads { CountsAmong (read_names (source_of names.now.source)) (F.read_faults files.old) (F.read_faults files.new) }
-    ensures writes { CountsAmong (names.now.net.now ∷ names.now.vectors.now ∷ []) (F.write_faults files.old) (F.write_faults files.new) }
-    ensures faults { K.faults report.old ≤ K.faults report.new }
-    ensures advisors { AdvisorsStand settings.now (WasText settings.now (F.held files.old) (source_of names.now.source)) (map (λ b. advised (left b) (log b)) advisors.old.items) (map (λ b. advised (left b) (log b)) advisors.new.items) }
-{
-    file_laws();
-    match synthesise_files(alloc, files, settings, names, advisors) {
-        Ok(made) => finish(alloc, report, made.summary),
-        Err(Stop::Refused(refusal)) => refuse(alloc, report, refusal, name_of(&names.source)),
-        Err(Stop::NetFault) => tell_write_fault(alloc, report, names.net),
-        Err(Stop::VectorsFault) => tell_write_fault(alloc, report, names.vectors),
-        Err(Stop::Memory) => want_memory(report),
-    }
-}
+use synth_core::{Settings, one_answer_law};
 
 /// `synth IN NET VEC` and `demo NUMBER NET VEC`.
 fn synth_command<F: Files, K: Sink>(
@@ -77,96 +31,35 @@ fn synth_command<F: Files, K: Sink>(
     names: &FileNames<'_>,
     advisors: &mut Vec<Box<dyn Advisor>>,
 ) -> u8
-    requires apart { names.now.net.now ≢ names.now.vectors.now }
-    requires kind { HasKind settings.now (source_of names.now.source) }
-    ensures ends { SynthEnds settings.now (WasText settings.now (F.held files.old) (source_of names.now.source)) (read_names (source_of names.now.source)) (names.now.net.now ∷ names.now.vectors.now ∷ [])
-        (outside F.held F.read_faults F.write_faults K.taken K.faults files.old report.old
-        (map (λ b. advised (left b) (log b)) advisors.old.items))
-        (outside F.held F.read_faults F.write_faults K.taken K.faults files.new report.new
-        (map (λ b. advised (left b) (log b)) advisors.new.items))
+    requires { HasKind settings.now (source_of names.now.source) }
+    ensures { Closes (synth_asked settings.now names.now)
+        (outside (world_of F.held F.read_faults F.write_faults files.old (map (λ b. advised (left b) (log b)) advisors.old.items)) (K.taken report.old) (K.faults report.old))
+        (outside (world_of F.held F.read_faults F.write_faults files.new (map (λ b. advised (left b) (log b)) advisors.new.items)) (K.taken report.new) (K.faults report.new))
         result }
-    ensures headline { result ≡ DONE → Tested settings.now (WasSource settings.now (F.held files.old) (source_of names.now.source)) names.now.net.now names.now.vectors.now (F.held files.new) }
 {
-    one_answer_law();
-    synth_work(alloc, files, report, settings, names, advisors)
-}
-
-/// Does the work of a command on a pair, and tells how it ended.
-fn pair_work<R: Findings, F: Files, K: Sink>(
-    alloc: Global,
-    files: &mut F,
-    report: &mut K,
-    names: &PairNames<'_>,
-    _advisors: &Vec<Box<dyn Advisor>>,
-) -> u8
-    ensures ending { PairEnding R.Finds names.now.net.now names.now.vectors.now
-        (outside F.held F.read_faults F.write_faults K.taken K.faults files.old report.old (map (λ b. advised (left b) (log b)) _advisors.now.items))
-        (outside F.held F.read_faults F.write_faults K.taken K.faults files.new report.new (map (λ b. advised (left b) (log b)) _advisors.now.items))
-        result }
-    ensures held { F.held files.new ≡ F.held files.old }
-    ensures reads { CountsAmong (names.now.net.now ∷ names.now.vectors.now ∷ []) (F.read_faults files.old) (F.read_faults files.new) }
-    ensures writes { F.write_faults files.new ≡ F.write_faults files.old }
-    ensures faults { K.faults report.old ≤ K.faults report.new }
-{
-    match find_in::<R, F>(alloc, files, names) {
-        Ok(found) => finish_pair(alloc, report, &found),
-        Err(PairStop::Refused(refusal)) => refuse_pair(alloc, report, refusal, names),
-        Err(PairStop::Memory) => want_memory(report),
+    match synthesise_files(alloc, files, settings, names, advisors) {
+        Ok(made) => finish(alloc, report, made.summary),
+        Err(stop) => tell_stop(alloc, report, stop),
     }
 }
 
-/// `grade NET VEC`.
+/// `grade NET VEC` and `check NET VEC`. No advisor is asked: what they are stays.
 fn grade_command<F: Files, K: Sink>(
     alloc: Global,
     files: &mut F,
     report: &mut K,
+    mode: Mode,
     names: &PairNames<'_>,
-    _advisors: &Vec<Box<dyn Advisor>>,
 ) -> u8
-    ensures { PairEnds GradeFinds names.now.net.now names.now.vectors.now
-        (outside F.held F.read_faults F.write_faults K.taken K.faults files.old report.old (map (λ b. advised (left b) (log b)) _advisors.now.items))
-        (outside F.held F.read_faults F.write_faults K.taken K.faults files.new report.new (map (λ b. advised (left b) (log b)) _advisors.now.items))
+    ensures { (advisors : List Advised) → Closes (Grade mode names.now.net.now names.now.vectors.now)
+        (outside (world_of F.held F.read_faults F.write_faults files.old advisors) (K.taken report.old) (K.faults report.old))
+        (outside (world_of F.held F.read_faults F.write_faults files.new advisors) (K.taken report.new) (K.faults report.new))
         result }
 {
-    grade_law();
-    pair_work::<GradeReport, F, K>(alloc, files, report, names, _advisors)
-}
-
-/// `check NET VEC`.
-fn check_command<F: Files, K: Sink>(
-    alloc: Global,
-    files: &mut F,
-    report: &mut K,
-    names: &PairNames<'_>,
-    _advisors: &Vec<Box<dyn Advisor>>,
-) -> u8
-    ensures ends { PairEnds CheckFinds names.now.net.now names.now.vectors.now
-        (outside F.held F.read_faults F.write_faults K.taken K.faults files.old report.old (map (λ b. advised (left b) (log b)) _advisors.now.items))
-        (outside F.held F.read_faults F.write_faults K.taken K.faults files.new report.new (map (λ b. advised (left b) (log b)) _advisors.now.items))
-        result }
-    ensures headline { result ≡ DONE → Checked names.now.net.now names.now.vectors.now (F.held files.old) }
-{
-    grade_law();
-    check_law();
-    pair_work::<CheckReport, F, K>(alloc, files, report, names, _advisors)
-}
-
-/// Words that ask for nothing.
-fn refuse_words<F: Files, K: Sink>(
-    _files: &F,
-    report: &mut K,
-    _advisors: &Vec<Box<dyn Advisor>>,
-) -> u8
-    ensures { WordsEnd
-        (outside F.held F.read_faults F.write_faults K.taken K.faults _files.now report.old (map (λ b. advised (left b) (log b)) _advisors.now.items))
-        (outside F.held F.read_faults F.write_faults K.taken K.faults _files.now report.new (map (λ b. advised (left b) (log b)) _advisors.now.items))
-        result }
-{
-    tell(
-        report,
-        b"usage: andexor synth IN NET VEC, grade NET VEC, check NET VEC, demo NUMBER NET VEC\n",
-        WORDS,
-    )
+    match grade_files(alloc, files, mode, names) {
+        Ok(found) => finish_grade(alloc, report, mode, &found),
+        Err(unmade) => tell_stop(alloc, report, stop_of(unmade)),
+    }
 }
 
 /// Does what a command asks for.
@@ -178,21 +71,17 @@ fn obey<F: Files, K: Sink>(
     advisors: &mut Vec<Box<dyn Advisor>>,
 ) -> u8
     requires { IsFit (command_of command.now) }
-    ensures headline { result ≡ DONE → HasHeadline (command_of command.now) (F.held files.old) (F.held files.new) }
-    ensures ends { Ends (command_of command.now)
-        (outside F.held F.read_faults F.write_faults K.taken K.faults files.old report.old
-        (map (λ b. advised (left b) (log b)) advisors.old.items))
-        (outside F.held F.read_faults F.write_faults K.taken K.faults files.new report.new
-        (map (λ b. advised (left b) (log b)) advisors.new.items))
+    ensures { Closes (command_of command.now)
+        (outside (world_of F.held F.read_faults F.write_faults files.old (map (λ b. advised (left b) (log b)) advisors.old.items)) (K.taken report.old) (K.faults report.old))
+        (outside (world_of F.held F.read_faults F.write_faults files.new (map (λ b. advised (left b) (log b)) advisors.new.items)) (K.taken report.new) (K.faults report.new))
         result }
 {
     match command {
-        Command::Refused => refuse_words(files, report, advisors),
+        Command::Refused => refuse(alloc, report, Refusal::Words),
         Command::Synth { settings, names } => {
             synth_command(alloc, files, report, settings, names, advisors)
         }
-        Command::Grade { names } => grade_command(alloc, files, report, names, advisors),
-        Command::Check { names } => check_command(alloc, files, report, names, advisors),
+        Command::Grade { mode, names } => grade_command(alloc, files, report, *mode, names),
     }
 }
 
@@ -213,12 +102,13 @@ pub fn run<F: Files, K: Sink>(
     ensures headline { result ≡ DONE → HasHeadline (asked words.now) (F.held files.old) (F.held files.new) }
     // What stands after each status, and when it comes.
     ensures ends { Ends (asked words.now)
-        (outside F.held F.read_faults F.write_faults K.taken K.faults files.old report.old
-        (map (λ b. advised (left b) (log b)) advisors.old.items))
-        (outside F.held F.read_faults F.write_faults K.taken K.faults files.new report.new
-        (map (λ b. advised (left b) (log b)) advisors.new.items))
+        (outside (world_of F.held F.read_faults F.write_faults files.old (map (λ b. advised (left b) (log b)) advisors.old.items)) (K.taken report.old) (K.faults report.old))
+        (outside (world_of F.held F.read_faults F.write_faults files.new (map (λ b. advised (left b) (log b)) advisors.new.items)) (K.taken report.new) (K.faults report.new))
         result }
 {
+    file_laws();
+    one_answer_law();
+    grade_law();
     match read_command(alloc, words) {
         Ok(command) => obey(alloc, &command, files, report, advisors),
         Err(Memory) => want_memory(report),

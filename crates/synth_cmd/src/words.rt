@@ -5,16 +5,17 @@ ghost use Rattle.ae_base.specs.Mask.{where_below};
 ghost use Rattle.ae_base.specs.declared.limits.TheConstants.{SOURCE_LINES};
 ghost use Rattle.synth_core.specs.declared.settings.Choice.TheVariants.{Positive as positive};
 ghost use Rattle.synth_core.specs.declared.settings.SourceKind.TheVariants.{Pla as pla};
-ghost use Rattle.vec_text.specs.declared.file.Form.TheVariants.{Reddy as reddy};
+ghost use Rattle.ae_base.specs.Form.{form_of};
+ghost use Rattle.ae_base.specs.declared.form.Form.TheVariants.{Reddy as reddy};
 ghost use Rattle.synth_cmd.specs.Asked as spec;
 ghost use Rattle.synth_cmd.specs.Asked.{asked};
 ghost use Rattle.synth_cmd.specs.Words.{IsFit, command_of, said_of, source_of};
 
 use crate::command_line::{Said, parse, said_by};
-use ae_base::{Mask, Memory, Polarity, SOURCE_LINES};
+use ae_base::{Form, Mask, Memory, Polarity, SOURCE_LINES};
+use grading::Mode;
 use std::alloc::Global;
 use synth_core::{Choice, Settings, SourceKind};
-use vec_text::Form;
 
 /// The most digits of the number of a demo.
 const NUMBER_DIGITS: usize = 10;
@@ -52,9 +53,7 @@ pub enum Command<'a> {
         names: FileNames<'a>,
     },
     Grade {
-        names: PairNames<'a>,
-    },
-    Check {
+        mode: Mode,
         names: PairNames<'a>,
     },
 }
@@ -66,17 +65,6 @@ fn kind_of(word: &str) -> Option<SourceKind>
     match word {
         "pla" => Some(SourceKind::Pla),
         "blif" => Some(SourceKind::Blif),
-        _ => None,
-    }
-}
-
-/// The form that a word names.
-fn form_of(word: &str) -> Option<Form>
-    ensures { result ≡ spec.form_of word.now }
-{
-    match word {
-        "reddy" => Some(Form::Reddy),
-        "factored" => Some(Form::Factored),
         _ => None,
     }
 }
@@ -181,10 +169,10 @@ fn kind_in(said: &Said<'_, '_>) -> Option<SourceKind>
 
 /// What `--form` asks for.
 fn form_in(said: &Said<'_, '_>) -> Option<Form>
-    ensures { result ≡ spec.value_or spec.form_of reddy (option_map (λ w. w.now) said.now.form) }
+    ensures { result ≡ spec.value_or form_of reddy (option_map (λ w. w.now) said.now.form) }
 {
     match said.form {
-        Some(word) => form_of(word),
+        Some(word) => Form::of_word(word.as_bytes()),
         None => Some(Form::Reddy),
     }
 }
@@ -277,8 +265,14 @@ fn pair_of<'a>(said: &Said<'_, 'a>, net: &'a str, vectors: &'a str) -> Command<'
     }
     let names = PairNames { net, vectors };
     match said.mode {
-        "grade" => Command::Grade { names },
-        "check" => Command::Check { names },
+        "grade" => Command::Grade {
+            mode: Mode::Grade,
+            names,
+        },
+        "check" => Command::Grade {
+            mode: Mode::Check,
+            names,
+        },
         _ => Command::Refused,
     }
 }

@@ -14,8 +14,8 @@ use Rattle.synth_core.specs.declared.fault.TextFault.{TextFault}
 use Rattle.synth_core.specs.declared.fault.TextFault.TheVariants as text
 use Rattle.synth_core.specs.declared.settings.Settings.{Settings}
 use Rattle.synth_core.specs.declared.settings.SourceKind.TheVariants.{Pla}
-use Rattle.vec_text.specs.declared.file.Form.{Form}
-use Rattle.vec_text.specs.declared.file.Form.TheVariants.{Reddy, Factored}
+use Rattle.ae_base.specs.declared.form.Form.{Form}
+use Rattle.ae_base.specs.declared.form.Form.TheVariants.{Reddy, Factored}
 
 module _ (said : (seed : ℕ) (form : Form) → SaysCover seed form) where
   -- the source that the text says

@@ -25,9 +25,9 @@ use Rattle.esop.specs.Esop.{Cubes, HasValueOf, esop_value}
 use Rattle.expansion.specs.Functions.{AreExpansions}
 use Rattle.expansion.specs.Terms.{Terms, cost}
 use Rattle.fn_store.specs.Davio.{IsExpansion}
-use Rattle.vec_text.specs.declared.file.Form.TheVariants.{Factored}
+use Rattle.ae_base.specs.declared.form.Form.TheVariants.{Factored}
 use Rattle.vec_text.specs.Says.{vec_says}
-use Rattle.vec_text.specs.VectorFile.{VectorFile, IsValidVectorFile, vector_text}
+use Rattle.vec_text.specs.VectorFile.{VectorFile, vector_text}
 use Rattle.synth_core.specs.declared.made.Summary.{Summary}
 use Rattle.synth_core.specs.Headline.{IsWritten}
 use Rattle.synth_core.specs.Made.{AreNumbers, names_of, ShowsAt, IsSynthesised, Texts}
@@ -67,17 +67,15 @@ module _ (s : Source) (e : Terms) (are : AreExpansions s e.polarity e) (cubes : 
   values : (x : Set) → IsPoint (length s.inputs) x → (ys : Set) × Shows n None x ys × AreSpecified s x ys
   values x point = ((net.values x).0, (net.values x).1, λ o within. meets (s.specified o x) (has (net.values x).0 o) (low_is x point o within))
 
-  module _ (file_valid : IsValidVectorFile file) (again : blif_says Written (blif_text n) ≡ Ok n) (said : vec_says (vector_text file) ≡ Ok file)
+  module _ (again : blif_says Written (blif_text n) ≡ Ok n) (said : vec_says (vector_text file) ≡ Ok file)
       (shows : (n : Network) (fault : Option Fault) (x : Set) → IsValid n → Shows n fault x (out n fault x)) where
-    abbrev is_written : IsWritten s (blif_text n) (vector_text file)
+    abbrev is_written : IsWritten (blif_text n) (vector_text file)
     is_written = record {
       net = n;
       reads_back = again;
       valid = net.valid;
-      implements = record { ports = net.names_are.ports; inputs = inl net.names_are.inputs; values = values };
       file = file;
       says = said;
-      file_valid = file_valid;
       inputs = refl;
       outputs = sym net.names_are.ports;
       responses = All-map (λ v. Shows n None v.point v.outs) _ points (λ i d l. shows n None (get_or points i d) net.valid);
@@ -89,27 +87,22 @@ module _ (s : Source) (e : Terms) (are : AreExpansions s e.polarity e) (cubes : 
     pub is_factored : ((names : Names) → IsLead names (lead names)) → (summary : Summary) → AreNumbers s e n file summary
         → IsSynthesised Factored e.polarity s e (record { net_text = blif_text n; vec_text = vector_text file; summary = summary })
     is_factored is_lead summary numbers = record {
-      headline = record { written = is_written; has_form = refl; has_polarity = refl; tested = record { no_control = net.names_are.inputs; complete = subst (IsComplete n) (sym points_are) tests.complete } };
+      headline = record {
+        written = is_written;
+        has_form = refl;
+        is_net = (record { ports = net.names_are.ports; inputs = inl net.names_are.inputs; values = values }, net.names_are.inputs);
+        tested = subst (IsComplete n) (sym points_are) tests.complete;
+      };
+      polarity = refl;
       model = net.names_are.model;
       low = low;
       net_text = refl;
       vec_text = refl;
-      of_form = record {
-        cubes = cubes;
-        rewritten = rewritten.are;
-        settled = rewritten.settled;
-        values = rewritten.values;
-        lines = refl;
-        few = omega (arith, length-lines 0 cubes.outs, rewritten.few);
-        underscores = lead (names_of s);
-        is_lead = is_lead (names_of s);
-        sums = net.form.sums;
-        are_sums = net.form.are_sums;
-        factored = net.form.is;
-        few_exors = omega (arith, length-lines 0 cubes.outs, net.few_exors);
-        points = points_are ∙ tests.points_are;
-        undetectable = tests.undetectable;
-      };
+      of_form = (
+        record { cubes = cubes; rewritten = rewritten.are; settled = rewritten.settled; values = rewritten.values; lines = refl; few = omega (arith, length-lines 0 cubes.outs, rewritten.few) },
+        record { underscores = lead (names_of s); is_lead = is_lead (names_of s); sums = net.form.sums; are_sums = net.form.are_sums; factored = net.form.is; few_exors = net.few_exors },
+        record { points = points_are ∙ tests.points_are; undetectable = tests.undetectable },
+      );
       numbers = numbers;
     }
 

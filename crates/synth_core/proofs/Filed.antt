@@ -1,7 +1,7 @@
 -- The vector file of the network of names and expansions keeps the rules of a vector file.
 use Rattle.std.proofs.Common.{◌≡◌, ◌≤◌, ◌+◌, ◌-◌, ℕ, suc, Bool, true, List, [], ◌∷◌, ◌++◌, length, map, get_or, refl, sym, ap, ◌∙◌, subst, arith}
 use Rattle.std.specs.Prelude.{All, None}
-use Rattle.std.proofs.lemmas.Bool.{and_parts}
+use Rattle.std.proofs.lemmas.Bool.{and_parts, false≢true}
 use Rattle.std.proofs.Math.Seq.{drop-append_seam}
 use Rattle.std.proofs.lemmas.List.{length-append, length-map}
 use Rattle.std.proofs.lemmas.List.Elements.{All-append, All-map, All-drop, All-weaker, recursion_from_All}
@@ -17,10 +17,9 @@ use Rattle.ae_net.specs.Out.{out}
 use Rattle.ae_net.specs.Names.{IsNames, Names}
 use Rattle.esop.specs.Esop.{Cubes}
 use Rattle.expansion.specs.Terms.{Terms}
-use Rattle.cascade.specs.Reddy.{reddy_net}
-use Rattle.cascade.specs.Shows.{CanBuild, HasInputNames, HasPortNames}
+use Rattle.cascade.specs.Shows.{CanBuild, HasInputNames, HasPortNames, reddy_net}
 use Rattle.input_tests.specs.Whole.{cascade_tests}
-use Rattle.vec_text.specs.declared.file.Form.TheVariants.{Reddy}
+use Rattle.ae_base.specs.declared.form.Form.TheVariants.{Reddy}
 use Rattle.vec_text.specs.declared.file.Idle.{Idle}
 use Rattle.vec_text.specs.VectorFile.{VectorFile, IsCubeOf, IsValidVectorFile}
 use Rattle.synth_core.specs.Made.{lines_from}
@@ -106,7 +105,8 @@ module _ (names : Names) (e : Terms) (can : CanBuild names e) where
       distinct = subst (λ names. IsDistinct (net.inputs ++ names)) ports (listed_distinct net valid);
       esop = λ i d l. absurd (omega (arith, l));
       unchanged = λ i d l. absurd (omega (arith, l));
-      reddy = λ is. (refl, refl);
+      no_cubes = λ is. refl;
+      none_listed = λ is. refl;
       points = All-map (λ v. IsPoint (length net.inputs) v.point) _ points (subst (λ m. All (IsPoint m) points) control_is are_points);
       responses = All-map (λ v. IsPoint (length names.outputs) v.outs) _ points (λ i d l. subst (λ m. IsPoint m (out net None (get_or points i d))) length-outputs (out_point net (get_or points i d)));
     }
@@ -138,5 +138,6 @@ is_valid_factored names p cubes n points unchanged signs same is tests =
       points = All-map (λ v. IsPoint (length n.inputs) v.point) _ points tests.over;
       responses = All-map (λ v. IsPoint (length names.outputs) v.outs) _ points (λ i d l. subst (λ m. IsPoint m (out n None (get_or points i d))) outputs (out_point n (get_or points i d)));
       unchanged = tests.valid;
-      reddy = λ form. absurd (cc form);
+      no_cubes = λ is. absurd (false≢true (sym is));
+      none_listed = λ is. absurd (false≢true (sym is));
     }

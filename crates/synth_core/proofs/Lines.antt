@@ -11,7 +11,8 @@ use Rattle.std.proofs.lemmas.List.{append_assoc, append-nil, length-append, leng
 use Rattle.std.proofs.lemmas.List.Elements.{All-append, All-map, recursion_from_All}
 use Rattle.ae_base.specs.Cube.{Product, Signs, IsOver}
 use Rattle.ae_base.specs.Mask.{Set}
-use Rattle.esop.specs.Esop.{Cubes, HasSameValue, HasValueOf, esop_of}
+use Rattle.esop.specs.Esop.{Cubes, HasValueOf, esop_of}
+use Rattle.esop.specs.Kept.{HasSameValue}
 use Rattle.esop.specs.Rewriting.{rewritten_lists}
 use Rattle.esop.specs.Settled.{AreSettled}
 use Rattle.expansion.specs.Terms.{Terms}

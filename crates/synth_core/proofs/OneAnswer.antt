@@ -1,6 +1,6 @@
 -- What is made of the bytes of a source is one: the same texts, and the same numbers.
 use Rattle.std.proofs.Common.{◌≡◌, arith, ℕ, Bool, List, [], ◌∷◌, length, map, refl, sym, ap, ap₂, ◌∙◌, subst}
-use Rattle.std.specs.Prelude.{None, Option}
+use Rattle.std.specs.Prelude.{None, Ok, Option}
 use Rattle.std.proofs.lemmas.List.Elements.{recursion_from_All}
 use Rattle.std.specs.List.{AllByRecursion}
 use Rattle.ae_base.specs.Mask.{Set}
@@ -27,8 +27,7 @@ use Rattle.synth_core.specs.Asked.{terms_limit}
 use Rattle.synth_core.specs.Searched.{IsPolarity}
 use Rattle.redundancy.specs.Evidence.{IsEvidenceTree, Tree, leaf_count, written}
 use Rattle.std.specs.List.{AllZip}
-use Rattle.synth_core.specs.Headline.{IsTested}
-use Rattle.pairs.specs.Listed.{AreUndetectable, IsLineOf, IsShown, step_of}
+use Rattle.named_faults.specs.Lines.{AreUndetectable, IsLineOf, IsShown}
 use Rattle.test_gen.specs.Selection.{IsSelection}
 use Rattle.test_gen.specs.Selection.IsSelection.{none, taken, left}
 use Rattle.test_gen.specs.Tests.{tests_of}
@@ -42,11 +41,13 @@ use Rattle.synth_core.specs.declared.settings.Choice.{Choice}
 use Rattle.synth_core.specs.declared.settings.Choice.TheVariants.{Positive, Search, Given}
 use Rattle.synth_core.specs.declared.settings.Settings.{Settings}
 use Rattle.synth_core.proofs.Limits.{one_source, one_terms, same}
-use Rattle.vec_text.specs.declared.file.Form.{Form}
+use Rattle.ae_base.specs.Form.{features_of}
+use Rattle.ae_base.specs.declared.form.Form.{Form}
 use Rattle.vec_text.specs.declared.file.EsopLine.{EsopLine}
-use Rattle.vec_text.specs.declared.file.Form.TheVariants.{Reddy, Factored}
+use Rattle.ae_base.specs.declared.form.Form.TheVariants.{Reddy, Factored}
 use Rattle.vec_text.specs.declared.file.Idle.{Idle}
 use Rattle.vec_text.specs.declared.file.Vector.{Vector}
+use Rattle.vec_text.specs.Says.{vec_says}
 use Rattle.vec_text.specs.VectorFile.{VectorFile, IsValidVectorFile, vector_text}
 
 same_head : {X : Type 0} {x : X} {ys zs : List X} → ys ≡ zs → x ∷ ys ≡ x ∷ zs
@@ -75,7 +76,7 @@ same_summary f g i j o q p r t t' c c' n n' l l' v v' u u' a b d e h k m s x y =
 
 -- the cubes and the faults of a file in Reddy form
 reddy_lists : (file : VectorFile) → IsValidVectorFile file → file.form ≡ Reddy → (file.esop ≡ []) × (file.unchanged ≡ [])
-reddy_lists file valid form = valid.reddy form
+reddy_lists file valid form = (valid.no_cubes (ap (λ f. (features_of f).cubes) form), valid.none_listed (ap (λ f. (features_of f).undetectable) form))
 
 module _ (only : (n : Network) (fault : Option Fault) (x ys : Set) → IsValid n → Shows n fault x ys → ys ≡ out n fault x) (lead_only : (names : Names) (k : ℕ) → IsLead names k → k ≡ lead names) where
   -- vectors of the same points with responses of one network are the same
@@ -95,7 +96,7 @@ module _ (only : (n : Network) (fault : Option Fault) (x ys : Set) → IsValid n
   module _ (trees_once : (n : Network) (fault : Fault) (t u : Tree) → IsEvidenceTree n fault t → IsEvidenceTree n fault u → t ≡ u) where
     one_shown : (n : Network) (fault : Fault) (s t : Shown) → IsShown n fault s → IsShown n fault t → s ≡ t
     one_shown n fault (shown.Tree xs) (shown.Tree ys) a b =
-        ap (λ z. shown.Tree z) (a.2 ∙ ap (λ t. map step_of (written t)) (trees_once n fault a.0 b.0 a.1 b.1) ∙ sym b.2)
+        ap (λ z. shown.Tree z) (a.2 ∙ ap written (trees_once n fault a.0 b.0 a.1 b.1) ∙ sym b.2)
     one_shown n fault (shown.Tree xs) shown.Wide a b = absurd (omega (arith, a.3, b.2, ap leaf_count (trees_once n fault a.0 b.0 a.1 b.1)))
     one_shown n fault shown.Wide (shown.Tree ys) a b = absurd (omega (arith, a.2, b.3, ap leaf_count (trees_once n fault a.0 b.0 a.1 b.1)))
     one_shown n fault shown.Wide shown.Wide a b = refl
@@ -118,14 +119,15 @@ module _ (only : (n : Network) (fault : Option Fault) (x ys : Set) → IsValid n
     same_lines n xs ys a b =
         one_lines n b.faults xs ys (subst (λ fs. AllZip (IsLineOf n) fs xs) (selected_once (IsUndetectable n) (fault_list n) a.faults b.faults a.exactly b.exactly) a.listed) b.listed
 
-  module _ (trees_once : (n : Network) (fault : Fault) (t u : Tree) → IsEvidenceTree n fault t → IsEvidenceTree n fault u → t ≡ u)
+  module _ (file_valid : (text : List ℕ) (file : VectorFile) → vec_says text ≡ Ok file → IsValidVectorFile file)
+      (trees_once : (n : Network) (fault : Fault) (t u : Tree) → IsEvidenceTree n fault t → IsEvidenceTree n fault u → t ≡ u)
       (net_once : (names : Names) (e : Cubes) (n m : Network) → HasFactoredForm names e n → HasFactoredForm names e m → n ≡ m) where
     -- the network has factored form, for the one number of underscores
-    form_of : (s : Source) (e : Terms) (n : Network) (f : VectorFile) (is : IsFactored s e n f) → HasFactoredForm (names_of s) is.cubes n
-    form_of s e n f is = record {
+    form_of : (s : Source) (cubes : Cubes) (n : Network) → IsFactored s cubes n → HasFactoredForm (names_of s) cubes n
+    form_of s cubes n is = record {
       sums = is.sums;
       are_sums = is.are_sums;
-      is = is.factored ∙ ap (λ k. network_of k (names_of s) (wires is.cubes) is.sums) (lead_only (names_of s) is.underscores is.is_lead);
+      is = is.factored ∙ ap (λ k. network_of k (names_of s) (wires cubes) is.sums) (lead_only (names_of s) is.underscores is.is_lead);
     }
 
     -- what two networks and files of a form have in common
@@ -135,9 +137,9 @@ module _ (only : (n : Network) (fault : Option Fault) (x ys : Set) → IsValid n
       points : map (λ v. v.point) f.vectors ≡ map (λ v. v.point) g.vectors
       unchanged : f.unchanged ≡ g.unchanged
 
-    agree : (form : Form) (s : Source) (e : Terms) (n m : Network) (f g : VectorFile) → IsValidVectorFile f → IsValidVectorFile g → f.form ≡ form → g.form ≡ form → IsTested form s n f → IsTested form s m g
+    agree : (form : Form) (s : Source) (e : Terms) (n m : Network) (f g : VectorFile) → IsValidVectorFile f → IsValidVectorFile g → f.form ≡ form → g.form ≡ form
         → IsOfForm form s e n f → IsOfForm form s e m g → Agrees n m f g
-    agree Reddy s e n m f g fv gv ff gf ft gt a b =
+    agree Reddy s e n m f g fv gv ff gf a b =
         let same : a.underscores ≡ b.underscores = lead_only (names_of s) a.underscores a.is_lead ∙ sym (lead_only (names_of s) b.underscores b.is_lead) in
         let fs = reddy_lists f fv ff in
         let gs = reddy_lists g gv gf in
@@ -147,14 +149,14 @@ module _ (only : (n : Network) (fault : Option Fault) (x ys : Set) → IsValid n
           points = a.points ∙ sym b.points;
           unchanged = fs.1 ∙ sym gs.1;
         }
-    agree Factored s e n m f g fv gv ff gf ft gt a b =
-        let cubes : a.cubes ≡ b.cubes = a.rewritten ∙ sym b.rewritten in
-        let nets : n ≡ m = net_once (names_of s) b.cubes n m (subst (λ c. HasFactoredForm (names_of s) c n) cubes (form_of s e n f a)) (form_of s e m g b) in
+    agree Factored s e n m f g fv gv ff gf a b =
+        let cubes : a.0.cubes ≡ b.0.cubes = a.0.rewritten ∙ sym b.0.rewritten in
+        let nets : n ≡ m = net_once (names_of s) b.0.cubes n m (subst (λ c. HasFactoredForm (names_of s) c n) cubes (form_of s a.0.cubes n a.1)) (form_of s b.0.cubes m b.1) in
         record {
           nets = nets;
-          esop = a.lines ∙ ap (λ c. lines_from 0 c.outs) cubes ∙ sym b.lines;
-          points = a.points ∙ ap (λ k. tests_of k e.polarity) nets ∙ sym b.points;
-          unchanged = same_lines trees_once m f.unchanged g.unchanged (subst (λ k. AreUndetectable k f.unchanged) nets a.undetectable) b.undetectable;
+          esop = a.0.lines ∙ ap (λ c. lines_from 0 c.outs) cubes ∙ sym b.0.lines;
+          points = a.2.points ∙ ap (λ k. tests_of k e.polarity) nets ∙ sym b.2.points;
+          unchanged = same_lines trees_once m f.unchanged g.unchanged (subst (λ k. AreUndetectable k f.unchanged) nets a.2.undetectable) b.2.undetectable;
         }
 
     module _ (form : Form) (s : Source) (p : Signs) (e : Terms) (ta tb : Texts) (a : IsSynthesised form p s e ta) (b : IsSynthesised form p s e tb) where
@@ -166,8 +168,8 @@ module _ (only : (n : Network) (fault : Option Fault) (x ys : Set) → IsValid n
 
       both : Agrees a.headline.written.net b.headline.written.net fa fb
       both =
-          agree form s e a.headline.written.net b.headline.written.net fa fb a.headline.written.file_valid b.headline.written.file_valid a.headline.has_form b.headline.has_form
-          a.headline.tested b.headline.tested a.of_form b.of_form
+          agree form s e a.headline.written.net b.headline.written.net fa fb (file_valid ta.vec_text fa a.headline.written.says) (file_valid tb.vec_text fb b.headline.written.says)
+          a.headline.has_form b.headline.has_form a.of_form b.of_form
 
       vectors : fa.vectors ≡ fb.vectors
       vectors =
@@ -181,7 +183,7 @@ module _ (only : (n : Network) (fault : Option Fault) (x ys : Set) → IsValid n
           (a.headline.has_form ∙ sym b.headline.has_form)
           (a.headline.written.inputs ∙ ap (λ n. n.inputs) both.nets ∙ sym b.headline.written.inputs)
           (a.headline.written.outputs ∙ ap port_names both.nets ∙ sym b.headline.written.outputs)
-          (a.headline.has_polarity ∙ sym b.headline.has_polarity) both.esop vectors both.unchanged
+          (a.polarity ∙ sym b.polarity) both.esop vectors both.unchanged
 
       one_net : ta.net_text ≡ tb.net_text
       one_net = a.net_text ∙ ap blif_text both.nets ∙ sym b.net_text

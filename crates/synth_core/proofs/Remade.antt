@@ -3,7 +3,8 @@ use Rattle.std.proofs.Common.{◌≡◌, ℕ, List, Some, length, sym, ◌∙◌
 use Rattle.std.specs.Prelude.{slice_get}
 use Rattle.ae_base.specs.Cube.{Signs}
 use Rattle.ae_base.specs.Source.{Source, on_set}
-use Rattle.expansion.specs.Functions.{AreExpansions, KeepsFunctions}
+use Rattle.expansion.specs.Functions.{AreExpansions}
+use Rattle.expansion.specs.Kept.{KeepsFunctions}
 use Rattle.expansion.specs.Stores.{expanded}
 use Rattle.expansion.specs.Terms.{Terms}
 use Rattle.fn_store.specs.declared.store.FnRef.{FnRef}

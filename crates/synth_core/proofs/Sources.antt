@@ -24,9 +24,11 @@ use Rattle.fn_store.specs.Functions.{Functions, IsLive, Shows, AgreeAt}
 use Rattle.net_fn.specs.Refs.{ShowEach}
 use Rattle.fn_store.specs.declared.store.FnRef.{FnRef}
 use Rattle.expansion.specs.Stores.{expanded}
-use Rattle.expansion.specs.Functions.{AreExpansions, KeepsFunctions}
+use Rattle.expansion.specs.Functions.{AreExpansions}
+use Rattle.expansion.specs.Kept.{KeepsFunctions}
 use Rattle.expansion.specs.Terms.{Terms, cost, PassesAt}
-use Rattle.polarity.specs.Search.{Advised, OfEachSource}
+use Rattle.polarity.specs.Search.{Advised}
+use Rattle.polarity.specs.Makers.{OfEachSource}
 use Rattle.cascade.specs.Shows.{Fits}
 use Rattle.expansion.specs.declared.functions.ExpandErr.{ExpandErr}
 use Rattle.expansion.specs.declared.functions.ExpandErr.TheVariants as expand_err
@@ -40,7 +42,7 @@ use Rattle.synth_core.specs.Made.{IsSynthesised, Texts, names_of}
 use Rattle.synth_core.specs.Sourced.{Parts, IsSourced, IsWhole}
 use Rattle.synth_core.specs.Steps.{ComesOf, HasFewTerms, IsMadeOf, OnlyAsked, OnlySearched, TooMany}
 use Rattle.synth_core.specs.declared.settings.Choice.{Choice}
-use Rattle.vec_text.specs.declared.file.Form.{Form}
+use Rattle.ae_base.specs.declared.form.Form.{Form}
 use Rattle.synth_core.proofs.Shown.{listed_distinct, all_listed}
 
 -- ---- which outputs are On

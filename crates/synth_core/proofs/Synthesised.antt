@@ -23,13 +23,12 @@ use Rattle.expansion.specs.Even.{AreEven, even_inputs}
 use Rattle.expansion.specs.Functions.{AreExpansions}
 use Rattle.expansion.specs.Terms.{Terms}
 use Rattle.fn_store.specs.Davio.{IsExpansion}
-use Rattle.cascade.specs.Reddy.{reddy_net}
-use Rattle.cascade.specs.Shows.{ShowsFunctions, ShowsComplements, HasInputNames, HasPortNames}
+use Rattle.cascade.specs.Shows.{ShowsFunctions, ShowsComplements, HasInputNames, HasPortNames, reddy_net}
 use Rattle.input_tests.specs.Complete.{DetectsAll}
 use Rattle.input_tests.specs.Whole.{cascade_tests, vector_bound}
-use Rattle.vec_text.specs.declared.file.Form.TheVariants.{Reddy}
+use Rattle.ae_base.specs.declared.form.Form.TheVariants.{Reddy}
 use Rattle.vec_text.specs.Says.{vec_says}
-use Rattle.vec_text.specs.VectorFile.{VectorFile, IsValidVectorFile, vector_text}
+use Rattle.vec_text.specs.VectorFile.{VectorFile, vector_text}
 use Rattle.synth_core.specs.declared.made.Summary.{Summary}
 use Rattle.synth_core.specs.Headline.{IsWritten, IsReddyTested}
 use Rattle.synth_core.specs.Made.{AreNumbers, names_of, ShowsAt, IsSynthesised, Texts}
@@ -95,16 +94,14 @@ module _ (s : Source) (e : Terms) (are : AreExpansions s e.polarity e) where
     values : (x : Set) → IsPoint k x → (ys : Set) × Shows net None x ys × AreSpecified s x ys
     values x point = (out net None x, shows net None x valid, λ o within. meets (s.specified o x) (has (out net None x) o) (low_is x point o within))
 
-    module _ (file_valid : IsValidVectorFile file) (again : blif_says Written (blif_text net) ≡ Ok net) (said : vec_says (vector_text file) ≡ Ok file) where
-      abbrev is_written : IsWritten s (blif_text net) (vector_text file)
+    module _ (again : blif_says Written (blif_text net) ≡ Ok net) (said : vec_says (vector_text file) ≡ Ok file) where
+      abbrev is_written : IsWritten (blif_text net) (vector_text file)
       is_written = record {
         net = net;
         reads_back = again;
         valid = valid;
-        implements = record { ports = ports; inputs = inr inputs; values = values };
         file = file;
         says = said;
-        file_valid = file_valid;
         inputs = refl;
         outputs = sym ports;
         responses = All-map (λ v. Shows net None v.point v.outs) _ points (λ i d l. shows net None (get_or points i d) valid);
@@ -123,7 +120,8 @@ module _ (s : Source) (e : Terms) (are : AreExpansions s e.polarity e) where
             → IsSynthesised Reddy e.polarity s e (record { net_text = blif_text net; vec_text = vector_text file; summary = summary })
         unfolding reddy_net
         is_synthesised is_lead summary numbers = record {
-          headline = record { written = is_written; has_form = refl; has_polarity = refl; tested = is_tested };
+          headline = record { written = is_written; has_form = refl; is_net = record { ports = ports; inputs = inr inputs; values = values }; tested = is_tested };
+          polarity = refl;
           model = refl;
           low = low;
           net_text = refl;

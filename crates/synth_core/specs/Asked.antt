@@ -3,16 +3,14 @@ use Rattle.std.specs.Prelude.{◌≡◌, ◌≢◌, ℕ, ◌≤◌, Ok, List, le
 use Rattle.ae_base.specs.Mask.{first}
 use Rattle.ae_base.specs.Cube.{Signs}
 use Rattle.ae_base.specs.Source.{Source}
-use Rattle.cascade.specs.declared.limits.TheConstants.{REDDY_TERMS}
-use Rattle.factor.specs.declared.limits.TheConstants.{FACTORED_CUBES}
+use Rattle.ae_base.specs.Form.{features_of}
 use Rattle.expansion.specs.Functions.{AreExpansions}
 use Rattle.expansion.specs.Terms.{Terms, cost, PassesAt}
 use Rattle.synth_core.specs.Says.{source_says}
 use Rattle.synth_core.specs.declared.settings.Choice.{Choice}
 use Rattle.synth_core.specs.declared.settings.Choice.TheVariants.{Positive, Search, Given}
 use Rattle.synth_core.specs.declared.settings.Settings.{Settings}
-use Rattle.vec_text.specs.declared.file.Form.{Form}
-use Rattle.vec_text.specs.declared.file.Form.TheVariants.{Reddy, Factored}
+use Rattle.ae_base.specs.declared.form.Form.{Form}
 
 -- each of n inputs has its plain literal
 abbrev pub all_plain : ℕ → Signs
@@ -26,8 +24,7 @@ polarity_of (Given p) n = p
 
 -- the greatest number of terms of all outputs
 abbrev pub terms_limit : Form → ℕ
-terms_limit Reddy = REDDY_TERMS
-terms_limit Factored = FACTORED_CUBES
+terms_limit form = (features_of form).most_terms
 
 -- The bytes say this source, and these are the expansions of its outputs at the polarity at which terms are counted.
 pub record IsExpanded (settings : Settings) (bytes : List ℕ) (s : Source) (e : Terms) : Type 0 where

@@ -4,8 +4,9 @@ use Rattle.blif_read.specs.declared.fault.BlifErr.{BlifErr}
 use Rattle.blif_read.specs.declared.fault.BlifErr.TheVariants as blif_err
 use Rattle.expansion.specs.declared.functions.ExpandErr.{ExpandErr}
 use Rattle.expansion.specs.declared.functions.ExpandErr.TheVariants as expand_err
-use Rattle.pla_read.specs.declared.fault.PlaErr.{PlaErr}
-use Rattle.pla_read.specs.declared.fault.PlaErr.TheVariants as pla_err
+use Rattle.ae_lex.specs.declared.errors.TextErr.{TextErr}
+use Rattle.ae_lex.specs.declared.errors.TextErr.TheVariants as text_err
+use Rattle.pla_read.specs.declared.fault.PlaFault.{PlaFault}
 use Rattle.synth_core.specs.declared.error.SynthErr.{SynthErr}
 use Rattle.synth_core.specs.declared.error.SynthErr.TheVariants as err
 use Rattle.synth_core.specs.declared.fault.TextFault.{TextFault}
@@ -17,9 +18,9 @@ of_text line (text.Pla what) = err.Pla line what
 of_text line (text.Blif what) = err.Blif line what
 
 -- a PLA text that is refused
-abbrev pub of_pla : PlaErr → SynthErr
-of_pla (pla_err.At line what) = err.Pla line what
-of_pla pla_err.Memory = err.Memory
+abbrev pub of_pla : TextErr PlaFault → SynthErr
+of_pla (text_err.At line what) = err.Pla line what
+of_pla text_err.Memory = err.Memory
 
 -- a BLIF text that is refused
 abbrev pub of_blif : BlifErr → SynthErr

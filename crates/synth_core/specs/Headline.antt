@@ -1,6 +1,5 @@
 -- The headline: what is promised of a source's network and of its vectors.
 use Rattle.std.specs.Prelude.{◌≡◌, ℕ, ◌≤◌, None, Ok, List, length, map, All}
-use Rattle.ae_base.specs.Cube.{Signs}
 use Rattle.ae_base.specs.Mask.{Set}
 use Rattle.ae_base.specs.Source.{Source}
 use Rattle.ae_net.specs.Detects.{DetectsEveryFault}
@@ -13,25 +12,22 @@ use Rattle.blif_read.specs.Says.{blif_says}
 use Rattle.expansion.specs.Even.{AreEven}
 use Rattle.input_tests.specs.Whole.{vector_bound}
 use Rattle.test_gen.specs.Undetectable.{IsComplete}
-use Rattle.vec_text.specs.declared.file.Form.{Form}
-use Rattle.vec_text.specs.declared.file.Form.TheVariants.{Reddy, Factored}
+use Rattle.ae_base.specs.declared.form.Form.{Form}
+use Rattle.ae_base.specs.declared.form.Form.TheVariants.{Reddy, Factored}
 use Rattle.vec_text.specs.Says.{vec_says}
-use Rattle.vec_text.specs.VectorFile.{VectorFile, IsValidVectorFile}
+use Rattle.vec_text.specs.VectorFile.{VectorFile}
 
--- ---- in both forms
+-- ---- in every form
 
--- Of a source, the bytes of its network as BLIF and the bytes of the network's vectors.
-pub record IsWritten (s : Source) (net_bytes vec_bytes : List ℕ) : Type 0 where
-  -- The written BLIF reads back as a network,
+-- The bytes of a network as BLIF and the bytes of its vectors.
+pub record IsWritten (net_bytes vec_bytes : List ℕ) : Type 0 where
+  -- The written BLIF reads back as a network.
   pub net : Network
   pub reads_back : blif_says Written net_bytes ≡ Ok net
   pub valid : IsValid net
-  -- which with the control low gives every output value that the source specifies.
-  pub implements : Implements net s
   -- The other bytes say a vector file with the names of the network,
   pub file : VectorFile
   pub says : vec_says vec_bytes ≡ Ok file
-  pub file_valid : IsValidVectorFile file
   pub inputs : file.inputs ≡ net.inputs
   pub outputs : file.outputs ≡ port_names net
   -- each of whose responses is that network's.
@@ -47,21 +43,22 @@ pub record IsReddyTested (s : Source) (net : Network) (file : VectorFile) : Type
   pub few : length file.vectors ≤ vector_bound (length s.inputs) evens
   pub detected : DetectsEveryFault net (map (λ v. v.point) file.vectors)
 
--- In factored form the network has no control, and each stuck-at fault that no vector detects changes no output at any point.
-pub record IsFactoredTested (s : Source) (net : Network) (file : VectorFile) : Type 0 where
-  pub no_control : net.inputs ≡ s.inputs
-  pub complete : IsComplete net (map (λ v. v.point) file.vectors)
+-- What a form promises of its network: with the control low it gives every output value that the source specifies. In factored form it
+-- has no control.
+abbrev pub IsNetOf : Form → Source → Network → Type 0
+IsNetOf Reddy s net = Implements net s
+IsNetOf Factored s net = Implements net s × (net.inputs ≡ s.inputs)
 
--- what a form promises of its vectors
+-- what a form promises of its vectors; in factored form each stuck-at fault that no vector detects changes no output at any point
 abbrev pub IsTested : Form → Source → Network → VectorFile → Type 0
 IsTested Reddy s net file = IsReddyTested s net file
-IsTested Factored s net file = IsFactoredTested s net file
+IsTested Factored s net file = IsComplete net (map (λ v. v.point) file.vectors)
 
 -- ---- the headline
 
--- The texts of a source's network and of its vectors, in a form and at a polarity.
-pub record Headline (form : Form) (p : Signs) (s : Source) (net_bytes vec_bytes : List ℕ) : Type 0 where
-  pub written : IsWritten s net_bytes vec_bytes
+-- The texts of a source's network and of its vectors, in a form.
+pub record Headline (form : Form) (s : Source) (net_bytes vec_bytes : List ℕ) : Type 0 where
+  pub written : IsWritten net_bytes vec_bytes
   pub has_form : written.file.form ≡ form
-  pub has_polarity : written.file.polarity ≡ p
+  pub is_net : IsNetOf form s written.net
   pub tested : IsTested form s written.net written.file

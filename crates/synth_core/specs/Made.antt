@@ -17,21 +17,21 @@ use Rattle.esop.specs.Settled.{AreSettled}
 use Rattle.expansion.specs.Functions.{AreExpansions}
 use Rattle.expansion.specs.Terms.{Terms, cost}
 use Rattle.factor.specs.Factored.{AreSums, network_of, wires}
-use Rattle.factor.specs.Shows.{exor_count}
+use Rattle.factor.specs.Shows.{cube_count, exor_count}
 use Rattle.factor.specs.Sums.{Summands}
 use Rattle.input_tests.specs.Whole.{cascade_tests}
 use Rattle.polarity.specs.Search.{Advised}
 use Rattle.synth_core.specs.Asked.{IsWithin, terms_limit}
 use Rattle.synth_core.specs.Headline.{Headline}
-use Rattle.pairs.specs.Listed.{AreUndetectable}
+use Rattle.named_faults.specs.Lines.{AreUndetectable}
 use Rattle.synth_core.specs.Searched.{IsPolarity}
 use Rattle.synth_core.specs.declared.made.Made.{Made}
 use Rattle.synth_core.specs.declared.made.Summary.{Summary}
 use Rattle.synth_core.specs.declared.settings.Settings.{Settings}
-use Rattle.vec_text.specs.declared.file.Form.{Form}
+use Rattle.ae_base.specs.declared.form.Form.{Form}
 use Rattle.test_gen.specs.Tests.{tests_of}
 use Rattle.vec_text.specs.declared.file.EsopLine.{EsopLine}
-use Rattle.vec_text.specs.declared.file.Form.TheVariants.{Reddy, Factored}
+use Rattle.ae_base.specs.declared.form.Form.TheVariants.{Reddy, Factored}
 use Rattle.vec_text.specs.VectorFile.{VectorFile, vector_text}
 
 -- the texts of a network and of its vectors, and their numbers
@@ -67,33 +67,38 @@ abbrev pub lines_from : ℕ → List (List Product) → List EsopLine
 lines_from o [] = []
 lines_from o (cs ∷ css) = map (λ c. record { output = o; cube = c }) cs ++ lines_from (suc o) css
 
--- In factored form each output has the expansion's terms as cubes, rewritten until they are settled: no more cubes than terms, of the same
--- value at each point. The network is the factored one of these cubes, with no more EXOR gates than cubes. The vectors are the tests of
--- the network, and the other faults are listed.
-pub record IsFactored (s : Source) (e : Terms) (n : Network) (file : VectorFile) : Type 0 where
+-- The file lists cubes: each output has the expansion's terms, rewritten until they are settled. There are no more cubes than terms, and
+-- they have the same value at each point.
+pub record ListsCubes (e : Terms) (file : VectorFile) : Type 0 where
   pub cubes : Cubes
   pub rewritten : cubes ≡ rewritten_lists (esop_of e)
   pub settled : AreSettled cubes
   pub values : AllZip (HasValueOf e.polarity) e.outs cubes.outs
   pub lines : file.esop ≡ lines_from 0 cubes.outs
   pub few : length file.esop ≤ cost e
+
+-- The network is the factored one of these cubes, with no more EXOR gates than cubes.
+pub record IsFactored (s : Source) (cubes : Cubes) (n : Network) : Type 0 where
   pub underscores : ℕ
   pub is_lead : IsLead (names_of s) underscores
   pub sums : List Summands
   pub are_sums : AreSums cubes.outs sums
   pub factored : n ≡ network_of underscores (names_of s) (wires cubes) sums
-  pub few_exors : exor_count n ≤ length file.esop
-  pub points : map (λ v. v.point) file.vectors ≡ tests_of n e.polarity
+  pub few_exors : exor_count n ≤ cube_count cubes
+
+-- The vectors are the tests of the network at a polarity, and the other faults are listed.
+pub record ListsTests (n : Network) (p : Signs) (file : VectorFile) : Type 0 where
+  pub points : map (λ v. v.point) file.vectors ≡ tests_of n p
   pub undetectable : AreUndetectable n file.unchanged
 
 -- what is particular to a form
 abbrev pub IsOfForm : Form → Source → Terms → Network → VectorFile → Type 0
 IsOfForm Reddy s e n file = IsReddy s e n file
-IsOfForm Factored s e n file = IsFactored s e n file
+IsOfForm Factored s e n file = (lists : ListsCubes e file) × IsFactored s lists.cubes n × ListsTests n e.polarity file
 
--- ---- in both forms
+-- ---- in every form
 
--- the numbers of a synthesis in both forms
+-- the numbers of a synthesis
 pub record AreNumbers (s : Source) (e : Terms) (n : Network) (file : VectorFile) (summary : Summary) : Type 0 where
   pub form : summary.form ≡ file.form
   pub inputs : summary.inputs ≡ length s.inputs
@@ -109,7 +114,8 @@ pub record AreNumbers (s : Source) (e : Terms) (n : Network) (file : VectorFile)
 -- The texts of a source's network and of the network's vectors, of a form, over these expansions at a polarity. The network has the
 -- source's model. With the control at 0, where there is one, each output is 1 exactly where the source specifies On.
 pub record IsSynthesised (form : Form) (p : Signs) (s : Source) (e : Terms) (texts : Texts) : Type 0 where
-  pub headline : Headline form p s texts.net_text texts.vec_text
+  pub headline : Headline form s texts.net_text texts.vec_text
+  pub polarity : headline.written.file.polarity ≡ p
   pub model : headline.written.net.model ≡ s.model
   pub low : (x : Set) → IsPoint (length s.inputs) x → ShowsAt headline.written.net x (length s.outputs) (λ o. on_set s o x)
   pub net_text : texts.net_text ≡ blif_text headline.written.net

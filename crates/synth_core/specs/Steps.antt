@@ -8,10 +8,10 @@ use Rattle.ae_base.specs.Terms.{IsPoint}
 use Rattle.ae_net.specs.Names.{IsNames, Names}
 use Rattle.ae_net.specs.Network.{Network}
 use Rattle.ae_net.specs.Out.{out}
-use Rattle.cascade.specs.Reddy.{reddy_net}
-use Rattle.cascade.specs.Shows.{CanBuild}
+use Rattle.cascade.specs.Shows.{CanBuild, reddy_net}
 use Rattle.ae_net.specs.Valid.{IsValid}
-use Rattle.esop.specs.Esop.{Cubes, HasValueOf, IsCubes, esop_of}
+use Rattle.esop.specs.Esop.{Cubes, HasValueOf, esop_of}
+use Rattle.esop.specs.Kept.{IsCubes}
 use Rattle.esop.specs.Rewriting.{rewritten_lists}
 use Rattle.esop.specs.Settled.{AreSettled}
 use Rattle.factor.specs.Factored.{HasFactoredForm}
@@ -25,7 +25,7 @@ use Rattle.synth_core.specs.declared.made.Summary.{Summary}
 use Rattle.synth_core.specs.declared.settings.Settings.{Settings}
 use Rattle.synth_core.specs.declared.settings.Choice.{Choice}
 use Rattle.synth_core.specs.declared.settings.Choice.TheVariants.{Positive, Search, Given}
-use Rattle.pairs.specs.Listed.{AreUndetectable}
+use Rattle.named_faults.specs.Lines.{AreUndetectable}
 use Rattle.synth_core.specs.Made.{IsSynthesised, Texts, lines_from}
 use Rattle.synth_core.specs.Searched.{IsSearched}
 use Rattle.synth_core.specs.Sourced.{IsSourced, Parts}
@@ -33,8 +33,8 @@ use Rattle.test_gen.specs.Tests.{tests_of}
 use Rattle.test_gen.specs.Undetectable.{IsComplete}
 use Rattle.vec_text.specs.declared.file.EsopLine.{EsopLine}
 use Rattle.vec_text.specs.declared.file.Idle.{Idle}
-use Rattle.vec_text.specs.declared.file.Form.{Form}
-use Rattle.vec_text.specs.declared.file.Form.TheVariants.{Reddy, Factored}
+use Rattle.ae_base.specs.declared.form.Form.{Form}
+use Rattle.ae_base.specs.declared.form.Form.TheVariants.{Reddy, Factored}
 use Rattle.vec_text.specs.declared.file.Vector.{Vector}
 use Rattle.vec_text.specs.VectorFile.{VectorFile, IsIdle}
 

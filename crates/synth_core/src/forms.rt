@@ -2,38 +2,34 @@
 ghost use Rattle.std.specs.Prelude.{◌≡◌, ◌≤◌, IfOk};
 ghost use Rattle.ae_base.specs.Source.{Source};
 ghost use Rattle.ae_net.specs.Blif as blif;
-ghost use Rattle.cascade.specs.declared.limits.TheConstants.{REDDY_TERMS};
+ghost use Rattle.ae_base.specs.declared.limits.TheConstants.{FACTORED_CUBES, REDDY_TERMS};
 ghost use Rattle.cascade.specs.Shows.{Fits};
 ghost use Rattle.expansion.specs.Functions.{AreExpansions};
 ghost use Rattle.expansion.specs.Terms.{cost};
-ghost use Rattle.factor.specs.declared.limits.TheConstants.{FACTORED_CUBES};
 ghost use Rattle.synth_core.specs.Asked.{terms_limit};
 ghost use Rattle.synth_core.specs.Made.{AreNumbers, IsSynthesised, names_of, texts_of};
 ghost use Rattle.synth_core.specs.Steps.{AreRewritten};
-ghost use Rattle.vec_text.specs.declared.file.Form.TheVariants.{Reddy as reddy_form, Factored as factored_form};
+ghost use Rattle.ae_base.specs.declared.form.Form.TheVariants.{Reddy as reddy_form, Factored as factored_form};
 ghost use Rattle.vec_text.specs.VectorFile.{vector_text};
 
 use crate::laws::{factored_synthesis_law, synthesis_law};
 use crate::made::{Made, Summary};
 use crate::vector_files::{reddy_file, tested_file};
-use ae_base::Memory;
-use ae_net::{Net, NetNames, fault_count};
+use ae_base::{Form, Memory};
+use ae_net::{Net, NetNames, fault_count, valid_law};
 use blif_write::blif_text;
-use cascade::{REDDY_TERMS, reddy};
+use cascade::reddy;
 use esop::{Esop, exorlink, from_expansion};
 use expansion::{Expansion, pairs};
-use factor::{FACTORED_CUBES, factored, factored_law};
+use factor::{factored, factored_law};
 use std::alloc::Global;
-use vec_text::{Form, VecFile, vec_text};
+use vec_text::{VecFile, vec_text};
 
 /// The most terms of all outputs in a form.
 pub fn limit_of(form: Form) -> u64
     ensures { result ≡ terms_limit form }
 {
-    match form {
-        Form::Reddy => REDDY_TERMS,
-        Form::Factored => FACTORED_CUBES as u64,
-    }
+    form.features().most_terms
 }
 
 /// The numbers of the network of expansions and of its vector file.
@@ -110,7 +106,7 @@ fn factored_texts(alloc: Global, names: &NetNames, e: &Expansion) -> Result<Made
     // Opened here, since their invariants are part of the file's.
     let _ = names.outputs();
     let _ = esop.lists();
-    let _ = net.inputs();
+    valid_law(&net);
     let file = tested_file(alloc, names, e.polarity(), &esop, &net)?;
     let summary = summary(alloc, names, e, &net, &file)?;
     made_of(alloc, &net, &file, summary)

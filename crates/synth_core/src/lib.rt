@@ -16,15 +16,11 @@ mod settings;
 mod synthesis;
 mod vector_files;
 
-pub use demo::demo_law;
-pub use demo_source::demo_text;
+pub use demo::demo_text;
 pub use error::SynthErr;
 pub use fault::TextFault;
 pub use made::{Made, Summary};
 pub use maker::StoreMaker;
 pub use one::one_answer_law;
-pub use pairs::{
-    CheckReport, GradeReport, NamedFault, PairErr, check, check_law, grade, grade_law,
-};
 pub use settings::{Choice, Settings, SourceKind};
 pub use synthesis::synthesise;

@@ -4,8 +4,8 @@ ghost use Rattle.synth_core.specs.Steps.{AreTests};
 
 use crate::read::Store;
 use ae_base::{Memory, Point, Polarity, Seq};
-use ae_net::Net;
-use pairs::undetectable_lines;
+use ae_net::{Net, valid_law};
+use named_faults::undetectable_lines;
 use std::alloc::Global;
 use test_gen::{Tests, generate};
 use vec_text::Idle;
@@ -22,7 +22,7 @@ pub fn tests_of(alloc: Global, polarity: Polarity, net: &Net) -> Result<Listing,
     requires { polarity.n ≡ length net.now.inputs }
     ensures { IfOk result (λ tests. AreTests net.now polarity tests.points tests.unchanged) }
 {
-    let _ = net.inputs();
+    valid_law(net);
     let mut store = Store::new(alloc, polarity)?;
     let Tests { points, unchanged } = generate(alloc, &mut store, net)?;
     let lines = undetectable_lines(alloc, net, unchanged.as_slice())?;

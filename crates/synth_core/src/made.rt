@@ -1,7 +1,6 @@
 //! What a synthesis makes.
 
-use ae_base::Polarity;
-use vec_text::Form;
+use ae_base::{Form, Polarity};
 
 /// The numbers that the report of a synthesis prints.
 #[derive(Clone, Copy, Debug, PartialEq, Eq)]

@@ -10,6 +10,7 @@ use factor::factored_law;
 use fn_store::expansion_law;
 use polarity::choice_law;
 use redundancy::evidence_law;
+use vec_text::said_law;
 
 /// The bytes of a source, the settings, and for a search what the advisors were before and are after it, leave one network text, one
 /// vector text and one set of numbers. No source is both within the limit on terms and past it.
@@ -23,4 +24,5 @@ pub fn one_answer_law()
     choice_law();
     factored_law();
     evidence_law();
+    said_law();
 }

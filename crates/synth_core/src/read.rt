@@ -21,8 +21,8 @@ use ae_net::{Net, NetNames};
 use blif_read::{NetLimits, read_blif, said_law};
 use davio_dd::Davio;
 use fn_store::{FnRef, FnStore, store_laws};
+use named_faults::port_names;
 use net_fn::{cover_values, net_values};
-use pairs::port_names;
 use pla_read::read_pla;
 use std::alloc::Global;
 

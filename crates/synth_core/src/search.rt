@@ -1,9 +1,10 @@
 //! The polarity of a synthesis: the one at which terms are counted, or the one that a search from there chooses.
 ghost use Rattle.std.specs.Prelude.{◌<◌, ◌≤◌, ◌≡◌, ◌^◌, IfOk, map};
 ghost use Rattle.ae_base.specs.declared.limits.TheConstants.{SOURCE_LINES};
-ghost use Rattle.expansion.specs.Functions.{KeepsFunctions};
+ghost use Rattle.expansion.specs.Kept.{KeepsFunctions};
 ghost use Rattle.expansion.specs.Terms.{cost};
-ghost use Rattle.polarity.specs.Search.{OfEachSource, advised};
+ghost use Rattle.polarity.specs.Search.{advised};
+ghost use Rattle.polarity.specs.Makers.{OfEachSource};
 ghost use Rattle.synth_core.specs.Searched.{IsSearched};
 ghost use Rattle.synth_core.specs.declared.settings.Choice.TheVariants.{Search as searching};
 ghost use Rattle.synth_core.specs.Steps.{ComesOf, OnlyAsked};

@@ -3,8 +3,7 @@ ghost use Rattle.std.specs.Prelude.{◌≡◌, ◌≤◌};
 ghost use Rattle.ae_base.specs.declared.limits.TheConstants.{NET_LINES};
 ghost use Rattle.synth_core.specs.Asked as spec;
 
-use ae_base::Polarity;
-use vec_text::Form;
+use ae_base::{Form, Polarity};
 
 /// The kind of a source's text.
 #[derive(Clone, Copy, Debug, PartialEq, Eq)]

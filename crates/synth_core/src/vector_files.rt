@@ -1,27 +1,25 @@
 //! The vector files of networks.
 ghost use Rattle.std.specs.Prelude.{◌≡◌, ◌≤◌, ◌++◌, [], IfOk, OnOk, length, map};
 ghost use Rattle.ae_base.specs.Cube.{IsSigns};
-ghost use Rattle.ae_base.specs.declared.limits.TheConstants.{SOURCE_LINES};
-ghost use Rattle.cascade.specs.declared.limits.TheConstants.{REDDY_TERMS};
-ghost use Rattle.cascade.specs.Reddy.{reddy_net};
-ghost use Rattle.cascade.specs.Shows.{Fits};
+ghost use Rattle.ae_base.specs.declared.limits.TheConstants.{REDDY_TERMS, SOURCE_LINES};
+ghost use Rattle.cascade.specs.Shows.{Fits, reddy_net};
 ghost use Rattle.expansion.specs.Terms.{cost};
 ghost use Rattle.synth_core.specs.Made.{lines_from};
 ghost use Rattle.synth_core.specs.Steps as spec;
 ghost use Rattle.synth_core.specs.Steps.{AreReady, IsFactoredNet, IsTestedFile, file_over, vectors_of};
-ghost use Rattle.vec_text.specs.declared.file.Form.TheVariants.{Reddy};
+ghost use Rattle.ae_base.specs.declared.form.Form.TheVariants.{Reddy};
 ghost use Rattle.vec_text.specs.VectorFile.{IsValidVectorFile};
 
 use crate::laws::{factored_synthesis_law, synthesis_law};
 use crate::listed::{Listing, tests_of};
-use ae_base::{Cube, Memory, Name, Point, Polarity, Seq, copies};
+use ae_base::{Cube, Form, Memory, Name, Point, Polarity, Seq, copies};
 use ae_net::{Net, NetNames};
 use esop::Esop;
 use expansion::Expansion;
 use fault_sim::responses;
 use input_tests::cascade_vectors;
 use std::alloc::Global;
-use vec_text::{EsopLine, Form, VecFile, Vector};
+use vec_text::{EsopLine, VecFile, Vector};
 
 /// Each point with the network's fault-free outputs there.
 fn vectors(alloc: Global, net: &Net, points: &[Point]) -> Result<Seq<Vector>, Memory>
@@ -76,9 +74,10 @@ pub fn reddy_file(
     ensures file { IfOk result (λ file. file ≡ spec.reddy_file names.now e.now) }
     ensures ready { IfOk result (λ _. AreReady names.now e.now) }
 {
+    let outputs = names.outputs();
     let points = cascade_vectors(alloc, e)?;
     synthesis_law();
-    vector_file(alloc, net, names.outputs(), e.polarity(), &points)
+    vector_file(alloc, net, outputs, e.polarity(), &points)
 }
 
 /// Appends the cubes of an output.

@@ -18,8 +18,9 @@ use Rattle.ae_net.specs.Out.{out, run}
 use Rattle.ae_net.specs.Run.{seen, value_of}
 use Rattle.test_gen.specs.Selection.{IsSelection}
 use Rattle.test_gen.specs.Selection.IsSelection.{none, taken, left}
-use Rattle.test_gen.specs.Tests.{detects, changes, test_for, has_no_test, tests_of}
-use Rattle.test_gen.specs.Undetectable.{IsUndetectable, IsDetected, IsComplete, IsEachNew}
+use Rattle.test_gen.specs.Tests.{detects, changes, test_for, tests_of}
+use Rattle.test_gen.specs.Generated.{has_no_test, IsEachNew}
+use Rattle.test_gen.specs.Undetectable.{IsUndetectable, IsDetected, IsComplete}
 use Rattle.test_gen.proofs.First.{none_one, some_one}
 use Rattle.test_gen.proofs.Folded.{complete, each_new, each_held}
 

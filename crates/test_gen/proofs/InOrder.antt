@@ -6,22 +6,16 @@ use Rattle.std.proofs.lemmas.Bool.{cases_eq, cases_Bool, cases_lt, true≢false,
 use Rattle.std.proofs.lemmas.List.Elements.{filter-append}
 use Rattle.ae_base.specs.Mask.{Set, empty, has}
 use Rattle.ae_base.specs.Cube.{Signs}
+use Rattle.ae_base.specs.Points.{put}
 use Rattle.ae_base.specs.Terms.{IsPoint, literal}
-use Rattle.ae_base.proofs.Sets.{same_set, has-empty, has-with, has-without, inside-above, inside-from}
+use Rattle.ae_base.proofs.Points.{put-same, put-other}
+use Rattle.ae_base.proofs.Sets.{same_set, has-empty, inside-above, inside-from}
 use Rattle.ae_base.proofs.Distinct.{each-append}
-use Rattle.fn_store.specs.Davio.{put, low, high}
+use Rattle.fn_store.specs.Davio.{low, high}
 use Rattle.fn_store.specs.Functions.{AgreeAt, IsBefore, IsLeastPoint}
 use Rattle.test_gen.specs.Points.{points_from, points_in_order}
 
--- ---- an input put at a value
-
-put-same : (j : ℕ) (v : Bool) (x : Set) → has (put j v x) j ≡ v
-put-same j true x = has-with x j j ∙ ap (λ b. b || has x j) (eq-eqb j j refl)
-put-same j false x = has-without x j j ∙ ap (λ b. not b && has x j) (eq-eqb j j refl)
-
-put-other : (j k : ℕ) (v : Bool) (x : Set) → (k ≢ j) → has (put j v x) k ≡ has x k
-put-other j k true x n = has-with x j k ∙ ap (λ b. b || has x k) (ne_eqb k j n)
-put-other j k false x n = has-without x j k ∙ ap (λ b. not b && has x k) (ne_eqb k j n)
+-- ---- an input at its literal's value
 
 low-literal : (p : Signs) (j : ℕ) (y : Set) → literal p j y ≡ false → has y j ≡ not (has p.plain j)
 low-literal p j y h = by_sign (has p.plain j) (has y j) h

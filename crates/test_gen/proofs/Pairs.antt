@@ -1,19 +1,15 @@
 -- Functions compared pair by pair.
-use Rattle.std.proofs.Common.{◌≡◌, ℕ, ◌+◌, ◌<◌, ◌≤◌, Bool, true, false, inl, inr, List, length, get_or, Option, Some, None, refl, sym, ap, ap₂, ◌∙◌, subst, arith}
+use Rattle.std.proofs.Common.{◌≡◌, ℕ, ◌+◌, ◌<◌, ◌≤◌, Bool, true, false, inl, inr, List, length, get_or, Option, Some, None, sym, ap, ap₂, ◌∙◌, subst, arith}
 use Rattle.std.specs.Prelude.{◌↔◌, MatchOption, slice_get}
 use Rattle.std.proofs.lemmas.Bool.{cases_eq, true≢false}
 use Rattle.std.proofs.lemmas.Option.{slice_get-get_or}
 use Rattle.ae_base.specs.Mask.{Set, differ}
 use Rattle.ae_base.specs.Cube.{Signs}
 use Rattle.ae_base.proofs.Truth.{differ-same, equal_values}
-use Rattle.ae_net.specs.declared.net.Fault.{Fault}
-use Rattle.ae_net.specs.Network.{Network}
-use Rattle.ae_net.specs.Run.{value_of}
 use Rattle.fn_store.specs.Davio.{IsExpansion}
-use Rattle.fn_store.specs.Functions.{Functions, IsLive, Shows, Keeps, AgreeAt, IsLeastPoint}
+use Rattle.fn_store.specs.Functions.{Functions, Shows, Keeps, AgreeAt, IsLeastPoint}
 use Rattle.fn_store.specs.declared.store.FnRef.{FnRef}
-use Rattle.net_fn.specs.Refs.{AreLive, ShowEach}
-use Rattle.net_fn.specs.Signals.{ShowSignals}
+use Rattle.net_fn.specs.Refs.{ShowEach}
 use Rattle.test_gen.specs.Points.{first_one}
 use Rattle.test_gen.proofs.First.{first-None, first-Some}
 
@@ -33,15 +29,6 @@ Shows-kept s t r f keeps shows = record {
 pub record Agreed (start now : Functions) (good bad : List FnRef) (o : ℕ) : Type 0 where
   pub keeps : Keeps start now
   pub agree : (fs gs : ℕ → Set → Bool) → ShowEach start good fs → ShowEach start bad gs → (k : ℕ) → k < o → AgreeAt start.polarity.n (fs k) (gs k)
-
-pub live_at : (start now : Functions) (refs : List FnRef) (k : ℕ) → AreLive start refs → Keeps start now → k < length refs → IsLive now (ref_at refs k)
-live_at start now refs k live keeps l = keeps.live (ref_at refs k) (live.each k (ref_at refs k) (there refs k l))
-
-pub Agreed-start : (s : Functions) (good bad : List FnRef) → Agreed s s good bad 0
-Agreed-start s good bad = record {
-  keeps = record { polarity = refl; live = λ r h. h; terms = λ r h. refl };
-  agree = λ fs gs f g k l. absurd (omega (arith, l));
-}
 
 abbrev Compared : Functions → FnRef → FnRef → Bool → Type 0
 Compared s a b r = (f g : Set → Bool) → Shows s a f → Shows s b g → (r ≡ true) ↔ AgreeAt s.polarity.n f g
@@ -89,16 +76,6 @@ first_apart start now next good bad o r apart found done in_good in_bad same e k
         absurd (true≢false (sym ((compared start now good bad o r done.keeps in_good in_bad same fs gs f g).1 (λ x point. equal_values _ _ (h x point))) ∙ e))
     by_point (Some x) h =
         sym (first-Some start.polarity (length good) o (λ o x. differ (fs o x) (gs o x)) x in_good (λ k l. none_differs start.polarity.n (fs k) (gs k) (done.agree fs gs f g k l)) h)
-
-pub ShowEach-kept : (s t : Functions) (refs : List FnRef) (fs : ℕ → Set → Bool) → Keeps s t → ShowEach s refs fs → ShowEach t refs fs
-ShowEach-kept s t refs fs keeps shows = record { each = λ k r at. Shows-kept s t r (fs k) keeps (shows.each k r at) }
-
-pub ShowSignals-kept : (s t : Functions) (n : Network) (fault : Option Fault) (k : ℕ) (refs : List FnRef) → Keeps s t → ShowSignals s n fault k refs → ShowSignals t n fault k refs
-ShowSignals-kept s t n fault k refs keeps shown = record {
-  count = shown.count;
-  live = record { each = λ j r at. keeps.live r (shown.live.each j r at) };
-  shows = λ w runs. ShowEach-kept s t refs (λ j x. value_of (w x) j) keeps (shown.shows w runs);
-}
 
 -- what was found in the store as it is now, said of the store at the start
 pub found-at_start : (s t : Functions) (m k : ℕ) (fs : ℕ → Set → Bool) (found : Option Set) → Keeps s t → m ≡ k → found ≡ first_one t.polarity m fs → found ≡ first_one s.polarity k fs

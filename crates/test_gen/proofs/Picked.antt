@@ -1,8 +1,8 @@
 -- The faults for which nothing was found.
-use Rattle.std.proofs.Common.{◌≡◌, ℕ, zero, suc, ◌+◌, ◌<◌, ◌≤◌, Bool, true, false, not, cond, List, [], ◌∷◌, ◌++◌, length, get_or, take, Option, Some, None, refl, sym, ap, ◌∙◌, append-nil, arith}
+use Rattle.std.proofs.Common.{◌≡◌, ℕ, zero, suc, ◌+◌, ◌<◌, Bool, true, false, not, cond, List, [], ◌∷◌, ◌++◌, length, get_or, take, Option, Some, None, refl, sym, ap, ◌∙◌, append-nil, arith}
 use Rattle.std.specs.Prelude.{◌↔◌, filter, is_none}
 use Rattle.std.specs.List.{AllZip}
-use Rattle.std.proofs.lemmas.List.{take_more, take_all}
+use Rattle.std.proofs.lemmas.List.{take_more}
 use Rattle.std.proofs.lemmas.List.Elements.{filter-append}
 use Rattle.ae_base.specs.Mask.{Set}
 use Rattle.ae_net.specs.declared.net.Fault.{Fault}
@@ -41,9 +41,6 @@ pub picked-out : {A : Type 0} (keep : A → Bool) (xs us : List A) (found : List
 picked-out keep xs us found i d e zip l some us_is =
     us_is
     ∙ sym (filter-more keep xs i d l ∙ ap (λ b. filter keep (take i xs) ++ cond b (get_or xs i d ∷ []) []) (AllZip-at _ xs found i d e zip l ∙ some) ∙ append-nil (filter keep (take i xs)))
-
-pub all_picked : {A : Type 0} (keep : A → Bool) (xs us : List A) (i : ℕ) → length xs ≤ i → us ≡ filter keep (take i xs) → us ≡ filter keep xs
-all_picked keep xs us i end e = e ∙ ap (filter keep) (take_all i xs end)
 
 -- of one point, nothing is found exactly for the faults that it does not detect
 pub one_point : (n : Network) (x : Set) → ((fault : Fault) → Detects n fault x ↔ (detects n fault x ≡ true)) → (faults : List Fault) (found : List (Option ℕ))

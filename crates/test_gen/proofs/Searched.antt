@@ -1,5 +1,5 @@
 -- The search for tests: what is there, and what the faults that are left will add.
-use Rattle.std.proofs.Common.{◌≡◌, ℕ, suc, ◌+◌, ◌<◌, ◌≤◌, Bool, true, false, not, cond, inl, inr, List, [], ◌∷◌, ◌++◌, length, get_or, drop, ◌-◌, subst, length-drop, add-one, Option, Some, None, refl, sym, ap, ap₂, ◌∙◌, append-nil, append_assoc, arith}
+use Rattle.std.proofs.Common.{◌≡◌, ℕ, suc, ◌+◌, ◌<◌, ◌≤◌, Bool, true, false, not, cond, inl, inr, List, [], ◌∷◌, ◌++◌, length, get_or, drop, ◌-◌, subst, length-drop, add-one, Option, Some, None, refl, sym, ap, ap₂, ◌∙◌, arith}
 use Rattle.std.specs.Prelude.{filter, fold, is_none}
 use Rattle.std.specs.List.{AllByRecursion, between, list_any}
 use Rattle.std.proofs.lemmas.Slice.{between_to_end}
@@ -10,15 +10,16 @@ use Rattle.std.proofs.Math.Seq.{drop-cons}
 use Rattle.ae_base.proofs.Elements.{length_filter_le}
 use Rattle.ae_base.specs.Mask.{Set}
 use Rattle.ae_base.specs.Cube.{Signs}
-use Rattle.ae_base.proofs.Distinct.{each_always}
 use Rattle.ae_net.specs.declared.net.Fault.{Fault}
 use Rattle.ae_net.specs.Network.{Network}
 use Rattle.fn_store.specs.Functions.{Functions, Keeps}
 use Rattle.ae_net.specs.Faults.{fault_list}
-use Rattle.test_gen.specs.Tests.{detects, test_for, has_no_test, with_test, tests_of}
+use Rattle.test_gen.specs.Tests.{detects, test_for, with_test, tests_of}
+use Rattle.test_gen.specs.Generated.{has_no_test}
 use Rattle.test_gen.proofs.Detected.{test-point, none-detects}
 use Rattle.test_gen.proofs.First.{each_kept}
-use Rattle.test_gen.proofs.Folded.{grown-none, grown-new, batch}
+use Rattle.test_gen.proofs.Folded.{grown-new, batch}
+use Rattle.fn_store.proofs.Shown.{Keeps-through}
 
 -- The store has kept its functions. The faults that are left complete the points, and those of them without a test complete the other
 -- list. No point detects a fault that is left.
@@ -27,34 +28,6 @@ pub record Searching (start now : Functions) (n : Network) (all left : List Faul
   pub tests : fold (with_test n start.polarity) points left ≡ fold (with_test n start.polarity) [] all
   pub without : idle ++ filter (has_no_test n start.polarity) left ≡ filter (has_no_test n start.polarity) all
   pub fresh : AllByRecursion (λ g. list_any (detects n g) points ≡ false) left
-
-Keeps-through : (s t u : Functions) → Keeps s t → Keeps t u → Keeps s u
-Keeps-through s t u a b = record {
-  polarity = b.polarity ∙ a.polarity;
-  live = λ r h. b.live r (a.live r h);
-  terms = λ r h. b.terms r (a.live r h) ∙ a.terms r h;
-}
-
-pub Searching-start : (s : Functions) (n : Network) (all : List Fault) → Searching s s n all all [] []
-Searching-start s n all = record {
-  keeps = record { polarity = refl; live = λ r h. h; terms = λ r h. refl };
-  tests = refl;
-  without = refl;
-  fresh = each_always (λ g. list_any (detects n g) [] ≡ false) (λ g. refl) all;
-}
-
--- a fault without a test
-pub Searching-none : (start now next : Functions) (n : Network) (all rest : List Fault) (g : Fault) (points : List Set) (idle : List Fault) → Searching start now n all (g ∷ rest) points idle
-    → Keeps now next → test_for n start.polarity g ≡ None → Searching start next n all rest points (idle ++ g ∷ [])
-Searching-none start now next n all rest g points idle s kept e = record {
-  keeps = Keeps-through start now next s.keeps kept;
-  tests = ap (λ us. fold (with_test n start.polarity) us rest) (sym (grown-none (detects n) (test_for n start.polarity) points g e)) ∙ s.tests;
-  without =
-      append_assoc idle (g ∷ []) (filter (has_no_test n start.polarity) rest)
-      ∙ ap (λ (o : Option Set). idle ++ cond (is_none o) (g ∷ filter (has_no_test n start.polarity) rest) (filter (has_no_test n start.polarity) rest)) (sym e)
-      ∙ s.without;
-  fresh = s.fresh.1;
-}
 
 filter-filter : {X : Type 0} (p q : X → Bool) → ((x : X) → q x ≡ false → p x ≡ false) → (xs : List X) → filter p (filter q xs) ≡ filter p xs
 filter-filter p q h [] = refl
@@ -101,14 +74,6 @@ Searching-some start now next n all rest g x points idle s kept e = record {
     has_one h d None none = absurd (true≢false (sym d ∙ none-detects n start.polarity h none x (test-point n start.polarity g x e)))
     has_one h d (Some y) some = refl
 
-pub found-all : (start now : Functions) (n : Network) (all left : List Fault) (points : List Set) (idle : List Fault) → Searching start now n all left points idle → left ≡ []
-    → points ≡ fold (with_test n start.polarity) [] all
-found-all start now n all left points idle s e = ap (λ (gs : List Fault). fold (with_test n start.polarity) points gs) (sym e) ∙ s.tests
-
-pub idle-all : (start now : Functions) (n : Network) (all left : List Fault) (points : List Set) (idle : List Fault) → Searching start now n all left points idle → left ≡ []
-    → idle ≡ filter (has_no_test n start.polarity) all
-idle-all start now n all left points idle s e = sym (append-nil idle) ∙ ap (λ (gs : List Fault). idle ++ filter (has_no_test n start.polarity) gs) (sym e) ∙ s.without
-
 -- ---- the faults from place k on
 
 from_place : (left : List Fault) (k : ℕ) (g : Fault) → k < length left → g ≡ get_or left k g → drop k left ≡ g ∷ drop (k + 1) left
@@ -116,17 +81,6 @@ from_place left k g below at = drop-cons left k g below ∙ ap (λ h. h ∷ drop
 
 rest_from : (left slice : List Fault) (k : ℕ) → slice ≡ left → between (k + 1) (length slice) slice ≡ drop (k + 1) left
 rest_from left slice k e = between_to_end slice (k + 1) (length slice) (omega arith) ∙ ap (drop (k + 1)) e
-
-pub Searching-next_none : (start now next : Functions) (n : Network) (all left : List Fault) (k : ℕ) (g : Fault) (found : Option Set) (points more : List Set) (idle others : List Fault)
-    → Searching start now n all (drop k left) points idle → k < length left → g ≡ get_or left k g → Keeps now next → found ≡ test_for n now.polarity g → found ≡ None
-    → more ≡ points ++ option_to_list found → others ≡ cond (is_none found) (idle ++ g ∷ []) idle → Searching start next n all (drop (k + 1) left) more others
-Searching-next_none start now next n all left k g found points more idle others s below at kept is none more_is others_is =
-    let front : drop k left ≡ g ∷ drop (k + 1) left = from_place left k g below at in
-    let e : test_for n start.polarity g ≡ None = ap (λ (p : Signs). test_for n p g) (sym s.keeps.polarity) ∙ sym is ∙ none in
-    let points_is : more ≡ points = more_is ∙ ap (λ o. points ++ option_to_list o) none ∙ append-nil points in
-    let idle_is : others ≡ idle ++ g ∷ [] = others_is ∙ ap (λ (o : Option Set). cond (is_none o) (idle ++ g ∷ []) idle) none in
-    rw (points_is, idle_is)
-    (Searching-none start now next n all (drop (k + 1) left) g points idle (subst (λ (gs : List Fault). Searching start now n all gs points idle) front s) kept e)
 
 pub Searching-next_some : (start now next : Functions) (n : Network) (all left slice new : List Fault) (k : ℕ) (g : Fault) (found : Option Set) (x : Set) (points more : List Set) (idle others : List Fault)
     → Searching start now n all (drop k left) points idle → k < length left → g ≡ get_or left k g → Keeps now next → found ≡ test_for n now.polarity g → found ≡ Some x

@@ -1,3 +1,4 @@
+pub mod Generated
 pub mod Points
 pub mod Selection
 pub mod Tests

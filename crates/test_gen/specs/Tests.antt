@@ -1,5 +1,5 @@
 -- The tests of a network: a point for each fault that no earlier point detects and some point does.
-use Rattle.std.specs.Prelude.{◌==◌, ℕ, Bool, not, if◌then◌else◌, Option, Some, None, List, [], ◌++◌, length, fold, is_none}
+use Rattle.std.specs.Prelude.{◌==◌, ℕ, Bool, not, if◌then◌else◌, Option, Some, None, List, [], ◌++◌, length, fold}
 use Rattle.std.specs.List.{list_any}
 use Rattle.std.specs.Option.{option_to_list}
 use Rattle.ae_base.specs.Mask.{Set, differ, has}
@@ -21,10 +21,6 @@ changes n fault o x = differ (has (out n None x) o) (has (out n (Some fault) x) 
 -- the test for a fault: the least point at which the first output that the fault changes anywhere is changed
 unfoldable pub test_for : Network → Signs → Fault → Option Set
 test_for n p fault = first_one p (length n.outputs) (changes n fault)
-
--- the fault changes no output at any point
-abbrev pub has_no_test : Network → Signs → Fault → Bool
-has_no_test n p fault = is_none (test_for n p fault)
 
 -- with the test for the fault at the end, where no point of the list detects it
 abbrev pub with_test : Network → Signs → List Set → Fault → List Set

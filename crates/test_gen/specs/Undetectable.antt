@@ -1,12 +1,11 @@
 -- Undetectable faults, and lists of points that detect all others, each point a fault that no earlier one does.
-use Rattle.std.specs.Prelude.{◌⊎◌, ℕ, ◌<◌, List, length, Contains}
+use Rattle.std.specs.Prelude.{◌⊎◌, List, length, Contains}
 use Rattle.ae_base.specs.Mask.{Set}
 use Rattle.ae_base.specs.Terms.{IsPoint}
 use Rattle.ae_net.specs.declared.net.Fault.{Fault}
 use Rattle.ae_net.specs.Detects.{Detects}
 use Rattle.ae_net.specs.Faults.{IsPlace}
 use Rattle.ae_net.specs.Network.{Network}
-use Rattle.fault_sim.specs.Answers.{IsFirst}
 
 -- no point at all detects the fault
 abbrev pub IsUndetectable : Network → Fault → Type 0
@@ -19,7 +18,3 @@ IsDetected n points fault = (x : Set) × Contains points x × Detects n fault x
 -- each fault at a place is detected by a point of the list or by no point at all
 abbrev pub IsComplete : Network → List Set → Type 0
 IsComplete n points = (fault : Fault) → IsPlace n fault.place → IsDetected n points fault ⊎ IsUndetectable n fault
-
--- each point of the list detects a fault that no earlier one does
-abbrev pub IsEachNew : Network → List Set → Type 0
-IsEachNew n points = (k : ℕ) → k < length points → (fault : Fault) × IsPlace n fault.place × IsFirst n points fault k

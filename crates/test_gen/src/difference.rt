@@ -12,10 +12,10 @@ ghost use Rattle.test_gen.specs.Tests as spec;
 
 use crate::laws::truth_law;
 use ae_base::{Memory, Point};
-use ae_net::{Fault, Net};
+use ae_net::{Fault, Net, valid_law};
 use fault_sim::first_telling;
 use fn_store::{FnRef, FnStore};
-use net_fn::{faulty_values, port_values};
+use net_fn::{faulty_values, kept_law, port_values};
 use std::alloc::Global;
 
 /// The least point at which the functions of the first pair that differs anywhere differ. `None` comes exactly where each pair is equal.
@@ -53,6 +53,7 @@ pub(crate) fn test_for<S: FnStore>(
     ensures test { IfOk result (λ found. found ≡ spec.test_for net.now (S.functions store.old).polarity fault) }
     ensures keeps { Keeps (S.functions store.old) (S.functions store.new) }
 {
+    kept_law();
     let without = port_values(alloc, store, net, None, good)?;
     let with = faulty_values(alloc, store, net, fault, good)?;
     first_difference(store, &without, &with)
@@ -81,7 +82,7 @@ pub(crate) fn missed(
 ) -> Result<Vec<Fault>, Memory>
     ensures { IfOk result (λ left. left.items ≡ filter (λ fault. not (spec.detects net.now fault point)) list.now) }
 {
-    let _ = net.inputs(); // tells that the network is valid
+    valid_law(net);
     truth_law();
     let found = first_telling(alloc, net, &[point], list)?;
     not_found(alloc, list, &found)

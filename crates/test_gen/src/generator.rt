@@ -8,14 +8,15 @@ ghost use Rattle.fn_store.specs.Functions.{Keeps};
 ghost use Rattle.net_fn.specs.Signals.{ShowSignals};
 ghost use Rattle.test_gen.specs.Selection.{IsSelection};
 ghost use Rattle.test_gen.specs.Tests as spec;
-ghost use Rattle.test_gen.specs.Undetectable.{IsComplete, IsEachNew, IsUndetectable};
+ghost use Rattle.test_gen.specs.Undetectable.{IsComplete, IsUndetectable};
+ghost use Rattle.test_gen.specs.Generated.{IsEachNew, has_no_test};
 
 use crate::difference::{missed, test_for};
 use crate::laws::tests_law;
 use ae_base::{Memory, Point, Seq};
-use ae_net::{Fault, Net, faults};
+use ae_net::{Fault, Net, faults, valid_law};
 use fn_store::{FnRef, FnStore};
-use net_fn::signal_values;
+use net_fn::{kept_law, signal_values};
 use std::alloc::Global;
 
 /// The tests of a network.
@@ -35,14 +36,14 @@ pub struct Tests {
 pub fn generate<S: FnStore>(alloc: Global, store: &mut S, net: &Net) -> Result<Tests, Memory>
     requires { (S.functions store.old).polarity.n ≡ length net.now.inputs }
     ensures tests { IfOk result (λ tests. tests.points ≡ spec.tests_of net.now (S.functions store.old).polarity) }
-    ensures without_test { IfOk result (λ tests. tests.unchanged ≡ filter (spec.has_no_test net.now (S.functions store.old).polarity) (fault_list net.now)) }
+    ensures without_test { IfOk result (λ tests. tests.unchanged ≡ filter (has_no_test net.now (S.functions store.old).polarity) (fault_list net.now)) }
     ensures points { IfOk result (λ tests. All (IsPoint (length net.now.inputs)) tests.points) }
     ensures complete { IfOk result (λ tests. IsComplete net.now tests.points) }
     ensures each_new { IfOk result (λ tests. IsEachNew net.now tests.points) }
     ensures undetectable { IfOk result (λ tests. IsSelection (IsUndetectable net.now) (fault_list net.now) tests.unchanged) }
     ensures keeps { Keeps (S.functions store.old) (S.functions store.new) }
 {
-    let _ = net.inputs(); // tells that the network is valid
+    valid_law(net);
     let good = signal_values(alloc, store, net, None)?;
     let all = faults(alloc, net)?;
     tests_law();
@@ -59,9 +60,10 @@ fn tests_for<S: FnStore>(
 ) -> Result<Tests, Memory>
     requires { ShowSignals (S.functions store.old) net.now None (signals net.now) good.now }
     ensures points { IfOk result (λ tests. tests.points ≡ fold (spec.with_test net.now (S.functions store.old).polarity) [] all.items) }
-    ensures unchanged { IfOk result (λ tests. tests.unchanged ≡ filter (spec.has_no_test net.now (S.functions store.old).polarity) all.items) }
+    ensures unchanged { IfOk result (λ tests. tests.unchanged ≡ filter (has_no_test net.now (S.functions store.old).polarity) all.items) }
     ensures keeps { Keeps (S.functions store.old) (S.functions store.new) }
 {
+    kept_law();
     let mut tests = Tests {
         points: Seq::new(alloc),
         unchanged: Seq::new(alloc),

@@ -13,8 +13,9 @@ ghost use Rattle.ae_net.specs.Valid.{IsValid};
 ghost use Rattle.fn_store.specs.Functions.{IsLeastPoint};
 ghost use Rattle.test_gen.specs.Points.{points_in_order};
 ghost use Rattle.test_gen.specs.Selection.{IsSelection};
-ghost use Rattle.test_gen.specs.Tests.{detects, has_no_test, tests_of};
-ghost use Rattle.test_gen.specs.Undetectable.{IsComplete, IsEachNew, IsUndetectable};
+ghost use Rattle.test_gen.specs.Tests.{detects, tests_of};
+ghost use Rattle.test_gen.specs.Generated.{has_no_test, IsEachNew};
+ghost use Rattle.test_gen.specs.Undetectable.{IsComplete, IsUndetectable};
 
 use ae_net::fault_laws;
 use fault_sim::detects_law;

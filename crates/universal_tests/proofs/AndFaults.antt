@@ -20,15 +20,15 @@ use Rattle.ae_net.specs.Lead.{lead}
 use Rattle.ae_net.specs.Names.{Names}
 use Rattle.ae_net.specs.Out.{run}
 use Rattle.ae_net.specs.Run.{seen, value_of}
-use Rattle.ae_net.proofs.OneGate.{InGate, InGate-stem, InGate-pin, held, stuck, at_stem, at_pin, at_other_pin}
+use Rattle.universal_tests.proofs.OneGate.{InGate, InGate-stem, InGate-pin, held, stuck, at_stem, at_pin, at_other_pin}
 use Rattle.ae_net.proofs.Tables.{sees, all_see, all_to, all_see-false, table-and}
 use Rattle.expansion.specs.Terms.{Terms, is_used, used_inputs}
-use Rattle.cascade.specs.Reddy.{place_of, lines, literal_signal, is_wide, wide_terms, and_place, reddy_net}
-use Rattle.cascade.specs.Shows.{CanBuild}
+use Rattle.cascade.specs.Reddy.{place_of, lines, literal_signal, is_wide, wide_terms, and_place}
+use Rattle.cascade.specs.Shows.{CanBuild, reddy_net}
 use Rattle.cascade.proofs.Found.{place_at, wide_apart, wide_found, stands_inside}
 use Rattle.cascade.proofs.GatesValid.{literal_below, and_place_from}
 use Rattle.cascade.proofs.Law.{Stands, and_of, value-literal, used_since}
-use Rattle.cascade.proofs.Values.{EachGate-gates_for}
+use Rattle.cascade.proofs.Values.{EachAt-gates_for}
 use Rattle.universal_tests.specs.Sites.{IsDetected}
 use Rattle.universal_tests.specs.Universal.{one_low, universal_vectors}
 use Rattle.universal_tests.proofs.Products.{member_used, product_high, product_all_at, product_one_low}
@@ -68,7 +68,7 @@ module _ (names : Names) (e : Terms) (can : CanBuild names e) (p : ℕ) (of : Of
     -- its gate
     pub and_gate_at : Both (reddy_net names e) fault (lines e) w v p (and_of (lead names) e (place_of (wide_terms e) of.t) of.t)
     and_gate_at =
-        let b = EachGate-gates_for (Both (reddy_net names e) fault (lines e) w v) (and_place e) 0 (and_of (lead names) e) (wide_terms e) two.parts.ands of.t of.listed in
+        let b = EachAt-gates_for (Both (reddy_net names e) fault (lines e) w v) (and_place e) 0 (and_of (lead names) e) (wide_terms e) two.parts.ands of.t of.listed in
         subst (λ q. Both (reddy_net names e) fault (lines e) w v q (and_of (lead names) e (place_of (wide_terms e) of.t) of.t)) (sym of.place)
         (subst (λ i. Both (reddy_net names e) fault (lines e) w v (and_place e + place_of (wide_terms e) of.t) (and_of (lead names) e i of.t)) (zero-add (place_of (wide_terms e) of.t)) b)
 

@@ -11,7 +11,7 @@ use Rattle.ae_base.proofs.Members.{members-has}
 use Rattle.ae_base.proofs.Sets.{has-with}
 use Rattle.ae_base.proofs.Elements.{Contains-from_any}
 use Rattle.ae_base.proofs.Once.{unrepeated_has}
-use Rattle.expansion.proofs.Even.{has-flipped}
+use Rattle.ae_base.proofs.Points.{has-flipped}
 use Rattle.cascade.specs.FirstVectors.{literals_at, first_vectors}
 use Rattle.cascade.proofs.VectorLemmas.{has-literals_at}
 use Rattle.universal_tests.specs.Universal.{one_low, universal_vectors}

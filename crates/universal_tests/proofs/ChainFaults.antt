@@ -5,6 +5,7 @@ use Rattle.std.proofs.lemmas.Option.{same_Some, slice_get_within}
 use Rattle.ae_base.specs.Mask.{Set, differ, has, empty}
 use Rattle.ae_base.proofs.Truth.{differ-false, not_not, differ-not_right}
 use Rattle.ae_base.proofs.Elements.{each_at}
+use Rattle.ae_base.proofs.EachAt.{EachAt}
 use Rattle.ae_net.specs.declared.net.Gate.{Gate}
 use Rattle.ae_net.specs.declared.net.Place.TheVariants.{Stem, Pin}
 use Rattle.ae_net.specs.declared.net.Fault.{Fault}
@@ -14,12 +15,12 @@ use Rattle.ae_net.specs.Lead.{lead}
 use Rattle.ae_net.specs.Names.{Names}
 use Rattle.ae_net.specs.Out.{run}
 use Rattle.ae_net.specs.Run.{value_of}
-use Rattle.ae_net.proofs.Follow.{EachGate, Fits}
-use Rattle.ae_net.proofs.OneGate.{InGate, InGate-stem, InGate-pin, held, stuck, at_stem, at_pin, at_other_pin}
+use Rattle.ae_net.specs.Follows.{Fits}
+use Rattle.universal_tests.proofs.OneGate.{InGate, InGate-stem, InGate-pin, held, stuck, at_stem, at_pin, at_other_pin}
 use Rattle.ae_net.proofs.Tables.{table-exor, table-buffer}
 use Rattle.expansion.specs.Terms.{Terms, used_inputs}
-use Rattle.cascade.specs.Reddy.{lines, has_one, start, chain_place, term_signal, chain, rest, reddy_net}
-use Rattle.cascade.specs.Shows.{CanBuild}
+use Rattle.cascade.specs.Reddy.{lines, has_one, start, chain_place, term_signal, chain, rest}
+use Rattle.cascade.specs.Shows.{CanBuild, reddy_net}
 use Rattle.cascade.proofs.Law.{shows_rest}
 use Rattle.cascade.proofs.Values.{Shows}
 use Rattle.universal_tests.specs.Sites.{IsDetected}
@@ -32,8 +33,8 @@ use Rattle.universal_tests.proofs.AtVectors.{all_at, control-all_at, Contains-al
 
 -- a gate of a chain is a buffer of its start, or joins a term
 chain_gate : (P : ℕ → Gate → Type 0) (k : ℕ) (e : Terms) (v : List Bool) → ((i : ℕ) (g : Gate) → P i g → Fits None v (lines e) i g) → (p : ℕ) (out : List ℕ) (c i y d : ℕ) (ts : List Set)
-    → EachGate P i (chain k e out c i y ts) → y < lines e + i → p ≡ i + d → d ≤ length ts - 1 → ((name : List ℕ) × P p (buffer name y)) ⊎ Linked P e v y p ts
-unfolding EachGate
+    → EachAt P i (chain k e out c i y ts) → y < lines e + i → p ≡ i + d → d ≤ length ts - 1 → ((name : List ℕ) × P p (buffer name y)) ⊎ Linked P e v y p ts
+unfolding EachAt
 chain_gate P k e v fits p out c i y d [] (h, _) low place l = let here : i ≡ p = omega (arith, l) in inl (out, subst (λ q. P q (buffer out y)) here h)
 chain_gate P k e v fits p out c i y d (t ∷ ts) h low place l = inr (linked P k e v fits p out c i y d t ts h low place (omega (arith, l)))
 

@@ -7,18 +7,19 @@ use Rattle.std.proofs.lemmas.Bool.{cases_lt, or_left, or_right}
 use Rattle.ae_base.specs.Mask.{Set, differ}
 use Rattle.ae_base.specs.Terms.{exor_of}
 use Rattle.ae_base.proofs.Truth.{differ-false}
+use Rattle.ae_base.proofs.EachAt.{EachAt, EachAt-split}
 use Rattle.ae_net.specs.declared.net.Gate.{Gate}
 use Rattle.ae_net.specs.declared.net.Fault.{Fault}
 use Rattle.ae_net.specs.Gates.{exor}
 use Rattle.ae_net.specs.Lead.{lead}
 use Rattle.ae_net.specs.Names.{Names, inner}
 use Rattle.ae_net.specs.Run.{value_of}
-use Rattle.ae_net.proofs.Follow.{EachGate, EachGate-append, Fits, Follows}
-use Rattle.ae_net.proofs.OneGate.{InGate, Follows-quiet}
+use Rattle.ae_net.specs.Follows.{Fits, Follows}
+use Rattle.universal_tests.proofs.OneGate.{InGate, Follows-quiet}
 use Rattle.ae_net.proofs.Tables.{table-exor}
 use Rattle.expansion.specs.Terms.{Terms}
-use Rattle.cascade.specs.Reddy.{lines, start, wide_terms, chain_place, term_signal, links, chain, rest, inner_gates, chains, ends, reddy_net}
-use Rattle.cascade.specs.Shows.{CanBuild}
+use Rattle.cascade.specs.Reddy.{lines, start, wide_terms, chain_place, term_signal, links, chain, rest, inner_gates, chains, ends}
+use Rattle.cascade.specs.Shows.{CanBuild, reddy_net}
 use Rattle.cascade.proofs.GatesValid.{place_below, and_place_from}
 use Rattle.cascade.proofs.Law.{wide_stands, shows_rest, length-chain}
 use Rattle.cascade.proofs.NamesApart.{all_inner}
@@ -65,27 +66,27 @@ port_of_chain e i (us ∷ tss) (suc o) ts there = port_of_chain e (suc (i + inne
 pub record OfChain (P : ℕ → Gate → Type 0) (k : ℕ) (e : Terms) (i : ℕ) (ts : List Set) : Type 0 where
   pub name : List ℕ
   pub inner_before : ℕ
-  pub gates : EachGate P i (chain k e name inner_before i (start e ts) (rest ts))
+  pub gates : EachAt P i (chain k e name inner_before i (start e ts) (rest ts))
 
-pub of_chain : (P : ℕ → Gate → Type 0) (k : ℕ) (e : Terms) (c i : ℕ) (tss : List (List Set)) (outs : List (List ℕ)) → length tss ≡ length outs → EachGate P i (chains k e c i tss outs)
+pub of_chain : (P : ℕ → Gate → Type 0) (k : ℕ) (e : Terms) (c i : ℕ) (tss : List (List Set)) (outs : List (List ℕ)) → length tss ≡ length outs → EachAt P i (chains k e c i tss outs)
     → (o : ℕ) (ts : List Set) → slice_get tss o ≡ Some ts → OfChain P k e (chain_start i tss o) ts
 of_chain P k e c i [] outs same h o ts there = cc
 of_chain P k e c i (us ∷ tss) [] same h o ts there = absurd (omega (arith, same))
 of_chain P k e c i (us ∷ tss) (out ∷ outs) same h zero ts there =
     let e0 : us ≡ ts = cc in
-    let parts = EachGate-append P i (chain k e out c i (start e us) (rest us)) _ h in
+    let parts = EachAt-split P i (chain k e out c i (start e us) (rest us)) _ h in
     subst (λ rs. OfChain P k e i rs) e0 (record { name = out; inner_before = c; gates = parts.0 })
 of_chain P k e c i (us ∷ tss) (out ∷ outs) same h (suc o) ts there =
-    let parts = EachGate-append P i (chain k e out c i (start e us) (rest us)) _ h in
+    let parts = EachAt-split P i (chain k e out c i (start e us) (rest us)) _ h in
     let z : i + length (chain k e out c i (start e us) (rest us)) ≡ suc (i + inner_gates us) = omega (arith, length-chain k e out c i (start e us) (rest us)) in
-    of_chain P k e (c + inner_gates us) (suc (i + inner_gates us)) tss outs (omega (arith, same)) (subst (λ p. EachGate P p (chains k e (c + inner_gates us) (suc (i + inner_gates us)) tss outs)) z parts.1) o ts there
+    of_chain P k e (c + inner_gates us) (suc (i + inner_gates us)) tss outs (omega (arith, same)) (subst (λ p. EachAt P p (chains k e (c + inner_gates us) (suc (i + inner_gates us)) tss outs)) z parts.1) o ts there
 
 -- ---- from a gate of a chain to its end
 
 links_turn : (k : ℕ) (e : Terms) (f : Set → Bool) (fault : Option Fault) (p : ℕ) (w v : List Bool) (out : List ℕ) (c i y d : ℕ) (t : Set) (ts : List Set) → InGate fault (lines e) p → p ≡ i + d → d ≤ length ts
     → Follows fault w (lines e) i (links k e out c i y t ts) → Follows None v (lines e) i (links k e out c i y t ts) → Shows e w f (t ∷ ts) → Shows e v f (t ∷ ts)
     → value_of w (lines e + p) ≡ not (value_of v (lines e + p)) → value_of w (lines e + (i + length ts)) ≡ not (value_of v (lines e + (i + length ts)))
-unfolding EachGate
+unfolding EachAt
 links_turn k e f fault p w v out c i y zero t [] within place l fw fv sw sv turns = let z : i + 0 ≡ p = omega arith in rw z turns
 links_turn k e f fault p w v out c i y (suc d) t [] within place l fw fv sw sv turns = absurd (omega (arith, l))
 links_turn k e f fault p w v out c i y zero t (u ∷ us) within place l (h, hs) (g, gs) (s, ss) (r, rs) turns =
@@ -120,8 +121,8 @@ pub record Linked (P : ℕ → Gate → Type 0) (e : Terms) (v : List Bool) (y p
   pub at_zero : Shows e v (λ u. false) ts → value_of v line ≡ value_of v y
 
 pub linked : (P : ℕ → Gate → Type 0) (k : ℕ) (e : Terms) (v : List Bool) → ((i : ℕ) (g : Gate) → P i g → Fits None v (lines e) i g) → (p : ℕ) (out : List ℕ) (c i y d : ℕ) (t : Set) (ts : List Set)
-    → EachGate P i (links k e out c i y t ts) → y < lines e + i → p ≡ i + d → d ≤ length ts → Linked P e v y p (t ∷ ts)
-unfolding EachGate
+    → EachAt P i (links k e out c i y t ts) → y < lines e + i → p ≡ i + d → d ≤ length ts → Linked P e v y p (t ∷ ts)
+unfolding EachAt
 linked P k e v fits p out c i y zero t [] (h, _) low place l =
     let here : i ≡ p = omega arith in
     record { name = out; line = y; term = t; gate = subst (λ q. P q (exor out y (term_signal e t))) here h; earlier = omega arith; member = or_left _ _ (eq-eqb t t refl); at_zero = λ z. refl }

@@ -7,7 +7,7 @@ use Rattle.ae_base.specs.Cube.{Signs}
 use Rattle.ae_base.specs.Terms.{IsPoint}
 use Rattle.ae_base.specs.Lists.{without_repeats}
 use Rattle.ae_base.proofs.Members.{members-has, length-members}
-use Rattle.ae_base.proofs.Sets.{has-with, inside-below, inside-from}
+use Rattle.ae_base.proofs.Sets.{has-with, inside-below, inside-from, has-where_below}
 use Rattle.ae_base.proofs.Distinct.{AllPairs-from_Distinct, each-append}
 use Rattle.ae_base.proofs.Elements.{each_member}
 use Rattle.ae_base.proofs.Once.{added, add_last, each_once, length_once_le, once_again, once_apart}
@@ -15,8 +15,7 @@ use Rattle.ae_net.specs.Valid.{IsDistinct}
 use Rattle.std.proofs.lemmas.Bool.{le-ltb}
 use Rattle.std.proofs.lemmas.List.{length-map, map-append}
 use Rattle.std.proofs.lemmas.List.Elements.{All-from_recursion, All-map, recursion_from_All}
-use Rattle.expansion.specs.Terms.{Terms, used_inputs}
-use Rattle.expansion.proofs.Even.{has-used}
+use Rattle.expansion.specs.Terms.{Terms, used_inputs, is_used}
 use Rattle.cascade.specs.FirstVectors.{literals_at, first_vectors}
 use Rattle.cascade.proofs.VectorLemmas.{has-literals_at}
 use Rattle.universal_tests.specs.Universal.{one_low, universal_vectors}
@@ -40,7 +39,8 @@ more_so_far p used js j now new is so =
     ∙ ap without_repeats (append_assoc (first_vectors p used) (map turned js) (turned j ∷ []) ∙ ap (λ xs. first_vectors p used ++ xs) (sym (map-append turned js (j ∷ []))))
 
 used_below : (e : Terms) → inside (used_inputs e) (first e.polarity.n) ≡ true
-used_below e = inside-from e.polarity.n (used_inputs e) (λ k l. has-used e k ∙ rw (le-ltb k e.polarity.n l) refl)
+unfolding used_inputs
+used_below e = inside-from e.polarity.n (used_inputs e) (λ k l. has-where_below e.polarity.n (is_used e) k ∙ rw (le-ltb k e.polarity.n l) refl)
 
 pub all_so_far : (p : Signs) (used : Set) → so_far p used (members used) ≡ universal_vectors p used
 unfolding so_far universal_vectors

@@ -6,6 +6,7 @@ use Rattle.std.proofs.lemmas.Bool.{cases_eq}
 use Rattle.std.proofs.lemmas.Option.{slice_get_within, slice_get-get_or}
 use Rattle.ae_base.specs.Mask.{Set, differ, has, first, inside, members}
 use Rattle.ae_base.specs.Terms.{IsInOrder, product, exor_of, value}
+use Rattle.ae_base.proofs.EachAt.{EachAt}
 use Rattle.ae_net.specs.declared.net.Gate.{Gate}
 use Rattle.ae_net.specs.declared.net.Place.TheVariants.{Stem, Pin, Port}
 use Rattle.ae_net.specs.declared.net.Fault.{Fault}
@@ -19,12 +20,11 @@ use Rattle.ae_base.proofs.Members.{members-has}
 use Rattle.ae_base.proofs.Sets.{inside-below}
 use Rattle.ae_base.proofs.Truth.{differ-false, not_not, other_way}
 use Rattle.ae_base.proofs.Elements.{any_found, All-get, list_all_agree}
-use Rattle.ae_net.proofs.Follow.{EachGate}
-use Rattle.ae_net.proofs.OneGate.{InGate, InGate-stem, InGate-pin, held, stuck, at_stem, at_pin, run_as, has-out, Differs-turned}
+use Rattle.universal_tests.proofs.OneGate.{InGate, InGate-stem, InGate-pin, held, stuck, at_stem, at_pin, run_as, has-out, Differs-turned}
 use Rattle.ae_net.proofs.Tables.{table-inverter}
 use Rattle.expansion.specs.Terms.{Terms, used_inputs}
-use Rattle.cascade.specs.Reddy.{lines, turned, has_one, control_gates, rest, reddy_net}
-use Rattle.cascade.specs.Shows.{CanBuild}
+use Rattle.cascade.specs.Reddy.{lines, turned, has_one, control_gates, rest}
+use Rattle.cascade.specs.Shows.{CanBuild, reddy_net}
 use Rattle.cascade.proofs.Law.{value-rest, each_rest, shows}
 use Rattle.cascade.proofs.Ports.{length-outputs}
 use Rattle.cascade.proofs.Shown.{valid}
@@ -37,8 +37,8 @@ use Rattle.universal_tests.proofs.AtVectors.{all_at, control-all_at, low_part, C
 
 -- ---- the inverter of the control
 
-pub control_gate : (P : ℕ → Gate → Type 0) (k : ℕ) (e : Terms) → list_any has_one e.outs ≡ true → EachGate P (length (turned e)) (control_gates k e) → P (length (turned e)) (inverter (inner k (codes "m")) e.polarity.n)
-unfolding control_gates EachGate
+pub control_gate : (P : ℕ → Gate → Type 0) (k : ℕ) (e : Terms) → list_any has_one e.outs ≡ true → EachAt P (length (turned e)) (control_gates k e) → P (length (turned e)) (inverter (inner k (codes "m")) e.polarity.n)
+unfolding control_gates EachAt
 control_gate P k e some h = (rw some at h).0
 
 module _ (names : Names) (e : Terms) (can : CanBuild names e) (some : list_any has_one e.outs ≡ true) (few : length (turned e) < length ((reddy_net names e).gates)) where

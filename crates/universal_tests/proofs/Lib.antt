@@ -11,3 +11,4 @@ pub mod CodeLemmas
 pub mod Line
 pub mod OddInputs
 pub mod Literals
+pub mod OneGate

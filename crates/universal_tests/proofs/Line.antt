@@ -19,16 +19,16 @@ use Rattle.ae_net.specs.Lead.{lead}
 use Rattle.ae_net.specs.Names.{Names, inner}
 use Rattle.ae_net.specs.Network.{Network}
 use Rattle.ae_net.specs.Run.{value_of}
-use Rattle.ae_net.proofs.Follow.{Follows}
-use Rattle.ae_net.proofs.OneGate.{InGate, InGate-stem, InGate-pin, Fits-quiet, Follows-quiet, held, stuck, at_stem, at_pin, run_as, has-out, Differs-turned}
+use Rattle.ae_net.specs.Follows.{Follows}
+use Rattle.universal_tests.proofs.OneGate.{InGate, InGate-stem, InGate-pin, Fits-quiet, Follows-quiet, held, stuck, at_stem, at_pin, run_as, has-out, Differs-turned}
 use Rattle.ae_net.proofs.Tables.{table-inverter}
 use Rattle.expansion.specs.Terms.{Terms, is_used}
-use Rattle.cascade.specs.Reddy.{place_of, lines, turned, literal_signal, has_one, control_gates, and_place, chain_place, and_gates, rest, ends, reddy_net}
-use Rattle.cascade.specs.Shows.{CanBuild}
+use Rattle.cascade.specs.Reddy.{place_of, lines, turned, literal_signal, has_one, control_gates, and_place, chain_place, and_gates, rest, ends}
+use Rattle.cascade.specs.Shows.{CanBuild, reddy_net}
 use Rattle.cascade.proofs.Found.{place_apart}
 use Rattle.cascade.proofs.GatesValid.{and_place_from}
 use Rattle.cascade.proofs.Law.{Literals, and_fits, shows_rest, turned_stands, value-rest, value-start, value-term}
-use Rattle.cascade.proofs.Values.{Shows, EachGate-gates_for}
+use Rattle.cascade.proofs.Values.{Shows, EachAt-gates_for}
 use Rattle.universal_tests.proofs.ControlFaults.{is_port, shown}
 use Rattle.universal_tests.proofs.Turns.{chain_after, stands_at, all_inside}
 use Rattle.universal_tests.proofs.TwoRuns.{Both, TwoRuns, two_runs, inputs_are, outputs_are, faulty, faulty_port}
@@ -96,7 +96,7 @@ module _ (names : Names) (e : Terms) (can : CanBuild names e) (j : ℕ) (l : j <
       P = Both (reddy_net names e) fault (lines e) w v
 
       inverter_here : (i : ℕ) → list_any (λ k. eqb k i) (turned e) ≡ true → P (place_of (turned e) i) (inverter (inner (lead names) (codes "i" ++ decimal (suc i))) i)
-      inverter_here i listed = subst (λ q. P q (inverter (inner (lead names) (codes "i" ++ decimal (suc i))) i)) (zero-add (place_of (turned e) i)) (EachGate-gates_for P 0 0 (λ _ k. inverter (inner (lead names) (codes "i" ++ decimal (suc k))) k) (turned e) two.parts.inverted i listed)
+      inverter_here i listed = subst (λ q. P q (inverter (inner (lead names) (codes "i" ++ decimal (suc i))) i)) (zero-add (place_of (turned e) i)) (EachAt-gates_for P 0 0 (λ _ k. inverter (inner (lead names) (codes "i" ++ decimal (suc k))) k) (turned e) two.parts.inverted i listed)
 
       own_gate : P p (inverter (inner (lead names) (codes "i" ++ decimal (suc j))) j)
       own_gate = subst (λ q. P q (inverter (inner (lead names) (codes "i" ++ decimal (suc j))) j)) (sym of.place) (inverter_here j of.listed)

@@ -21,13 +21,13 @@ use Rattle.ae_net.specs.Out.{Differs}
 use Rattle.ae_net.specs.Faults.{IsPlace}
 use Rattle.ae_net.specs.Gates.{inverter}
 use Rattle.ae_net.specs.Names.{Names}
-use Rattle.ae_net.proofs.OneGate.{InGate-stem, held}
-use Rattle.expansion.specs.Even.{AreEven, is_odd, even_inputs}
+use Rattle.universal_tests.proofs.OneGate.{InGate-stem, held}
+use Rattle.expansion.specs.Counts.{is_odd}
+use Rattle.expansion.specs.Even.{AreEven, even_inputs}
 use Rattle.expansion.specs.Functions.{AreExpansions}
 use Rattle.expansion.specs.Terms.{Terms, is_used, used_inputs}
-use Rattle.expansion.proofs.Even.{even_used}
-use Rattle.cascade.specs.Reddy.{place_of, lines, turned, has_one, start, is_wide, reddy_net}
-use Rattle.cascade.specs.Shows.{CanBuild}
+use Rattle.cascade.specs.Reddy.{place_of, lines, turned, has_one, start, is_wide}
+use Rattle.cascade.specs.Shows.{CanBuild, reddy_net}
 use Rattle.cascade.proofs.Found.{place_at}
 use Rattle.universal_tests.specs.Odd.{IsHeldOddly, IsUsedNotEven, DetectsLiterals}
 use Rattle.universal_tests.specs.Sites.{IsInverterOf, IsOfLiteral, IsDetected}
@@ -119,15 +119,16 @@ pub detects_odd : (names : Names) (e : Terms) → CanBuild names e → DetectsLi
 detects_odd names e can fault j (l, odd) h of = odd_told names e can j l odd fault.place fault.value h of
 
 -- a used input that is not even by the flip is odd by the count
-pub held_oddly : (s : Source) (e : Terms) → AreExpansions s e.polarity e → ((j : ℕ) → (has (used_inputs e) j ≡ true) ↔ IsUsed s j) → AreEven s e.polarity (even_inputs e) → (j : ℕ) → IsUsedNotEven s e.polarity j → IsHeldOddly e j
-held_oddly s e are used even j (is_used, not_even) = (
-  omega (arith, are.inputs, is_used.is_input),
-  elim (cases_Bool (is_odd e j)) [
-    | inl odd ↦ odd
-    | inr none ↦ absurd (not_even ((even j).0 (even_used e j ∙ and_from _ _ ((used j).1 is_used) (ap not none))))
-  ],
-)
+module _ (s : Source) (e : Terms) (are : AreExpansions s e.polarity e) (used : (j : ℕ) → (has (used_inputs e) j ≡ true) ↔ IsUsed s j) (even : AreEven s e.polarity (even_inputs e))
+    (counted : (j : ℕ) → has (even_inputs e) j ≡ (has (used_inputs e) j && not (is_odd e j))) where
+  held_oddly : (j : ℕ) → IsUsedNotEven s e.polarity j → IsHeldOddly e j
+  held_oddly j (is_used, not_even) = (
+    omega (arith, are.inputs, is_used.is_input),
+    elim (cases_Bool (is_odd e j)) [
+      | inl odd ↦ odd
+      | inr none ↦ absurd (not_even ((even j).0 (counted j ∙ and_from _ _ ((used j).1 is_used) (ap not none))))
+    ],
+  )
 
-pub detects_not_even : (s : Source) (names : Names) (e : Terms) → AreExpansions s e.polarity e → ((j : ℕ) → (has (used_inputs e) j ≡ true) ↔ IsUsed s j) → AreEven s e.polarity (even_inputs e) → CanBuild names e
-    → DetectsLiterals (reddy_net names e) (IsUsedNotEven s e.polarity) (universal_vectors e.polarity (used_inputs e))
-detects_not_even s names e are used even can fault j tested h of = detects_odd names e can fault j (held_oddly s e are used even j tested) h of
+  pub detects_not_even : (names : Names) → CanBuild names e → DetectsLiterals (reddy_net names e) (IsUsedNotEven s e.polarity) (universal_vectors e.polarity (used_inputs e))
+  detects_not_even names can fault j tested h of = detects_odd names e can fault j (held_oddly j tested) h of

@@ -12,9 +12,9 @@ use Rattle.ae_base.proofs.Truth.{differ-false, not_not}
 use Rattle.ae_base.proofs.Distinct.{each_weaker}
 use Rattle.ae_base.proofs.Exor.{exor_of_agree, exor_of_some, all_or_others}
 use Rattle.ae_base.proofs.Literals.{literals-product}
+use Rattle.ae_base.proofs.Sets.{has-where_below}
 use Rattle.ae_net.specs.Names.{Names}
-use Rattle.expansion.specs.Terms.{Terms, used_inputs}
-use Rattle.expansion.proofs.Even.{has-used}
+use Rattle.expansion.specs.Terms.{Terms, used_inputs, is_used}
 use Rattle.cascade.specs.Shows.{CanBuild}
 use Rattle.cascade.proofs.Law.{Stands}
 use Rattle.cascade.proofs.Valid.{terms_stand}
@@ -48,7 +48,8 @@ module _ (names : Names) (e : Terms) (can : CanBuild names e) (j : ℕ) (l : j <
   own b = own_at e.polarity (used_inputs e) j b
 
   pub used_here : has (used_inputs e) j ≡ true
-  used_here = has-used e j ∙ ap₂ (λ a b. a && b) (lt-ltb j e.polarity.n l) (any_passes_from_place (λ us. list_any (λ t. has t j) us) e.outs o ts there (exor_of_some (λ t. has t j) ts odd))
+  unfolding used_inputs
+  used_here = has-where_below e.polarity.n (is_used e) j ∙ ap₂ (λ a b. a && b) (lt-ltb j e.polarity.n l) (any_passes_from_place (λ us. list_any (λ t. has t j) us) e.outs o ts there (exor_of_some (λ t. has t j) ts odd))
 
   -- the products of the terms that hold the input turn
   product_own : (b : Bool) (t : Set) → Stands e t → inside t (first e.polarity.n) ≡ true → product e.polarity t (own b) ≡ (b || not (has t j))

@@ -5,6 +5,7 @@ use Rattle.ae_base.specs.Mask.{Set, differ, has, empty, first, inside, members}
 use Rattle.ae_base.specs.Terms.{product, exor_of}
 use Rattle.ae_base.proofs.Sets.{inside-below}
 use Rattle.ae_base.proofs.Members.{first_member}
+use Rattle.ae_base.proofs.EachAt.{EachAt, EachAt-from_get, EachAt-weaker}
 use Rattle.ae_net.specs.declared.net.Gate.{Gate}
 use Rattle.ae_net.specs.declared.net.Fault.{Fault}
 use Rattle.ae_net.specs.Out.{Differs, run}
@@ -12,12 +13,12 @@ use Rattle.ae_net.specs.Lead.{lead}
 use Rattle.ae_net.specs.Names.{Names, inner}
 use Rattle.ae_net.specs.Network.{Network}
 use Rattle.ae_net.specs.Run.{table, value_of, IsRun}
-use Rattle.ae_net.proofs.Follow.{EachGate, EachGate-from_get, EachGate-weaker, Fits, Follows}
-use Rattle.ae_net.proofs.OneGate.{InGate, Fits-quiet, Follows-quiet, before_gate, has-out, Differs-turned}
+use Rattle.ae_net.specs.Follows.{Fits, Follows}
+use Rattle.universal_tests.proofs.OneGate.{InGate, Fits-quiet, Follows-quiet, before_gate, has-out, Differs-turned}
 use Rattle.ae_net.proofs.Runs.{IsRun-run, ones_seen_agree}
 use Rattle.expansion.specs.Terms.{Terms}
-use Rattle.cascade.specs.Reddy.{place_of, lines, turned, literal_signal, inverters, has_one, control_gates, start, is_wide, wide_terms, and_place, chain_place, term_signal, and_gates, rest, ends, gates, reddy_net}
-use Rattle.cascade.specs.Shows.{CanBuild}
+use Rattle.cascade.specs.Reddy.{place_of, lines, turned, literal_signal, inverters, has_one, control_gates, start, is_wide, wide_terms, and_place, chain_place, term_signal, and_gates, rest, ends, gates}
+use Rattle.cascade.specs.Shows.{CanBuild, reddy_net}
 use Rattle.cascade.proofs.Law.{Stands, Inputs, Built, built, and_of, and_fits, value-literal, value-term, value-start, value-port}
 use Rattle.cascade.proofs.GatesValid.{literal_below, literals_below}
 use Rattle.cascade.proofs.Law.{used_since}
@@ -59,13 +60,13 @@ two_runs names e can fault p x within few =
     let v : List Bool = run n None x in
     let is_w : IsRun n fault x w = IsRun-run n fault x (valid names e can) in
     let is_v : IsRun n None x v = IsRun-run n None x (valid names e can) in
-    let each : EachGate (Both n fault (lines e) w v) 0 n.gates = EachGate-from_get (Both n fault (lines e) w v) 0 n.gates (λ j g there. subst (λ i. Both n fault (lines e) w v i g) (sym (zero-add j)) (record {
+    let each : EachAt (Both n fault (lines e) w v) 0 n.gates = EachAt-from_get (Both n fault (lines e) w v) 0 n.gates (λ j g there. subst (λ i. Both n fault (lines e) w v i g) (sym (zero-add j)) (record {
       faulty = subst (λ k. Fits fault w k j g) m (is_w.gates j g there);
       plain = subst (λ k. Fits None v k j g) m (is_v.gates j g there);
       sits = there;
     })) in
     record {
-      parts = built (Both n fault (lines e) w v) (lead names) names e (subst (EachGate (Both n fault (lines e) w v) 0) (gates_are names e) each);
+      parts = built (Both n fault (lines e) w v) (lead names) names e (subst (EachAt (Both n fault (lines e) w v) 0) (gates_are names e) each);
       inputs = λ j l. is_v.inputs j (omega (arith, m, l));
       within = within;
       before = λ s l. before_gate n fault x p (subst (λ k. InGate fault k p) (sym m) within) few s (omega (arith, m, l));
@@ -91,11 +92,11 @@ module _ (names : Names) (e : Terms) (fault : Option Fault) (p : ℕ) (x : Set) 
   P = Both (reddy_net names e) fault (lines e) w v
 
   -- a part follows in each run
-  pub faulty : (i : ℕ) (gs : List Gate) → EachGate P i gs → Follows fault w (lines e) i gs
-  faulty i gs h = EachGate-weaker P (Fits fault w (lines e)) i gs (λ j g l k b. b.faulty) h
+  pub faulty : (i : ℕ) (gs : List Gate) → EachAt P i gs → Follows fault w (lines e) i gs
+  faulty i gs h = EachAt-weaker P (Fits fault w (lines e)) i gs (λ j g l k b. b.faulty) h
 
-  pub plain : (i : ℕ) (gs : List Gate) → EachGate P i gs → Follows None v (lines e) i gs
-  plain i gs h = EachGate-weaker P (Fits None v (lines e)) i gs (λ j g l k b. b.plain) h
+  pub plain : (i : ℕ) (gs : List Gate) → EachAt P i gs → Follows None v (lines e) i gs
+  plain i gs h = EachAt-weaker P (Fits None v (lines e)) i gs (λ j g l k b. b.plain) h
 
   pub plain_inputs : Inputs (lead names) e x v
   plain_inputs = record { inputs = two.inputs; inverted = plain 0 (inverters (lead names) e) two.parts.inverted }

@@ -9,6 +9,7 @@ use Rattle.std.proofs.lemmas.List.Elements.{All-from_recursion}
 use Rattle.std.proofs.lemmas.Option.{same_Some, slice_get_within}
 use Rattle.ae_base.specs.Mask.{members}
 use Rattle.ae_base.proofs.Elements.{range_below}
+use Rattle.ae_base.proofs.EachAt.{EachAt, EachAt-from_get}
 use Rattle.ae_net.specs.declared.net.Gate.{Gate}
 use Rattle.ae_net.specs.declared.net.Place.{Place}
 use Rattle.ae_net.specs.declared.net.Place.TheVariants.{Stem, Pin, Port}
@@ -17,17 +18,16 @@ use Rattle.ae_net.specs.Gates.{inverter}
 use Rattle.ae_net.specs.Lead.{lead}
 use Rattle.ae_net.specs.Names.{Names, inner}
 use Rattle.ae_net.specs.Network.{Network}
-use Rattle.ae_net.proofs.Follow.{EachGate, EachGate-from_get}
 use Rattle.ae_net.proofs.FaultLaws.{read_within}
 use Rattle.expansion.specs.Terms.{Terms, used_inputs}
-use Rattle.cascade.specs.Reddy.{gates_for, place_of, lines, turned, literal_signal, has_one, wide_terms, and_place, chain_place, reddy_net}
-use Rattle.cascade.specs.Shows.{CanBuild}
+use Rattle.cascade.specs.Reddy.{gates_for, place_of, lines, turned, literal_signal, has_one, wide_terms, and_place, chain_place}
+use Rattle.cascade.specs.Shows.{CanBuild, reddy_net}
 use Rattle.cascade.proofs.Law.{Built, built, and_of}
 use Rattle.cascade.proofs.NamesApart.{all_inner}
 use Rattle.cascade.proofs.Ports.{length-outputs}
 use Rattle.cascade.proofs.Shown.{valid}
 use Rattle.cascade.proofs.Valid.{length-gates}
-use Rattle.cascade.proofs.Values.{EachGate-gates_for}
+use Rattle.cascade.proofs.Values.{EachAt-gates_for}
 use Rattle.universal_tests.specs.Sites.{IsInverterOf, IsOfLiteral, IsDetected, DetectsAllBut}
 use Rattle.universal_tests.specs.Universal.{universal_vectors}
 use Rattle.universal_tests.proofs.AndFaults.{OfTerm, of_term, and_stem, and_pin}
@@ -69,8 +69,8 @@ part_of names e can p l =
 
 -- ---- the literals
 
-gates_at : (P : ℕ → Gate → Type 0) (i c : ℕ) (gate : ℕ → ℕ → Gate) (xs : List ℕ) → EachGate P i (gates_for gate c xs) → (d : ℕ) → d < length xs → P (i + d) (gate (c + d) (get_or xs d 0))
-unfolding EachGate
+gates_at : (P : ℕ → Gate → Type 0) (i c : ℕ) (gate : ℕ → ℕ → Gate) (xs : List ℕ) → EachAt P i (gates_for gate c xs) → (d : ℕ) → d < length xs → P (i + d) (gate (c + d) (get_or xs d 0))
+unfolding EachAt
 gates_at P i c gate [] h d l = absurd (omega (arith, l))
 gates_at P i c gate (x ∷ xs) (h, hs) zero l = let zi : i + 0 ≡ i = omega arith in let zc : c + 0 ≡ c = omega arith in rw (zi, zc) h
 gates_at P i c gate (x ∷ xs) (h, hs) (suc d) l =
@@ -91,7 +91,7 @@ module _ (names : Names) (e : Terms) (can : CanBuild names e) where
 
   sitting : Built Sits (lead names) names e
   unfolding Sits
-  sitting = built Sits (lead names) names e (subst (EachGate Sits 0) (gates_are names e) (EachGate-from_get Sits 0 ((reddy_net names e).gates) (λ j g there. subst (λ i. slice_get ((reddy_net names e).gates) i ≡ Some g) (sym (zero-add j)) there)))
+  sitting = built Sits (lead names) names e (subst (EachAt Sits 0) (gates_are names e) (EachAt-from_get Sits 0 ((reddy_net names e).gates) (λ j g there. subst (λ i. slice_get ((reddy_net names e).gates) i ≡ Some g) (sym (zero-add j)) there)))
 
   -- the gates of the first part are inverters of source inputs
   pub inverts : (p : ℕ) → p < length (turned e) → (get_or (turned e) p 0 < e.polarity.n) × IsInverterOf (reddy_net names e) p (get_or (turned e) p 0)
@@ -110,7 +110,7 @@ module _ (names : Names) (e : Terms) (can : CanBuild names e) where
   pub is_and : (p : ℕ) (of : OfTerm e p) (gate : Gate) → slice_get ((reddy_net names e).gates) p ≡ Some gate → length gate.pins ≡ length (members of.t)
   unfolding Sits
   is_and p of gate there =
-      let sits = EachGate-gates_for Sits (and_place e) 0 (and_of (lead names) e) (wide_terms e) sitting.ands of.t of.listed in
+      let sits = EachAt-gates_for Sits (and_place e) 0 (and_of (lead names) e) (wide_terms e) sitting.ands of.t of.listed in
       let same : gate ≡ and_of (lead names) e (0 + place_of (wide_terms e) of.t) of.t = same_Some _ _ (sym there ∙ ap (slice_get ((reddy_net names e).gates)) of.place ∙ sits) in
       ap (λ (g : Gate). length g.pins) same ∙ length-map (members of.t) (literal_signal e)
 

@@ -6,7 +6,8 @@ use Rattle.ae_base.specs.Source.{Source, IsUsed}
 use Rattle.ae_net.specs.declared.net.Fault.{Fault}
 use Rattle.ae_net.specs.Faults.{IsPlace}
 use Rattle.ae_net.specs.Network.{Network}
-use Rattle.expansion.specs.Even.{IsEven, is_odd}
+use Rattle.expansion.specs.Counts.{is_odd}
+use Rattle.expansion.specs.Even.{IsEven}
 use Rattle.expansion.specs.Terms.{Terms}
 use Rattle.universal_tests.specs.Sites.{IsOfLiteral, IsDetected}
 

@@ -1,8 +1,7 @@
 //! What the universal vectors detect.
 ghost use Rattle.ae_base.specs.Source.{Source};
 ghost use Rattle.ae_net.specs.Names.{Names};
-ghost use Rattle.cascade.specs.Reddy.{reddy_net};
-ghost use Rattle.cascade.specs.Shows.{CanBuild};
+ghost use Rattle.cascade.specs.Shows.{CanBuild, reddy_net};
 ghost use Rattle.expansion.specs.Functions.{AreExpansions};
 ghost use Rattle.expansion.specs.Terms.{Terms, used_inputs};
 ghost use Rattle.universal_tests.specs.Odd.{IsHeldOddly, IsUsedNotEven, DetectsLiterals};

@@ -3,24 +3,33 @@ use Rattle.std.proofs.Common.{◌≡◌, false, [], ◌∷◌, codes, refl}
 use Rattle.std.specs.Prelude.{Ok, Err}
 use Rattle.ae_lex.specs.Words.{word_lines, last_line}
 use Rattle.ae_base.specs.Mask.{with, empty}
-use Rattle.vec_text.specs.declared.fault.VecFault.TheVariants.{NoHead, BadNames, OutOfOrder}
-use Rattle.vec_text.specs.declared.file.Form.TheVariants.{Factored}
+use Rattle.vec_text.specs.declared.fault.VecFault.TheVariants.{NoHead, BadNames, OutOfOrder, NoEnd}
+use Rattle.ae_base.specs.declared.form.Form.TheVariants.{Factored}
 use Rattle.vec_text.specs.declared.file.PlaceName.TheVariants.{Stem}
 use Rattle.vec_text.specs.declared.file.Shown.TheVariants.{Tree}
-use Rattle.vec_text.specs.declared.file.Step.TheVariants.{L}
-use Rattle.vec_text.specs.Words.{are_names, value, is_count, are_bits, ones, is_cube, cube_said, is_tree, shown_said}
-use Rattle.vec_text.specs.Says.{seen, faults, file_of, lines_say, vec_says}
+use Rattle.ae_base.specs.declared.step.Step.TheVariants.{L}
+use Rattle.ae_base.specs.Digits.{value, is_number, are_bits, ones, cube_said}
+use Rattle.vec_text.specs.Words.{are_names, is_cube, is_tree, shown_said}
+use Rattle.vec_text.specs.Says.{line_faults, file_of, vec_says}
 
 no_text : vec_says (codes "# nothing\n") ≡ Err (1, NoHead)
-unfolding vec_says word_lines last_line
+unfolding vec_says word_lines last_line line_faults file_of
 no_text = refl
 
 no_control : vec_says (codes "andexor-vectors 1\nform reddy\ninputs a\n") ≡ Err (3, BadNames)
-unfolding vec_says word_lines last_line lines_say seen faults are_names
+unfolding vec_says word_lines last_line line_faults file_of are_names
 no_control = refl
 
+end_first : vec_says (codes "end\nform x") ≡ Err (1, NoHead)
+unfolding vec_says word_lines last_line line_faults file_of
+end_first = refl
+
+no_end : vec_says (codes "andexor-vectors 1\nform reddy\n\n") ≡ Err (3, NoEnd)
+unfolding vec_says word_lines last_line line_faults file_of
+no_end = refl
+
 early_end : vec_says (codes "andexor-vectors 1\nform reddy\nend\nform x\n") ≡ Err (3, OutOfOrder)
-unfolding vec_says word_lines last_line lines_say seen faults
+unfolding vec_says word_lines last_line line_faults file_of
 early_end = refl
 
 -- an input that its output shows
@@ -34,5 +43,5 @@ one_input : vec_says (codes "andexor-vectors 1\nform factored\ninputs a\noutputs
       vectors = record { point = 1; outs = 1 } ∷ [];
       unchanged = record { place = Stem (codes "a"); value = false; shown = Tree (L ∷ []) } ∷ [];
     })
-unfolding vec_says word_lines last_line lines_say seen faults file_of are_names value is_count are_bits ones is_cube cube_said is_tree shown_said with empty
+unfolding vec_says word_lines last_line line_faults file_of are_names value is_number are_bits ones is_cube cube_said is_tree shown_said with empty
 one_input = refl

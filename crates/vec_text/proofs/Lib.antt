@@ -1,12 +1,9 @@
-pub mod Examples
+mod Examples
 pub mod Found
-pub mod Places
+pub mod Named
 pub mod Said
-pub mod Reading
 pub mod Soundness
-pub mod States
 pub mod Steps
-pub mod WordLists
 pub mod Written
 pub mod WrittenAgain
 pub mod WrittenLines

@@ -1,95 +1,44 @@
--- What lines without a fault say stays sound with one more.
-use Rattle.std.proofs.Common.{◌≡◌, ◌≢◌, ℕ, suc, ◌-◌, ◌<◌, ◌≤◌, Bool, true, false, not, ◌&&◌, ◌||◌, eqb, ltb, leb, cond, List, [], ◌∷◌, ◌++◌, length, drop, map, codes, Option, Some, None, All, refl, sym, ap, subst, ◌∙◌, inl, inr, arith}
-use Rattle.std.specs.Prelude.{is_some}
-use Rattle.std.specs.List.{AllPairs, list_all}
+-- What lines without a fault say stays sound with one more, and is a valid file where they are whole.
+use Rattle.std.proofs.Common.{◌≡◌, ◌≢◌, ℕ, suc, ◌-◌, ◌<◌, ◌≤◌, Bool, true, false, not, ◌&&◌, ◌||◌, eqb, ltb, leb, cond, List, [], ◌∷◌, ◌++◌, length, map, codes, None, All, refl, sym, ap, subst, ◌∙◌, inl, inr, arith}
+use Rattle.std.specs.List.{AllByRecursion, list_all}
 use Rattle.std.specs.Str.{bytes_eq}
-use Rattle.std.proofs.lemmas.Bool.{and_from, and_parts, or_parts, eqb-true, eqb-false, leb-true, le-leb, ltb-true, lt-ltb, cases_Bool, false≢true}
+use Rattle.std.proofs.lemmas.Bool.{and_from, and_parts, or_parts, eqb-true, eqb-false, leb-true, le-leb, ltb-true, cases_Bool, false≢true}
 use Rattle.std.proofs.lemmas.List.{length-map}
-use Rattle.std.proofs.lemmas.List.Elements.{All-nil, All-append, All-cons, All-push}
-use Rattle.std.proofs.lemmas.List.Kept.{AllPairs-cons}
-use Rattle.std.proofs.lemmas.List.Sums.{AllPass-from_list_all}
-use Rattle.std.proofs.lemmas.Slice.Eq.{bytes_eq-Decides}
-use Rattle.ae_base.specs.declared.limits.TheConstants.{WRITTEN_LINES, PINS}
-use Rattle.ae_base.specs.Cube.{Signs, IsOver}
-use Rattle.ae_base.specs.Mask.{first}
+use Rattle.std.proofs.lemmas.List.Elements.{All-nil, All-append, All-push}
+use Rattle.ae_base.specs.declared.limits.TheConstants.{PINS}
+use Rattle.ae_base.specs.Digits.{value, is_number, is_bit, is_literal, are_bits, ones}
+use Rattle.ae_base.specs.Form.{features_of}
 use Rattle.ae_base.specs.Name.{is_name}
 use Rattle.ae_base.specs.Terms.{IsPoint}
-use Rattle.ae_base.proofs.Sets.{has-first, has-inside}
+use Rattle.ae_base.specs.Twins.{has_twins, share}
+use Rattle.ae_base.proofs.Apart.{distinct_of, distinct_append}
+use Rattle.ae_base.proofs.Heads.{by_heads}
+use Rattle.ae_base.proofs.ReadBack.{bits_point, cube_over, places_within}
 use Rattle.ae_lex.specs.First.{first_of}
-use Rattle.vec_text.specs.declared.fault.VecFault.{VecFault}
-use Rattle.vec_text.specs.declared.fault.VecFault.TheVariants.{OutOfOrder, BadNames, NameTwice, BadBits, BadNumber, BadPlace, BadEvidence}
-use Rattle.vec_text.specs.declared.file.Form.{Form}
-use Rattle.vec_text.specs.declared.file.Form.TheVariants.{Reddy, Factored}
+use Rattle.ae_lex.specs.Heads.{Word, word, heads}
+use Rattle.vec_text.specs.declared.fault.VecFault.TheVariants.{OutOfOrder, BadForm, BadNames, NameTwice, BadBits, BadNumber, BadPlace, BadEvidence}
 use Rattle.vec_text.specs.declared.file.Vector.{Vector}
 use Rattle.vec_text.specs.declared.file.EsopLine.{EsopLine}
 use Rattle.vec_text.specs.declared.file.Idle.{Idle}
 use Rattle.vec_text.specs.declared.file.PlaceName.TheVariants.{Stem, Port}
 use Rattle.vec_text.specs.declared.file.Shown.TheVariants.{Tree, Wide}
-use Rattle.vec_text.specs.VectorFile.{IsValidVectorFile, IsCubeOf, IsIdle, inputs_over, is_place, is_shown}
-use Rattle.vec_text.specs.Words.{Word, word, heads, are_names, has_twins, share, is_among, is_count, are_bits, ones, is_cube, cube_said, is_polarity, is_vector, vector_said, esop_said, is_site, is_pin, is_named, is_numbered, is_placed, site, place_said, is_tree, is_step, tree_at, shown_said, step_said, idle_said, value, value_at, is_value}
-use Rattle.vec_text.specs.Says.{Seen, seen, faults, is_reddy, is_factored, has_front, file_of, inputs_of, outputs_of}
-use Rattle.vec_text.specs.Step.{with_line}
-use Rattle.vec_text.specs.Sound.{AreLabels, sound_by, IsSound}
+use Rattle.vec_text.specs.VectorFile.{VectorFile, IsValidVectorFile, IsCubeOf, IsIdle, is_place, is_shown}
+use Rattle.vec_text.specs.Words.{is_form, are_names, is_count, is_cube, is_polarity, is_vector, vector_said, esop_said, is_numbered, is_placed, place_said, is_tree, tree_at, shown_said, step_said, idle_said}
+use Rattle.vec_text.specs.Says.{line_faults, file_of}
+use Rattle.vec_text.specs.Seen.{Seen, seen, faults_in, with_line, idle_faults}
+use Rattle.vec_text.specs.Sound.{AreInputs, IsFrontAlone, IsSound}
 use Rattle.vec_text.proofs.Found.{none_first}
-use Rattle.vec_text.proofs.Places.{apart, among}
-use Rattle.vec_text.proofs.States.{at, file}
-use Rattle.vec_text.proofs.Steps.{other}
+use Rattle.vec_text.proofs.Named.{labels}
 
--- ---- names
+unnot : (b : Bool) → not b ≡ false → b ≡ true
+unnot true h = refl
+unnot false h = absurd (false≢true (sym h))
 
--- a name that is none of these differs from each
-apart_of : (name : Word) (names : List Word) → is_among name names ≡ false → All (λ other. name ≢ other) names
-apart_of name [] h = λ k d lt. absurd (omega arith)
-apart_of name (x ∷ xs) h =
-    let parts = or_parts (bytes_eq name x) (is_among name xs) h in
-    All-cons (λ other. name ≢ other) x xs (λ e. let same : bytes_eq name x ≡ true = (bytes_eq-Decides name x).1 e in cc) (apart_of name xs parts.1)
+-- what a condition that does not hold tells of the stage
+at_stage : (k j : ℕ) → not (eqb k j) ≡ false → k ≡ j
+at_stage k j h = eqb-true k j (unnot (eqb k j) h)
 
-distinct_of : (names : List Word) → has_twins names ≡ false → AllPairs (λ a b. a ≢ b) names
-distinct_of [] h = λ i j d lt within. absurd (omega arith)
-distinct_of (x ∷ xs) h =
-    let parts = or_parts (is_among x xs) (has_twins xs) h in
-    AllPairs-cons (λ a b. a ≢ b) x xs (apart_of x xs parts.0) (distinct_of xs parts.1)
-
--- each of the others differs from each of the names
-each_apart : (names others : List Word) → share names others ≡ false → All (λ other. All (λ name. other ≢ name) names) others
-each_apart names [] h = All-nil _
-each_apart names (x ∷ xs) h =
-    let parts = or_parts (is_among x names) (share names xs) h in
-    All-cons (λ other. All (λ name. other ≢ name) names) x xs (apart_of x names parts.0) (each_apart names xs parts.1)
-
--- two lists of different names that share none
-distinct_append : (names others : List Word) → AllPairs (λ a b. a ≢ b) names → AllPairs (λ a b. a ≢ b) others → All (λ other. All (λ name. other ≢ name) names) others → AllPairs (λ a b. a ≢ b) (names ++ others)
-distinct_append [] others h k s = k
-distinct_append (x ∷ xs) others h k s =
-    let head : All (λ other. x ≢ other) xs = λ j d lt. h 0 (suc j) d (omega arith) (omega arith) in
-    let tail : AllPairs (λ a b. a ≢ b) xs = λ i j d lt within. h (suc i) (suc j) d (omega arith) (omega arith) in
-    let from_all : All (λ other. x ≢ other) others = λ j d lt e. s j d lt 0 d (omega arith) (sym e) in
-    let rest : All (λ other. All (λ name. other ≢ name) xs) others = λ j d lt i e m. s j d lt (suc i) e (omega arith) in
-    AllPairs-cons (λ a b. a ≢ b) x (xs ++ others) (All-append (λ other. x ≢ other) xs others head from_all) (distinct_append xs others tail k rest)
-
-labels : (names : List Word) → are_names names ≡ true → AreLabels names
-unfolding are_names
-labels names h =
-    let outer = and_parts (leb 1 (length names) && leb (length names) WRITTEN_LINES) (list_all is_name names) h in
-    let counted = and_parts (leb 1 (length names)) (leb (length names) WRITTEN_LINES) outer.0 in
-    record { named = AllPass-from_list_all is_name names outer.1; some = leb-true _ _ counted.0; few = leb-true _ _ counted.1 }
-
--- ---- digits
-
-point : (n : ℕ) (w : Word) → are_bits n w ≡ true → IsPoint n (ones w)
-unfolding are_bits ones
-point n w h =
-    let long : length w ≡ n = eqb-true _ _ (and_parts (eqb (length w) n) _ h).0 in
-    has-inside (ones w) (first n) (λ k m. has-first n k ∙ lt-ltb k n (omega (arith, long, among 49 w k m)))
-
-cube_over : (n : ℕ) (w : Word) → is_cube n w ≡ true → IsOver n (cube_said w)
-unfolding is_cube cube_said
-cube_over n w h =
-    let long : length w ≡ n = eqb-true _ _ (and_parts (eqb (length w) n) _ h).0 in (
-      λ j m. apart w j m,
-      has-inside _ (first n) (λ k m. has-first n k ∙ lt-ltb k n (omega (arith, long, among 49 w k m))),
-      has-inside _ (first n) (λ k m. has-first n k ∙ lt-ltb k n (omega (arith, long, among 48 w k m))),
-    )
+-- ---- numbers, digits and undetectable faults
 
 -- a number from 1 to a limit
 record IsCount (limit k : ℕ) : Type 0 where
@@ -97,335 +46,267 @@ record IsCount (limit k : ℕ) : Type 0 where
   few : k ≤ limit
 
 count : (limit : ℕ) (w : Word) → is_count limit w ≡ true → IsCount limit (value w)
-unfolding is_count
+unfolding is_number
 count limit w h =
-    let outer = and_parts _ (leb (value w) limit) h in
+    let outer = and_parts (is_number w) (leb (value w) limit) h in
     let inner = and_parts _ (ltb 0 (value w)) outer.0 in
     record { some = ltb-true _ _ inner.1; few = leb-true _ _ outer.1 }
 
-unnot : (b : Bool) → not b ≡ false → b ≡ true
-unnot true h = refl
-unnot false h = absurd (false≢true (sym h))
+-- a word of n bytes
+long_bits : (n : ℕ) (w : Word) → are_bits n w ≡ true → length w ≡ n
+unfolding are_bits
+long_bits n w h = eqb-true _ _ (and_parts (eqb (length w) n) (list_all is_bit w) h).0
 
--- ---- undetectable faults
+point : (n : ℕ) (w : Word) → are_bits n w ≡ true → IsPoint n (ones w)
+point n w h = bits_point n w (omega (arith, long_bits n w h))
 
-site_named : (s : List Word) → is_site s ≡ true → is_pin s ≡ false → is_name (word s 1) ≡ true
-site_named s h e = (and_parts _ (is_name (word s 1)) (only (is_named s) (is_pin s) h e)).1
-  where
-    only : (a b : Bool) → (a || b) ≡ true → b ≡ false → a ≡ true
-    only true b h e = refl
-    only false b h e = absurd (false≢true (sym e ∙ h))
+is_cube_of : (n m : ℕ) (words : List Word) → is_count m (word words 0) ≡ true → is_cube n (word words 1) ≡ true → IsCubeOf n m (esop_said words)
+unfolding is_cube
+is_cube_of n m words c h =
+    let k = count m (word words 0) c in
+    let long = eqb-true _ _ (and_parts (eqb (length (word words 1)) n) (list_all is_literal (word words 1)) h).0 in
+    record { output = omega (arith, k.some, k.few); cube = cube_over n (word words 1) (omega (arith, long)) }
 
-place_is : (s : List Word) → is_site s ≡ true → is_numbered s ≡ true → is_place (place_said s) ≡ true
-place_is s h n = elim (cases_Bool (is_pin s)) [ inl e ↦ pin e | inr e ↦ rw e (named e (heads (codes "stem") s)) ]
-  where
-    pin : is_pin s ≡ true → is_place (place_said s) ≡ true
-    pin e =
-        let number : is_count PINS (word s 2) ≡ true = counted (is_pin s) (is_count PINS (word s 2)) e n in
-        let k = count PINS (word s 2) number in
-        rw e (and_from _ _ (and_from _ _ (and_parts _ (is_name (word s 1)) e).1 (le-leb 1 (value (word s 2)) (omega (arith, k.some)))) (le-leb (value (word s 2)) PINS k.few))
-      where
-        counted : (a b : Bool) → a ≡ true → (not a || b) ≡ true → b ≡ true
-        counted true b e h = h
-        counted false b e h = absurd (false≢true e)
-
-    named : is_pin s ≡ false → (stem : Bool) → is_place (cond stem (Stem (word s 1)) (Port (word s 1))) ≡ true
-    named e true = site_named s h e
-    named e false = site_named s h e
-
-shown_is : (w : Word) → is_tree w ≡ true → is_shown (shown_said w) ≡ true
+is_idle : (words : List Word) → is_placed words ≡ true → is_numbered words ≡ true → is_tree (tree_at words) ≡ true → IsIdle (idle_said words)
 unfolding is_tree shown_said
-shown_is w h = by_wide (bytes_eq w (codes "wide")) h
+is_idle words p n t = record { place = place; shown = shown (bytes_eq (tree_at words) (codes "wide")) t }
   where
-    by_wide : (b : Bool) → (b || (not (eqb (length w) 0) && list_all is_step w)) ≡ true → is_shown (cond b Wide (Tree (map step_said w))) ≡ true
-    by_wide true h = refl
-    by_wide false h = ap (λ n. not (eqb n 0)) (length-map w step_said) ∙ (and_parts (not (eqb (length w) 0)) (list_all is_step w) h).0
+    named : is_name (word words 1) ≡ true
+    named = (and_parts _ (is_name (word words 1)) (and_parts _ _ p).0).1
 
--- ---- one more line
+    -- the number of a pin
+    counted : (b c : Bool) → b ≡ true → (not b || c) ≡ true → c ≡ true
+    counted true c e h = h
+    counted false c e h = absurd (false≢true e)
 
--- what is claimed of one more line
-abbrev Keeps : Option Form → Option (List Word) → Option (List Word) → Option Signs → List EsopLine → List Vector → List Idle → List Word → Type 0
-Keeps f i o p es vs us line = first_of (faults (at f i o p es vs us) line) ≡ None → sound_by f i o p es vs us → IsSound (with_line (at f i o p es vs us) line)
+    by_stem : (b : Bool) → is_place (cond b (Stem (word words 1)) (Port (word words 1))) ≡ true
+    by_stem true = named
+    by_stem false = named
 
-late : Some OutOfOrder ≡ None → ⊥
-late h = cc
-
-keeps_form : (f : Option Form) (i o : Option (List Word)) (p : Option Signs) (es : List EsopLine) (vs : List Vector) (us : List Idle) (line : List Word) → heads (codes "form") line ≡ true → Keeps f i o p es vs us line
-unfolding faults with_line IsSound
-keeps_form None None None None es vs us line h n s = rw h s
-keeps_form (Some f) i o p es vs us line h n s = absurd (late (rw h at n))
-keeps_form None (Some i) o p es vs us line h n s = absurd s
-keeps_form None None (Some o) p es vs us line h n s = absurd s
-keeps_form None None None (Some p) es vs us line h n s = absurd s
-
-control : (form : Form) (words : List Word) → (is_reddy (Some form) && eqb (length words) 1) ≡ false → 1 ≤ length words → form ≡ Reddy → 2 ≤ length words
-control Reddy words h some e = let more : length words ≢ 1 = eqb-false _ _ h in omega (arith, more)
-control Factored words h some e = absurd cc
-
-keeps_inputs : (f : Option Form) (i o : Option (List Word)) (p : Option Signs) (es : List EsopLine) (vs : List Vector) (us : List Idle) (line : List Word) → heads (codes "inputs") line ≡ true → Keeps f i o p es vs us line
-unfolding faults with_line IsSound
-keeps_inputs (Some form) None None None es vs us line h n s =
-    let words = drop 1 line in
-    let m = rw (other (codes "inputs") (codes "form") line h refl, h) at n in
-    let one = none_first (not (are_names words) || is_reddy (Some form) && eqb (length words) 1) BadNames ((has_twins words, NameTwice) ∷ []) m in
-    let two = none_first (has_twins words) NameTwice [] one.1 in
-    let names = or_parts (not (are_names words)) (is_reddy (Some form) && eqb (length words) 1) one.0 in
-    let are = labels words (unnot _ names.0) in
-    rw (other (codes "inputs") (codes "form") line h refl, h) (s, record { labels = are; control = control form words names.1 are.some }, distinct_of words two.0)
-keeps_inputs None i o p es vs us line h n s = absurd (late (rw (other (codes "inputs") (codes "form") line h refl, h) at n))
-keeps_inputs (Some f) (Some i) o p es vs us line h n s = absurd (late (rw (other (codes "inputs") (codes "form") line h refl, h) at n))
-keeps_inputs (Some f) None (Some o) p es vs us line h n s = absurd s
-keeps_inputs (Some f) None None (Some p) es vs us line h n s = absurd s
-
-keeps_outputs : (f : Option Form) (i o : Option (List Word)) (p : Option Signs) (es : List EsopLine) (vs : List Vector) (us : List Idle) (line : List Word) → heads (codes "outputs") line ≡ true → Keeps f i o p es vs us line
-unfolding faults with_line IsSound
-keeps_outputs (Some form) (Some i) None None es vs us line h n s =
-    let words = drop 1 line in
-    let m = rw (other (codes "outputs") (codes "form") line h refl, other (codes "outputs") (codes "inputs") line h refl, h) at n in
-    let one = none_first (not (are_names words)) BadNames ((has_twins words || share i words, NameTwice) ∷ []) m in
-    let two = none_first (has_twins words || share i words) NameTwice [] one.1 in
-    let twice = or_parts (has_twins words) (share i words) two.0 in
-    rw (other (codes "outputs") (codes "form") line h refl, other (codes "outputs") (codes "inputs") line h refl, h)
-    (s.0, s.1, labels words (unnot _ one.0), distinct_append i words s.2 (distinct_of words twice.0) (each_apart i words twice.1))
-keeps_outputs f None o p es vs us line h n s = absurd (late (rw (other (codes "outputs") (codes "form") line h refl, other (codes "outputs") (codes "inputs") line h refl, h) at n))
-keeps_outputs f (Some i) (Some o) p es vs us line h n s = absurd (late (rw (other (codes "outputs") (codes "form") line h refl, other (codes "outputs") (codes "inputs") line h refl, h) at n))
-keeps_outputs None (Some i) None p es vs us line h n s = absurd s
-keeps_outputs (Some f) (Some i) None (Some p) es vs us line h n s = absurd s
-
--- the number of the source's inputs
-record AreSource (form : Form) (k n : ℕ) : Type 0 where
-  some : 0 < n
-  over : k ≡ inputs_over form n
-  within : n ≤ k
-
-source_of : (form : Form) (k : ℕ) → (form ≡ Reddy → 2 ≤ k) → 1 ≤ k → AreSource form k (cond (is_reddy (Some form)) (k - 1) k)
-source_of Reddy k two some = let more : 2 ≤ k = two refl in record { some = omega arith; over = omega arith; within = omega arith }
-source_of Factored k two some = record { some = omega arith; over = refl; within = omega arith }
-
-keeps_polarity : (f : Option Form) (i o : Option (List Word)) (p : Option Signs) (es : List EsopLine) (vs : List Vector) (us : List Idle) (line : List Word) → heads (codes "polarity") line ≡ true → Keeps f i o p es vs us line
-unfolding faults with_line IsSound are_bits ones
-keeps_polarity (Some form) (Some i) (Some o) None es vs us line h n s =
-    let words = drop 1 line in
-    let w = word words 0 in
-    let m = rw (other (codes "polarity") (codes "form") line h refl, other (codes "polarity") (codes "inputs") line h refl, other (codes "polarity") (codes "outputs") line h refl, h) at n in
-    let size = cond (is_reddy (Some form)) (length i - 1) (length i) in
-    let bits : is_polarity size words ≡ true = unnot (is_polarity size words) (none_first (not (is_polarity size words)) BadBits [] m).0 in
-    let long : length w ≡ size = eqb-true _ _ (and_parts (eqb (length w) size) _ (and_parts (eqb (length words) 1) _ bits).1).0 in
-    let source : AreSource form (length i) (length w) = subst (AreSource form (length i)) (sym long) (source_of form (length i) s.1.control s.1.labels.some) in
-    rw (other (codes "polarity") (codes "form") line h refl, other (codes "polarity") (codes "inputs") line h refl, other (codes "polarity") (codes "outputs") line h refl, h)
-    (record {
-      some_input = source.some;
-      signs = (omega (arith, source.within, s.1.labels.few), λ j k. among 49 w j k);
-      polarity = source.over;
-      few_inputs = s.1.labels.few;
-      some_output = s.2.some;
-      few_outputs = s.2.few;
-      named = All-append (λ name. is_name name ≡ true) i o s.1.labels.named s.2.named;
-      distinct = s.3;
-      esop = subst (All (IsCubeOf (length i) (length o))) (sym s.0.no_esop) (All-nil _);
-      points = subst (All (λ (v : Vector). IsPoint (length i) v.point)) (sym s.0.no_vectors) (All-nil _);
-      responses = subst (All (λ (v : Vector). IsPoint (length o) v.outs)) (sym s.0.no_vectors) (All-nil _);
-      unchanged = subst (All IsIdle) (sym s.0.no_unchanged) (All-nil _);
-      reddy = λ e. (s.0.no_esop, s.0.no_unchanged);
-    })
-keeps_polarity f i None p es vs us line h n s =
-    absurd (late (rw (other (codes "polarity") (codes "form") line h refl, other (codes "polarity") (codes "inputs") line h refl, other (codes "polarity") (codes "outputs") line h refl, h) at n))
-keeps_polarity f i (Some o) (Some p) es vs us line h n s =
-    absurd (late (rw (other (codes "polarity") (codes "form") line h refl, other (codes "polarity") (codes "inputs") line h refl, other (codes "polarity") (codes "outputs") line h refl, h) at n))
-keeps_polarity None None (Some o) None es vs us line h n s = absurd s
-keeps_polarity None (Some i) (Some o) None es vs us line h n s = absurd s
-keeps_polarity (Some f) None (Some o) None es vs us line h n s = absurd s
-
--- ---- lines after the front
-
--- the whole front stands
-by_front : (C : Option Form → Option (List Word) → Option (List Word) → Option Signs → Type 0) → ((form : Form) (i o : List Word) (p : Signs) → C (Some form) (Some i) (Some o) (Some p))
-    → (f : Option Form) (i o : Option (List Word)) (p : Option Signs) → (is_some f && is_some i && is_some o && is_some p) ≡ true → C f i o p
-by_front C whole (Some f) (Some i) (Some o) (Some p) h = whole f i o p
-by_front C whole None i o p h = absurd (false≢true h)
-by_front C whole (Some f) None o p h = absurd (false≢true h)
-by_front C whole (Some f) (Some i) None p h = absurd (false≢true h)
-by_front C whole (Some f) (Some i) (Some o) None h = absurd (false≢true h)
-
--- a file of factored form is of no other
-not_reddy : (form : Form) → is_factored (Some form) ≡ true → form ≡ Reddy → ⊥
-not_reddy Reddy h e = false≢true h
-not_reddy Factored h e = cc
-
-more_esop : (form : Form) (i o : List Word) (p : Signs) (es : List EsopLine) (vs : List Vector) (us : List Idle) (e : EsopLine) → is_factored (Some form) ≡ true → IsCubeOf (length i) (length o) e
-    → IsValidVectorFile (file form i o p es vs us) → IsValidVectorFile (file form i o p (es ++ e ∷ []) vs us)
-more_esop form i o p es vs us e factored is v = record {
-  some_input = v.some_input;
-  signs = v.signs;
-  polarity = v.polarity;
-  few_inputs = v.few_inputs;
-  some_output = v.some_output;
-  few_outputs = v.few_outputs;
-  named = v.named;
-  distinct = v.distinct;
-  esop = All-push (IsCubeOf (length i) (length o)) es e v.esop is;
-  points = v.points;
-  responses = v.responses;
-  unchanged = v.unchanged;
-  reddy = λ r. absurd (not_reddy form factored r);
-}
-
-more_vectors : (form : Form) (i o : List Word) (p : Signs) (es : List EsopLine) (vs : List Vector) (us : List Idle) (x : Vector) → IsPoint (length i) x.point → IsPoint (length o) x.outs
-    → IsValidVectorFile (file form i o p es vs us) → IsValidVectorFile (file form i o p es (vs ++ x ∷ []) us)
-more_vectors form i o p es vs us x point outs v = record {
-  some_input = v.some_input;
-  signs = v.signs;
-  polarity = v.polarity;
-  few_inputs = v.few_inputs;
-  some_output = v.some_output;
-  few_outputs = v.few_outputs;
-  named = v.named;
-  distinct = v.distinct;
-  esop = v.esop;
-  points = All-push (λ (x : Vector). IsPoint (length i) x.point) vs x v.points point;
-  responses = All-push (λ (x : Vector). IsPoint (length o) x.outs) vs x v.responses outs;
-  unchanged = v.unchanged;
-  reddy = v.reddy;
-}
-
-more_unchanged : (form : Form) (i o : List Word) (p : Signs) (es : List EsopLine) (vs : List Vector) (us : List Idle) (x : Idle) → is_factored (Some form) ≡ true → IsIdle x
-    → IsValidVectorFile (file form i o p es vs us) → IsValidVectorFile (file form i o p es vs (us ++ x ∷ []))
-more_unchanged form i o p es vs us x factored is v = record {
-  some_input = v.some_input;
-  signs = v.signs;
-  polarity = v.polarity;
-  few_inputs = v.few_inputs;
-  some_output = v.some_output;
-  few_outputs = v.few_outputs;
-  named = v.named;
-  distinct = v.distinct;
-  esop = v.esop;
-  points = v.points;
-  responses = v.responses;
-  unchanged = All-push IsIdle us x v.unchanged is;
-  reddy = λ r. absurd (not_reddy form factored r);
-}
-
--- the conditions of the line of a cube
-abbrev esop_conditions : Bool → List Word → ℕ → ℕ → List (Bool × VecFault)
-esop_conditions stands words n m = (not stands, OutOfOrder) ∷ (not (eqb (length words) 2), BadBits) ∷ (not (is_count m (word words 0)), BadNumber) ∷ (not (is_cube n (word words 1)), BadBits) ∷ []
-
-is_cube_of : (stands : Bool) (words : List Word) (n m : ℕ) → first_of (esop_conditions stands words n m) ≡ None → (stands ≡ true) × IsCubeOf n m (esop_said words)
-is_cube_of stands words n m h =
-    let one = none_first (not stands) OutOfOrder ((not (eqb (length words) 2), BadBits) ∷ (not (is_count m (word words 0)), BadNumber) ∷ (not (is_cube n (word words 1)), BadBits) ∷ []) h in
-    let two = none_first (not (eqb (length words) 2)) BadBits ((not (is_count m (word words 0)), BadNumber) ∷ (not (is_cube n (word words 1)), BadBits) ∷ []) one.1 in
-    let three = none_first (not (is_count m (word words 0))) BadNumber ((not (is_cube n (word words 1)), BadBits) ∷ []) two.1 in
-    let four = none_first (not (is_cube n (word words 1))) BadBits [] three.1 in
-    let k = count m (word words 0) (unnot _ three.0) in
-    (unnot stands one.0, record { output = omega (arith, k.some, k.few); cube = cube_over n (word words 1) (unnot _ four.0) })
-
-keeps_esop : (f : Option Form) (i o : Option (List Word)) (p : Option Signs) (es : List EsopLine) (vs : List Vector) (us : List Idle) (line : List Word) → heads (codes "esop") line ≡ true → Keeps f i o p es vs us line
-unfolding faults with_line IsSound
-keeps_esop f i o p es vs us line h n s =
-    let words = drop 1 line in
-    let heads_other = other (codes "esop") in
-    let m = rw (heads_other (codes "form") line h refl, heads_other (codes "inputs") line h refl, heads_other (codes "outputs") line h refl, heads_other (codes "polarity") line h refl, h) at n in
-    let seen = at f i o p es vs us in
-    let found = is_cube_of (has_front seen && is_factored f && eqb (length vs) 0 && eqb (length us) 0) words (length (inputs_of seen)) (length (outputs_of seen)) m in
-    let stands = and_parts (has_front seen) (is_factored f) (and_parts _ (eqb (length vs) 0) (and_parts _ (eqb (length us) 0) found.0).0).0 in
-    rw (heads_other (codes "form") line h refl, heads_other (codes "inputs") line h refl, heads_other (codes "outputs") line h refl, heads_other (codes "polarity") line h refl, h)
-    (by_front
-    (λ (f : Option Form) (i o : Option (List Word)) (p : Option Signs). is_factored f ≡ true → IsCubeOf (length (inputs_of (at f i o p es vs us))) (length (outputs_of (at f i o p es vs us))) (esop_said words)
-    → sound_by f i o p es vs us → sound_by f i o p (es ++ esop_said words ∷ []) vs us)
-    (λ form i o p factored is v. more_esop form i o p es vs us (esop_said words) factored is v) f i o p stands.0 stands.1 found.1 s)
-
-keeps_vector : (f : Option Form) (i o : Option (List Word)) (p : Option Signs) (es : List EsopLine) (vs : List Vector) (us : List Idle) (line : List Word) → heads (codes "vector") line ≡ true → Keeps f i o p es vs us line
-unfolding faults with_line IsSound
-keeps_vector f i o p es vs us line h n s =
-    let words = drop 1 line in
-    let heads_other = other (codes "vector") in
-    let m = rw (heads_other (codes "form") line h refl, heads_other (codes "inputs") line h refl, heads_other (codes "outputs") line h refl, heads_other (codes "polarity") line h refl, heads_other (codes "esop") line h refl, h) at n in
-    let seen = at f i o p es vs us in
-    let a = length (inputs_of seen) in
-    let b = length (outputs_of seen) in
-    let one = none_first (not (has_front seen && eqb (length us) 0)) OutOfOrder ((not (is_vector a b words), BadBits) ∷ []) m in
-    let vector = unnot (is_vector a b words) (none_first (not (is_vector a b words)) BadBits [] one.1).0 in
-    let outs = and_parts (eqb (length words) 2 && are_bits a (word words 0)) (are_bits b (word words 1)) vector in
-    let ins = and_parts (eqb (length words) 2) (are_bits a (word words 0)) outs.0 in
-    rw (heads_other (codes "form") line h refl, heads_other (codes "inputs") line h refl, heads_other (codes "outputs") line h refl, heads_other (codes "polarity") line h refl, heads_other (codes "esop") line h refl, h)
-    (by_front
-    (λ (f : Option Form) (i o : Option (List Word)) (p : Option Signs). are_bits (length (inputs_of (at f i o p es vs us))) (word words 0) ≡ true → are_bits (length (outputs_of (at f i o p es vs us))) (word words 1) ≡ true
-    → sound_by f i o p es vs us → sound_by f i o p es (vs ++ vector_said words ∷ []) us)
-    (λ form i o p x y v. more_vectors form i o p es vs us (vector_said words) (point (length i) (word words 0) x) (point (length o) (word words 1) y) v) f i o p
-    (and_parts (has_front seen) (eqb (length us) 0) (unnot _ one.0)).0 ins.1 outs.1 s)
-
--- the conditions of the line of an undetectable fault
-is_idle : (stands : Bool) (words : List Word) → first_of ((not stands, OutOfOrder) ∷ (not (is_placed words), BadPlace) ∷ (not (is_numbered (site words)), BadNumber) ∷ (not (is_tree (tree_at words)), BadEvidence) ∷ []) ≡ None
-    → (stands ≡ true) × IsIdle (idle_said words)
-is_idle stands words h =
-    let one = none_first (not stands) OutOfOrder ((not (is_placed words), BadPlace) ∷ (not (is_numbered (site words)), BadNumber) ∷ (not (is_tree (tree_at words)), BadEvidence) ∷ []) h in
-    let two = none_first (not (is_placed words)) BadPlace ((not (is_numbered (site words)), BadNumber) ∷ (not (is_tree (tree_at words)), BadEvidence) ∷ []) one.1 in
-    let three = none_first (not (is_numbered (site words))) BadNumber ((not (is_tree (tree_at words)), BadEvidence) ∷ []) two.1 in
-    let four = none_first (not (is_tree (tree_at words))) BadEvidence [] three.1 in
-    let placed = and_parts (is_site (site words)) (is_value (value_at words)) (unnot _ two.0) in
-    (unnot stands one.0, record { place = place_is (site words) placed.0 (unnot _ three.0); shown = shown_is (tree_at words) (unnot _ four.0) })
-
-keeps_unchanged : (f : Option Form) (i o : Option (List Word)) (p : Option Signs) (es : List EsopLine) (vs : List Vector) (us : List Idle) (line : List Word) → heads (codes "unchanged") line ≡ true → Keeps f i o p es vs us line
-unfolding faults with_line IsSound
-keeps_unchanged f i o p es vs us line h n s =
-    let words = drop 1 line in
-    let heads_other = other (codes "unchanged") in
-    let m = rw (heads_other (codes "form") line h refl, heads_other (codes "inputs") line h refl, heads_other (codes "outputs") line h refl, heads_other (codes "polarity") line h refl, heads_other (codes "esop") line h refl, heads_other (codes "vector") line h refl, h) at n in
-    let seen = at f i o p es vs us in
-    let found = is_idle (has_front seen && is_factored f) words m in
-    let stands = and_parts (has_front seen) (is_factored f) found.0 in
-    rw (heads_other (codes "form") line h refl, heads_other (codes "inputs") line h refl, heads_other (codes "outputs") line h refl, heads_other (codes "polarity") line h refl, heads_other (codes "esop") line h refl, heads_other (codes "vector") line h refl, h)
-    (by_front (λ (f : Option Form) (i o : Option (List Word)) (p : Option Signs). is_factored f ≡ true → sound_by f i o p es vs us → sound_by f i o p es vs (us ++ idle_said words ∷ []))
-    (λ form i o p factored v. more_unchanged form i o p es vs us (idle_said words) factored found.1 v) f i o p stands.0 stands.1 s)
-
--- a line with none of these first words
-keeps_other : (f : Option Form) (i o : Option (List Word)) (p : Option Signs) (es : List EsopLine) (vs : List Vector) (us : List Idle) (line : List Word) → heads (codes "form") line ≡ false → heads (codes "inputs") line ≡ false
-    → heads (codes "outputs") line ≡ false → heads (codes "polarity") line ≡ false → heads (codes "esop") line ≡ false → heads (codes "vector") line ≡ false → heads (codes "unchanged") line ≡ false
-    → sound_by f i o p es vs us → IsSound (with_line (at f i o p es vs us) line)
-unfolding with_line IsSound
-keeps_other f i o p es vs us line a b c d x y z s = rw (a, b, c, d, x, y, z) s
-
-keeps : (f : Option Form) (i o : Option (List Word)) (p : Option Signs) (es : List EsopLine) (vs : List Vector) (us : List Idle) (line : List Word) → Keeps f i o p es vs us line
-keeps f i o p es vs us line n s =
-    elim (cases_Bool (heads (codes "form") line)) [
-      | inl a ↦ keeps_form f i o p es vs us line a n s
-      | inr a ↦ elim (cases_Bool (heads (codes "inputs") line)) [
-        | inl b ↦ keeps_inputs f i o p es vs us line b n s
-        | inr b ↦ elim (cases_Bool (heads (codes "outputs") line)) [
-          | inl c ↦ keeps_outputs f i o p es vs us line c n s
-          | inr c ↦ elim (cases_Bool (heads (codes "polarity") line)) [
-            | inl d ↦ keeps_polarity f i o p es vs us line d n s
-            | inr d ↦ elim (cases_Bool (heads (codes "esop") line)) [
-              | inl x ↦ keeps_esop f i o p es vs us line x n s
-              | inr x ↦ elim (cases_Bool (heads (codes "vector") line)) [
-                | inl y ↦ keeps_vector f i o p es vs us line y n s
-                | inr y ↦ elim (cases_Bool (heads (codes "unchanged") line)) [ inl z ↦ keeps_unchanged f i o p es vs us line z n s | inr z ↦ keeps_other f i o p es vs us line a b c d x y z s ]
-              ]
-            ]
-          ]
-        ]
-      ]
+    place : is_place (place_said words) ≡ true
+    place = elim (cases_Bool (heads (codes "pin") words)) [
+      | inl e ↦
+          let k = count PINS (word words 2) (counted (heads (codes "pin") words) (is_count PINS (word words 2)) e n) in
+          rw e (and_from _ _ (and_from _ _ named (le-leb 1 (value (word words 2)) (omega (arith, k.some)))) (le-leb (value (word words 2)) PINS k.few))
+      | inr f ↦ rw f (by_stem (heads (codes "stem") words))
     ]
 
+    shown : (b : Bool) → (b || (not (eqb (length (tree_at words)) 0) && list_all (λ c. eqb c 83 || eqb c 76) (tree_at words))) ≡ true → is_shown (cond b Wide (Tree (map step_said (tree_at words)))) ≡ true
+    shown true h = refl
+    shown false h = ap (λ n. not (eqb n 0)) (length-map (tree_at words) step_said) ∙ (and_parts (not (eqb (length (tree_at words)) 0)) (list_all (λ c. eqb c 83 || eqb c 76) (tree_at words)) h).0
+
+-- ---- a line of the front
+
+-- what is claimed of a line after the head
+abbrev Keeps : List Word → Type 0
+Keeps line = (s : Seen) → eqb s.stage 0 ≡ false → first_of (faults_in s line) ≡ None → IsSound s → IsSound (with_line s line)
+
+keeps_form : (ws : List Word) → Keeps (codes "form" ∷ ws)
+unfolding line_faults with_line
+keeps_form ws s later h v =
+    let one = none_first (not (eqb s.stage 1)) OutOfOrder ((not (is_form ws), BadForm) ∷ []) (rw later at h) in
+    let front : IsFrontAlone s.file = v.front (omega (arith, at_stage s.stage 1 one.0)) in
+    rw later (record {
+      front = λ lt. record { no_esop = front.no_esop; no_vectors = front.no_vectors; no_unchanged = front.no_unchanged };
+      inputs = λ le. absurd (omega (arith, le));
+      outputs = λ le. absurd (omega (arith, le));
+      whole = λ le. absurd (omega (arith, le));
+    })
+
+-- with a control there are two inputs
+two_inputs : (control : Bool) (words : List Word) → (control && eqb (length words) 1) ≡ false → 1 ≤ length words → control ≡ true → 2 ≤ length words
+two_inputs true words h some e = let more : length words ≢ 1 = eqb-false _ _ h in omega (arith, more)
+two_inputs false words h some e = absurd (false≢true e)
+
+keeps_inputs : (ws : List Word) → Keeps (codes "inputs" ∷ ws)
+unfolding line_faults with_line
+keeps_inputs ws s later h v =
+    let control = (features_of s.file.form).control in
+    let one = none_first (not (eqb s.stage 2)) OutOfOrder ((not (are_names ws) || control && eqb (length ws) 1, BadNames) ∷ (has_twins ws, NameTwice) ∷ []) (rw later at h) in
+    let two = none_first (not (are_names ws) || control && eqb (length ws) 1) BadNames ((has_twins ws, NameTwice) ∷ []) one.1 in
+    let three = none_first (has_twins ws) NameTwice [] two.1 in
+    let names = or_parts (not (are_names ws)) (control && eqb (length ws) 1) two.0 in
+    let are = (labels ws (unnot _ names.0)).1 in
+    let front : IsFrontAlone s.file = v.front (omega (arith, at_stage s.stage 2 one.0)) in
+    rw later (record {
+      front = λ lt. record { no_esop = front.no_esop; no_vectors = front.no_vectors; no_unchanged = front.no_unchanged };
+      inputs = λ le. record { labels = are; control = two_inputs control ws names.1 are.some; distinct = distinct_of ws three.0 };
+      outputs = λ le. absurd (omega (arith, le));
+      whole = λ le. absurd (omega (arith, le));
+    })
+
+keeps_outputs : (ws : List Word) → Keeps (codes "outputs" ∷ ws)
+unfolding line_faults with_line
+keeps_outputs ws s later h v =
+    let one = none_first (not (eqb s.stage 3)) OutOfOrder ((not (are_names ws), BadNames) ∷ (has_twins ws || share s.file.inputs ws, NameTwice) ∷ []) (rw later at h) in
+    let two = none_first (not (are_names ws)) BadNames ((has_twins ws || share s.file.inputs ws, NameTwice) ∷ []) one.1 in
+    let twice = or_parts (has_twins ws) (share s.file.inputs ws) (none_first (has_twins ws || share s.file.inputs ws) NameTwice [] two.1).0 in
+    let stage : s.stage ≡ 3 = at_stage s.stage 3 one.0 in
+    let front : IsFrontAlone s.file = v.front (omega (arith, stage)) in
+    let inputs : AreInputs s.file.form s.file.inputs = v.inputs (omega (arith, stage)) in
+    rw later (record {
+      front = λ lt. record { no_esop = front.no_esop; no_vectors = front.no_vectors; no_unchanged = front.no_unchanged };
+      inputs = λ le. inputs;
+      outputs = λ le. ((labels ws (unnot _ two.0)).1, distinct_append s.file.inputs ws inputs.distinct (distinct_of ws twice.0) twice.1);
+      whole = λ le. absurd (omega (arith, le));
+    })
+
+-- the number of the source's inputs
+record AreSource (control : Bool) (k n : ℕ) : Type 0 where
+  some : 0 < n
+  over : k ≡ cond control (suc n) n
+  within : n ≤ k
+
+source_of : (control : Bool) (k : ℕ) → (control ≡ true → 2 ≤ k) → 1 ≤ k → AreSource control k (cond control (k - 1) k)
+source_of true k two some = let more : 2 ≤ k = two refl in record { some = omega arith; over = omega arith; within = omega arith }
+source_of false k two some = record { some = omega arith; over = refl; within = omega arith }
+
+keeps_polarity : (ws : List Word) → Keeps (codes "polarity" ∷ ws)
+unfolding line_faults with_line ones
+keeps_polarity ws s later h v =
+    let control = (features_of s.file.form).control in
+    let i = s.file.inputs in
+    let o = s.file.outputs in
+    let w = word ws 0 in
+    let size = cond control (length i - 1) (length i) in
+    let one = none_first (not (eqb s.stage 4)) OutOfOrder ((not (is_polarity size ws), BadBits) ∷ []) (rw later at h) in
+    let bits : is_polarity size ws ≡ true = unnot (is_polarity size ws) (none_first (not (is_polarity size ws)) BadBits [] one.1).0 in
+    let long : length w ≡ size = long_bits size w (and_parts (eqb (length ws) 1) (are_bits size w) bits).1 in
+    let stage : s.stage ≡ 4 = at_stage s.stage 4 one.0 in
+    let front : IsFrontAlone s.file = v.front (omega (arith, stage)) in
+    let inputs : AreInputs s.file.form i = v.inputs (omega (arith, stage)) in
+    let outputs = v.outputs (omega (arith, stage)) in
+    let source : AreSource control (length i) (length w) = subst (AreSource control (length i)) (sym long) (source_of control (length i) inputs.control inputs.labels.some) in
+    rw later (record {
+      front = λ lt. absurd (omega (arith, lt));
+      inputs = λ le. inputs;
+      outputs = λ le. outputs;
+      whole = λ le. record {
+        some_input = source.some;
+        signs = (omega (arith, source.within, inputs.labels.few), λ j k. places_within 49 w j k);
+        polarity = source.over;
+        few_inputs = inputs.labels.few;
+        some_output = outputs.0.some;
+        few_outputs = outputs.0.few;
+        named = All-append (λ name. is_name name ≡ true) i o inputs.labels.named outputs.0.named;
+        distinct = outputs.1;
+        esop = subst (All (IsCubeOf (length i) (length o))) (sym front.no_esop) (All-nil _);
+        points = subst (All (λ (x : Vector). IsPoint (length i) x.point)) (sym front.no_vectors) (All-nil _);
+        responses = subst (All (λ (x : Vector). IsPoint (length o) x.outs)) (sym front.no_vectors) (All-nil _);
+        unchanged = subst (All IsIdle) (sym front.no_unchanged) (All-nil _);
+        no_cubes = λ e. front.no_esop;
+        none_listed = λ e. front.no_unchanged;
+      };
+    })
+
+-- ---- a line after those
+
+-- a sound front, with other lists that make a valid file
+listed : (s : Seen) (es : List EsopLine) (vs : List Vector) (us : List Idle) → leb 5 s.stage ≡ true → IsSound s → (IsValidVectorFile s.file → IsValidVectorFile (record s.file { esop = es; vectors = vs; unchanged = us }))
+    → IsSound (record s { file = record s.file { esop = es; vectors = vs; unchanged = us } })
+listed s es vs us front v more =
+    let le : 5 ≤ s.stage = leb-true 5 s.stage front in
+    record {
+      front = λ lt. absurd (omega (arith, lt, le));
+      inputs = v.inputs;
+      outputs = v.outputs;
+      whole = λ all. more (v.whole all);
+    }
+
+-- a valid file with other lists that keep the rules
+with_lists : (f : VectorFile) (es : List EsopLine) (vs : List Vector) (us : List Idle) → All (IsCubeOf (length f.inputs) (length f.outputs)) es → All (λ (x : Vector). IsPoint (length f.inputs) x.point) vs
+    → All (λ (x : Vector). IsPoint (length f.outputs) x.outs) vs → All IsIdle us → ((features_of f.form).cubes ≡ false → es ≡ []) → ((features_of f.form).undetectable ≡ false → us ≡ [])
+    → IsValidVectorFile f → IsValidVectorFile (record f { esop = es; vectors = vs; unchanged = us })
+with_lists f es vs us cubes points outs idle none_c none_u v = record {
+  some_input = v.some_input;
+  signs = v.signs;
+  polarity = v.polarity;
+  few_inputs = v.few_inputs;
+  some_output = v.some_output;
+  few_outputs = v.few_outputs;
+  named = v.named;
+  distinct = v.distinct;
+  esop = cubes;
+  points = points;
+  responses = outs;
+  unchanged = idle;
+  no_cubes = none_c;
+  none_listed = none_u;
+}
+
+keeps_esop : (ws : List Word) → Keeps (codes "esop" ∷ ws)
+unfolding line_faults with_line
+keeps_esop ws s later h v =
+    let f = s.file in
+    let n = length f.inputs in
+    let m = length f.outputs in
+    let cubes = (features_of f.form).cubes in
+    let stands = leb 5 s.stage && cubes && eqb (length f.vectors) 0 && eqb (length f.unchanged) 0 in
+    let one = none_first (not stands) OutOfOrder ((not (eqb (length ws) 2), BadBits) ∷ (not (is_count m (word ws 0)), BadNumber) ∷ (not (is_cube n (word ws 1)), BadBits) ∷ []) (rw later at h) in
+    let two = none_first (not (eqb (length ws) 2)) BadBits ((not (is_count m (word ws 0)), BadNumber) ∷ (not (is_cube n (word ws 1)), BadBits) ∷ []) one.1 in
+    let three = none_first (not (is_count m (word ws 0))) BadNumber ((not (is_cube n (word ws 1)), BadBits) ∷ []) two.1 in
+    let four = none_first (not (is_cube n (word ws 1))) BadBits [] three.1 in
+    let parts = and_parts (leb 5 s.stage) cubes (and_parts (leb 5 s.stage && cubes) (eqb (length f.vectors) 0) (and_parts _ (eqb (length f.unchanged) 0) (unnot stands one.0)).0).0 in
+    rw later (listed s (f.esop ++ esop_said ws ∷ []) f.vectors f.unchanged parts.0 v
+    (λ k. with_lists f (f.esop ++ esop_said ws ∷ []) f.vectors f.unchanged (All-push (IsCubeOf n m) f.esop (esop_said ws) k.esop (is_cube_of n m ws (unnot _ three.0) (unnot _ four.0))) k.points k.responses k.unchanged
+    (λ none. absurd (false≢true (sym none ∙ parts.1))) k.none_listed k))
+
+keeps_vector : (ws : List Word) → Keeps (codes "vector" ∷ ws)
+unfolding line_faults with_line
+keeps_vector ws s later h v =
+    let f = s.file in
+    let n = length f.inputs in
+    let m = length f.outputs in
+    let stands = leb 5 s.stage && eqb (length f.unchanged) 0 in
+    let one = none_first (not stands) OutOfOrder ((not (is_vector n m ws), BadBits) ∷ []) (rw later at h) in
+    let vector = unnot (is_vector n m ws) (none_first (not (is_vector n m ws)) BadBits [] one.1).0 in
+    let outs = and_parts (eqb (length ws) 2 && are_bits n (word ws 0)) (are_bits m (word ws 1)) vector in
+    let ins = and_parts (eqb (length ws) 2) (are_bits n (word ws 0)) outs.0 in
+    rw later (listed s f.esop (f.vectors ++ vector_said ws ∷ []) f.unchanged (and_parts (leb 5 s.stage) (eqb (length f.unchanged) 0) (unnot stands one.0)).0 v
+    (λ k. with_lists f f.esop (f.vectors ++ vector_said ws ∷ []) f.unchanged k.esop
+    (All-push (λ (x : Vector). IsPoint n x.point) f.vectors (vector_said ws) k.points (point n (word ws 0) ins.1))
+    (All-push (λ (x : Vector). IsPoint m x.outs) f.vectors (vector_said ws) k.responses (point m (word ws 1) outs.1)) k.unchanged k.no_cubes k.none_listed k))
+
+keeps_unchanged : (ws : List Word) → Keeps (codes "unchanged" ∷ ws)
+unfolding line_faults with_line
+keeps_unchanged ws s later h v =
+    let f = s.file in
+    let undetectable = (features_of f.form).undetectable in
+    let stands = leb 5 s.stage && undetectable in
+    let one = none_first (not stands) OutOfOrder (idle_faults ws) (rw later at h) in
+    let two = none_first (not (is_placed ws)) BadPlace ((not (is_numbered ws), BadNumber) ∷ (not (is_tree (tree_at ws)), BadEvidence) ∷ []) one.1 in
+    let three = none_first (not (is_numbered ws)) BadNumber ((not (is_tree (tree_at ws)), BadEvidence) ∷ []) two.1 in
+    let four = none_first (not (is_tree (tree_at ws))) BadEvidence [] three.1 in
+    let idle = is_idle ws (unnot _ two.0) (unnot _ three.0) (unnot _ four.0) in
+    let parts = and_parts (leb 5 s.stage) undetectable (unnot stands one.0) in
+    rw later (listed s f.esop f.vectors (f.unchanged ++ idle_said ws ∷ []) parts.0 v
+    (λ k. with_lists f f.esop f.vectors (f.unchanged ++ idle_said ws ∷ []) k.esop k.points k.responses (All-push IsIdle f.unchanged (idle_said ws) k.unchanged idle) k.no_cubes (λ none. absurd (false≢true (sym none ∙ parts.1))) k))
+
+-- ---- any line
+
+abbrev first_words : List Word
+first_words = codes "form" ∷ codes "inputs" ∷ codes "outputs" ∷ codes "polarity" ∷ codes "esop" ∷ codes "vector" ∷ codes "unchanged" ∷ []
+
+keeps_other : (line : List Word) → AllByRecursion (λ h. heads h line ≡ false) first_words → Keeps line
+unfolding with_line
+keeps_other line (a, (b, (c, (d, (x, (y, (z, u))))))) s later h v = rw (later, a, b, c, d, x, y, z) v
+
 -- what is seen stays sound
-pub sound_push : (seen : Seen) (line : List Word) → IsSound seen → first_of (faults seen line) ≡ None → IsSound (with_line seen line)
-unfolding IsSound
-sound_push seen line s n = keeps seen.form seen.inputs seen.outputs seen.polarity seen.esop seen.vectors seen.unchanged line n s
+pub sound_push : (line : List Word) (s : Seen) → first_of (faults_in s line) ≡ None → IsSound s → IsSound (with_line s line)
+unfolding with_line
+sound_push line s h v = elim (cases_Bool (eqb s.stage 0)) [
+  | inl start ↦
+      let stage : s.stage ≡ 0 = eqb-true _ _ start in
+      rw start (record { front = λ lt. v.front (omega (arith, stage)); inputs = λ le. absurd (omega (arith, le)); outputs = λ le. absurd (omega (arith, le)); whole = λ le. absurd (omega (arith, le)) })
+  | inr later ↦ by_heads Keeps first_words refl (keeps_form, (keeps_inputs, (keeps_outputs, (keeps_polarity, (keeps_esop, (keeps_vector, (keeps_unchanged, tt))))))) keeps_other line s later h v
+]
 
 -- nothing is seen before the first line
 pub sound_none : IsSound (seen [])
-unfolding IsSound seen
-sound_none = record { no_esop = refl; no_vectors = refl; no_unchanged = refl }
-
--- what is seen where the whole front stands is a valid file
-pub sound_whole : (seen : Seen) (form : Form) (i o : List Word) (p : Signs) → IsSound seen → seen.form ≡ Some form → seen.inputs ≡ Some i → seen.outputs ≡ Some o → seen.polarity ≡ Some p
-    → IsValidVectorFile (file form i o p seen.esop seen.vectors seen.unchanged)
-unfolding IsSound
-sound_whole seen form i o p s a b c d = rw (a, b, c, d) at s
-
-pub sound_file : (seen : Seen) → IsSound seen → has_front seen ≡ true → IsValidVectorFile (file_of seen)
-unfolding IsSound file_of
-sound_file seen s front =
-    by_front
-    (λ (f : Option Form) (i o : Option (List Word)) (p : Option Signs). sound_by f i o p seen.esop seen.vectors seen.unchanged → IsValidVectorFile (file_of (at f i o p seen.esop seen.vectors seen.unchanged)))
-    (λ form i o p v. v) seen.form seen.inputs seen.outputs seen.polarity front s
+unfolding seen file_of
+sound_none = record {
+  front = λ lt. record { no_esop = refl; no_vectors = refl; no_unchanged = refl };
+  inputs = λ le. absurd (omega (arith, le));
+  outputs = λ le. absurd (omega (arith, le));
+  whole = λ le. absurd (omega (arith, le));
+}

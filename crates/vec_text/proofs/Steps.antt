@@ -1,247 +1,172 @@
 -- What is seen with one more line.
-use Rattle.std.proofs.Common.{◌≡◌, Bool, true, false, cond, List, [], ◌∷◌, ◌++◌, map, drop, codes, Some, None, refl, ap, ◌∙◌, inl, inr}
-use Rattle.std.specs.Prelude.{option_map, filter, slice_get}
-use Rattle.std.specs.Str.{bytes_eq}
-use Rattle.std.proofs.lemmas.Bool.{cases_Bool}
+use Rattle.std.proofs.Common.{◌≡◌, ◌≤◌, ℕ, suc, Bool, cond, false, not, eqb, List, [], ◌∷◌, ◌++◌, length, take, map, drop, codes, None, Result, Ok, Err, refl, sym, ap, ◌∙◌, arith}
+use Rattle.std.specs.List.{AllByRecursion}
+use Rattle.std.proofs.lemmas.Bool.{ne_eqb, le-leb, le-ltb, and_right}
 use Rattle.std.proofs.lemmas.List.{append-nil, map-append}
-use Rattle.std.proofs.lemmas.List.Elements.{filter-append}
-use Rattle.std.proofs.lemmas.Slice.Eq.{bytes_eq-Decides}
+use Rattle.ae_base.proofs.Heads.{by_heads, after_more}
 use Rattle.ae_lex.specs.First.{first_of}
-use Rattle.vec_text.specs.declared.fault.VecFault.TheVariants.{OutOfOrder}
-use Rattle.vec_text.specs.Words.{Word, word, heads, form_said, polarity_said, esop_said, vector_said, idle_said}
-use Rattle.vec_text.specs.Says.{Seen, each_after, seen, faults}
-use Rattle.vec_text.specs.Step.{with_line}
+use Rattle.ae_lex.specs.Heads.{Word, heads, each_after}
+use Rattle.ae_lex.specs.Reads.{Takes}
+use Rattle.ae_lex.specs.declared.errors.LineErr.{LineErr}
+use Rattle.ae_lex.specs.declared.errors.LineErr.TheVariants as line
+use Rattle.vec_text.specs.declared.fault.VecFault.{VecFault}
+use Rattle.vec_text.specs.declared.file.Vector.{Vector}
+use Rattle.vec_text.specs.declared.file.EsopLine.{EsopLine}
+use Rattle.vec_text.specs.declared.file.Idle.{Idle}
+use Rattle.vec_text.specs.VectorFile.{VectorFile}
+use Rattle.vec_text.specs.declared.fault.VecFault.TheVariants.{NoHead}
+use Rattle.vec_text.specs.Words.{is_head, esop_said, vector_said, idle_said}
+use Rattle.vec_text.specs.Says.{file_of, line_faults, faults, whole_faults}
+use Rattle.vec_text.specs.Seen.{Seen, seen, stage_of, faults_in, with_line}
 
--- ---- a line has one first word
+-- ---- the faults of a line
 
--- a line with a first word has no other
-pub other : (h k : Word) (line : List Word) → heads h line ≡ true → bytes_eq h k ≡ false → heads k line ≡ false
-other h k line e apart = ap (λ (w : Word). bytes_eq w k) ((bytes_eq-Decides (word line 0) h).0 e) ∙ apart
+long_same : (k : ℕ) (file : VectorFile) (line : List Word) → 5 ≤ k → line_faults k file line ≡ line_faults 5 file line
+unfolding line_faults
+long_same k file line le = rw (ne_eqb k 0 (λ e. omega (arith, le, e)), ne_eqb k 1 (λ e. omega (arith, le, e)), ne_eqb k 2 (λ e. omega (arith, le, e)), ne_eqb k 3 (λ e. omega (arith, le, e)), ne_eqb k 4 (λ e. omega (arith, le, e)), le-leb 5 k le) refl
+
+pub faults_same : (before : List (List Word)) (line : List Word) → faults before line ≡ faults_in (seen before) line
+unfolding seen
+faults_same [] line = refl
+faults_same (a ∷ []) line = refl
+faults_same (a ∷ b ∷ []) line = refl
+faults_same (a ∷ b ∷ c ∷ []) line = refl
+faults_same (a ∷ b ∷ c ∷ d ∷ []) line = refl
+faults_same (a ∷ b ∷ c ∷ d ∷ e ∷ rest) line = long_same (length (a ∷ b ∷ c ∷ d ∷ e ∷ rest)) (file_of (a ∷ b ∷ c ∷ d ∷ e ∷ rest)) line (omega arith)
 
 -- ---- one more line
 
--- what is seen where these are the words after each first word
-abbrev seen_by : (f i o p e v u : List (List Word)) → Seen
-seen_by f i o p e v u =
-    record {
-      form = option_map form_said (slice_get f 0);
-      inputs = slice_get i 0;
-      outputs = slice_get o 0;
-      polarity = option_map polarity_said (slice_get p 0);
-      esop = map esop_said e;
-      vectors = map vector_said v;
-      unchanged = map idle_said u;
-    }
-
-abbrev one : Bool → List Word → List (List Word)
-one b line = cond b (drop 1 line ∷ []) []
-
-each_more : (h : Word) (before : List (List Word)) (line : List Word) → each_after h (before ++ line ∷ []) ≡ each_after h before ++ one (heads h line) line
-each_more h before line =
-    ap (map (drop 1)) (filter-append (heads h) before (line ∷ [])) ∙ map-append (drop 1) (filter (heads h) before) (filter (heads h) (line ∷ []))
-    ∙ ap (λ (ls : List (List Word)). each_after h before ++ ls) (alone (heads h line))
-  where
-    alone : (b : Bool) → map (drop 1) (cond b (line ∷ []) []) ≡ one b line
-    alone true = refl
-    alone false = refl
-
-abbrev more : (f i o p e v u : List (List Word)) (line : List Word) → Seen
-more f i o p e v u line =
-    seen_by (f ++ one (heads (codes "form") line) line) (i ++ one (heads (codes "inputs") line) line) (o ++ one (heads (codes "outputs") line) line) (p ++ one (heads (codes "polarity") line) line)
-    (e ++ one (heads (codes "esop") line) line) (v ++ one (heads (codes "vector") line) line) (u ++ one (heads (codes "unchanged") line) line)
-
 -- what is claimed of one more line
-abbrev Steps : (f i o p e v u : List (List Word)) (line : List Word) → Type 0
-Steps f i o p e v u line = first_of (faults (seen_by f i o p e v u) line) ≡ None → more f i o p e v u line ≡ with_line (seen_by f i o p e v u) line
+abbrev Steps : List Word → Type 0
+Steps line = (before : List (List Word)) → first_of (faults_in (seen before) line) ≡ None → seen (before ++ line ∷ []) ≡ with_line (seen before) line
 
-late : Some OutOfOrder ≡ None → ⊥
-late h = cc
+-- a line that is not the head
+headless : (line : List Word) → heads (codes "andexor-vectors") line ≡ false → first_of ((not (is_head line), NoHead) ∷ []) ≡ None → ⊥
+headless line none h = let refused = rw (none, and_right (eqb (length line) 2) false refl) at h in cc
 
-step_form : (f i o p e v u : List (List Word)) (line : List Word) → heads (codes "form") line ≡ true → Steps f i o p e v u line
-unfolding faults with_line
-step_form [] i o p e v u line h n =
-    rw (
-      h,
-      other (codes "form") (codes "inputs") line h refl,
-      other (codes "form") (codes "outputs") line h refl,
-      other (codes "form") (codes "polarity") line h refl,
-      other (codes "form") (codes "esop") line h refl,
-      other (codes "form") (codes "vector") line h refl,
-      other (codes "form") (codes "unchanged") line h refl,
-      append-nil i,
-      append-nil o,
-      append-nil p,
-      append-nil e,
-      append-nil v,
-      append-nil u,
-    )
-    refl
-step_form (x ∷ f) i o p e v u line h n = absurd (late (rw h at n))
+step_head : (ws : List Word) → Steps (codes "andexor-vectors" ∷ ws)
+unfolding line_faults with_line seen file_of
+step_head ws [] h = refl
+step_head ws (a ∷ rest) h = absurd (let unknown = rw (ne_eqb (suc (length (take 4 rest))) 0 (λ e. omega (arith, e))) at h in cc)
 
-step_inputs : (f i o p e v u : List (List Word)) (line : List Word) → heads (codes "inputs") line ≡ true → Steps f i o p e v u line
-unfolding faults with_line
-step_inputs f [] o p e v u line h n =
-    rw (
-      h,
-      other (codes "inputs") (codes "form") line h refl,
-      other (codes "inputs") (codes "outputs") line h refl,
-      other (codes "inputs") (codes "polarity") line h refl,
-      other (codes "inputs") (codes "esop") line h refl,
-      other (codes "inputs") (codes "vector") line h refl,
-      other (codes "inputs") (codes "unchanged") line h refl,
-      append-nil f,
-      append-nil o,
-      append-nil p,
-      append-nil e,
-      append-nil v,
-      append-nil u,
-    )
-    refl
-step_inputs [] (x ∷ i) o p e v u line h n = absurd (late (rw (other (codes "inputs") (codes "form") line h refl, h) at n))
-step_inputs (y ∷ f) (x ∷ i) o p e v u line h n = absurd (late (rw (other (codes "inputs") (codes "form") line h refl, h) at n))
+step_form : (ws : List Word) → Steps (codes "form" ∷ ws)
+unfolding line_faults with_line seen file_of
+step_form ws [] h = absurd (headless (codes "form" ∷ ws) refl h)
+step_form ws (a ∷ []) h = refl
+step_form ws (a ∷ b ∷ []) h = absurd cc
+step_form ws (a ∷ b ∷ c ∷ []) h = absurd cc
+step_form ws (a ∷ b ∷ c ∷ d ∷ []) h = absurd cc
+step_form ws (a ∷ b ∷ c ∷ d ∷ e ∷ rest) h = absurd cc
 
-step_outputs : (f i o p e v u : List (List Word)) (line : List Word) → heads (codes "outputs") line ≡ true → Steps f i o p e v u line
-unfolding faults with_line
-step_outputs f i [] p e v u line h n =
-    rw (
-      h,
-      other (codes "outputs") (codes "form") line h refl,
-      other (codes "outputs") (codes "inputs") line h refl,
-      other (codes "outputs") (codes "polarity") line h refl,
-      other (codes "outputs") (codes "esop") line h refl,
-      other (codes "outputs") (codes "vector") line h refl,
-      other (codes "outputs") (codes "unchanged") line h refl,
-      append-nil f,
-      append-nil i,
-      append-nil p,
-      append-nil e,
-      append-nil v,
-      append-nil u,
-    )
-    refl
-step_outputs f [] (x ∷ o) p e v u line h n = absurd (late (rw (other (codes "outputs") (codes "form") line h refl, other (codes "outputs") (codes "inputs") line h refl, h) at n))
-step_outputs f (y ∷ i) (x ∷ o) p e v u line h n = absurd (late (rw (other (codes "outputs") (codes "form") line h refl, other (codes "outputs") (codes "inputs") line h refl, h) at n))
+step_inputs : (ws : List Word) → Steps (codes "inputs" ∷ ws)
+unfolding line_faults with_line seen file_of
+step_inputs ws [] h = absurd (headless (codes "inputs" ∷ ws) refl h)
+step_inputs ws (a ∷ []) h = absurd cc
+step_inputs ws (a ∷ b ∷ []) h = refl
+step_inputs ws (a ∷ b ∷ c ∷ []) h = absurd cc
+step_inputs ws (a ∷ b ∷ c ∷ d ∷ []) h = absurd cc
+step_inputs ws (a ∷ b ∷ c ∷ d ∷ e ∷ rest) h = absurd cc
 
-step_polarity : (f i o p e v u : List (List Word)) (line : List Word) → heads (codes "polarity") line ≡ true → Steps f i o p e v u line
-unfolding faults with_line
-step_polarity f i o [] e v u line h n =
-    rw (
-      h,
-      other (codes "polarity") (codes "form") line h refl,
-      other (codes "polarity") (codes "inputs") line h refl,
-      other (codes "polarity") (codes "outputs") line h refl,
-      other (codes "polarity") (codes "esop") line h refl,
-      other (codes "polarity") (codes "vector") line h refl,
-      other (codes "polarity") (codes "unchanged") line h refl,
-      append-nil f,
-      append-nil i,
-      append-nil o,
-      append-nil e,
-      append-nil v,
-      append-nil u,
-    )
-    refl
-step_polarity f i [] (x ∷ p) e v u line h n =
-    absurd (late (rw (other (codes "polarity") (codes "form") line h refl, other (codes "polarity") (codes "inputs") line h refl, other (codes "polarity") (codes "outputs") line h refl, h) at n))
-step_polarity f i (y ∷ o) (x ∷ p) e v u line h n =
-    absurd (late (rw (other (codes "polarity") (codes "form") line h refl, other (codes "polarity") (codes "inputs") line h refl, other (codes "polarity") (codes "outputs") line h refl, h) at n))
+step_outputs : (ws : List Word) → Steps (codes "outputs" ∷ ws)
+unfolding line_faults with_line seen file_of
+step_outputs ws [] h = absurd (headless (codes "outputs" ∷ ws) refl h)
+step_outputs ws (a ∷ []) h = absurd cc
+step_outputs ws (a ∷ b ∷ []) h = absurd cc
+step_outputs ws (a ∷ b ∷ c ∷ []) h = refl
+step_outputs ws (a ∷ b ∷ c ∷ d ∷ []) h = absurd cc
+step_outputs ws (a ∷ b ∷ c ∷ d ∷ e ∷ rest) h = absurd cc
 
-step_esop : (f i o p e v u : List (List Word)) (line : List Word) → heads (codes "esop") line ≡ true → more f i o p e v u line ≡ with_line (seen_by f i o p e v u) line
-unfolding with_line
-step_esop f i o p e v u line h =
-    rw (
-      h,
-      other (codes "esop") (codes "form") line h refl,
-      other (codes "esop") (codes "inputs") line h refl,
-      other (codes "esop") (codes "outputs") line h refl,
-      other (codes "esop") (codes "polarity") line h refl,
-      other (codes "esop") (codes "vector") line h refl,
-      other (codes "esop") (codes "unchanged") line h refl,
-      append-nil f,
-      append-nil i,
-      append-nil o,
-      append-nil p,
-      append-nil v,
-      append-nil u,
-      map-append esop_said e (drop 1 line ∷ []),
-    )
-    refl
+step_polarity : (ws : List Word) → Steps (codes "polarity" ∷ ws)
+unfolding line_faults with_line seen file_of
+step_polarity ws [] h = absurd (headless (codes "polarity" ∷ ws) refl h)
+step_polarity ws (a ∷ []) h = absurd cc
+step_polarity ws (a ∷ b ∷ []) h = absurd cc
+step_polarity ws (a ∷ b ∷ c ∷ []) h = absurd cc
+step_polarity ws (a ∷ b ∷ c ∷ d ∷ []) h = refl
+step_polarity ws (a ∷ b ∷ c ∷ d ∷ e ∷ rest) h = absurd cc
 
-step_vector : (f i o p e v u : List (List Word)) (line : List Word) → heads (codes "vector") line ≡ true → more f i o p e v u line ≡ with_line (seen_by f i o p e v u) line
-unfolding with_line
-step_vector f i o p e v u line h =
-    rw (
-      h,
-      other (codes "vector") (codes "form") line h refl,
-      other (codes "vector") (codes "inputs") line h refl,
-      other (codes "vector") (codes "outputs") line h refl,
-      other (codes "vector") (codes "polarity") line h refl,
-      other (codes "vector") (codes "esop") line h refl,
-      other (codes "vector") (codes "unchanged") line h refl,
-      append-nil f,
-      append-nil i,
-      append-nil o,
-      append-nil p,
-      append-nil e,
-      append-nil u,
-      map-append vector_said v (drop 1 line ∷ []),
-    )
-    refl
+-- ---- a line after those
 
-step_unchanged : (f i o p e v u : List (List Word)) (line : List Word) → heads (codes "unchanged") line ≡ true → more f i o p e v u line ≡ with_line (seen_by f i o p e v u) line
-unfolding with_line
-step_unchanged f i o p e v u line h =
-    rw (
-      h,
-      other (codes "unchanged") (codes "form") line h refl,
-      other (codes "unchanged") (codes "inputs") line h refl,
-      other (codes "unchanged") (codes "outputs") line h refl,
-      other (codes "unchanged") (codes "polarity") line h refl,
-      other (codes "unchanged") (codes "esop") line h refl,
-      other (codes "unchanged") (codes "vector") line h refl,
-      append-nil f,
-      append-nil i,
-      append-nil o,
-      append-nil p,
-      append-nil e,
-      append-nil v,
-      map-append idle_said u (drop 1 line ∷ []),
-    )
-    refl
+-- what is said after a first word grows
+grown : {X : Type 0} (said : List Word → X) (h : Word) (before : List (List Word)) (line : List Word)
+    → map said (each_after h (before ++ line ∷ [])) ≡ map said (each_after h before) ++ map said (cond (heads h line) (drop 1 line ∷ []) [])
+grown said h before line = ap (map said) (after_more h before line) ∙ map-append said (each_after h before) (cond (heads h line) (drop 1 line ∷ []) [])
 
--- a line with none of these first words
-step_other : (f i o p e v u : List (List Word)) (line : List Word) → heads (codes "form") line ≡ false → heads (codes "inputs") line ≡ false → heads (codes "outputs") line ≡ false
-    → heads (codes "polarity") line ≡ false → heads (codes "esop") line ≡ false → heads (codes "vector") line ≡ false → heads (codes "unchanged") line ≡ false
-    → more f i o p e v u line ≡ with_line (seen_by f i o p e v u) line
-unfolding with_line
-step_other f i o p e v u line a b c d x y z = rw (a, b, c, d, x, y, z, append-nil f, append-nil i, append-nil o, append-nil p, append-nil e, append-nil v, append-nil u) refl
+-- with these lists
+abbrev listed : VectorFile → List EsopLine → List Vector → List Idle → Seen
+listed file es vs us = record { stage = 5; file = record file { esop = es; vectors = vs; unchanged = us } }
 
-step : (f i o p e v u : List (List Word)) (line : List Word) → Steps f i o p e v u line
-step f i o p e v u line n =
-    elim (cases_Bool (heads (codes "form") line)) [
-      | inl a ↦ step_form f i o p e v u line a n
-      | inr a ↦ elim (cases_Bool (heads (codes "inputs") line)) [
-        | inl b ↦ step_inputs f i o p e v u line b n
-        | inr b ↦ elim (cases_Bool (heads (codes "outputs") line)) [
-          | inl c ↦ step_outputs f i o p e v u line c n
-          | inr c ↦ elim (cases_Bool (heads (codes "polarity") line)) [
-            | inl d ↦ step_polarity f i o p e v u line d n
-            | inr d ↦ elim (cases_Bool (heads (codes "esop") line)) [
-              | inl x ↦ step_esop f i o p e v u line x
-              | inr x ↦ elim (cases_Bool (heads (codes "vector") line)) [
-                | inl y ↦ step_vector f i o p e v u line y
-                | inr y ↦ elim (cases_Bool (heads (codes "unchanged") line)) [ inl z ↦ step_unchanged f i o p e v u line z | inr z ↦ step_other f i o p e v u line a b c d x y z ]
-              ]
-            ]
-          ]
-        ]
-      ]
-    ]
+same : (file : VectorFile) {es fs : List EsopLine} {vs ws : List Vector} {us ts : List Idle} → es ≡ fs → vs ≡ ws → us ≡ ts → listed file es vs us ≡ listed file fs ws ts
+same file p q r = cc
 
--- what is seen with one more line that has no fault
-pub seen_push : (before : List (List Word)) (line : List Word) → first_of (faults (seen before) line) ≡ None → seen (before ++ line ∷ []) ≡ with_line (seen before) line
-unfolding seen
-seen_push before line n =
-    rw (each_more (codes "form") before line, each_more (codes "inputs") before line, each_more (codes "outputs") before line, each_more (codes "polarity") before line, each_more (codes "esop") before line, each_more (codes "vector") before line, each_more (codes "unchanged") before line)
-    (step (each_after (codes "form") before) (each_after (codes "inputs") before) (each_after (codes "outputs") before) (each_after (codes "polarity") before) (each_after (codes "esop") before)
-    (each_after (codes "vector") before) (each_after (codes "unchanged") before) line n)
+step_esop : (ws : List Word) → Steps (codes "esop" ∷ ws)
+unfolding line_faults with_line seen file_of
+step_esop ws [] h = absurd (headless (codes "esop" ∷ ws) refl h)
+step_esop ws (a ∷ []) h = absurd cc
+step_esop ws (a ∷ b ∷ []) h = absurd cc
+step_esop ws (a ∷ b ∷ c ∷ []) h = absurd cc
+step_esop ws (a ∷ b ∷ c ∷ d ∷ []) h = absurd cc
+step_esop ws (a ∷ b ∷ c ∷ d ∷ e ∷ rest) h =
+    let before = a ∷ b ∷ c ∷ d ∷ e ∷ rest in
+    let line = codes "esop" ∷ ws in
+    same (file_of before) (grown esop_said (codes "esop") before line) (grown vector_said (codes "vector") before line ∙ append-nil _) (grown idle_said (codes "unchanged") before line ∙ append-nil _)
+
+step_vector : (ws : List Word) → Steps (codes "vector" ∷ ws)
+unfolding line_faults with_line seen file_of
+step_vector ws [] h = absurd (headless (codes "vector" ∷ ws) refl h)
+step_vector ws (a ∷ []) h = absurd cc
+step_vector ws (a ∷ b ∷ []) h = absurd cc
+step_vector ws (a ∷ b ∷ c ∷ []) h = absurd cc
+step_vector ws (a ∷ b ∷ c ∷ d ∷ []) h = absurd cc
+step_vector ws (a ∷ b ∷ c ∷ d ∷ e ∷ rest) h =
+    let before = a ∷ b ∷ c ∷ d ∷ e ∷ rest in
+    let line = codes "vector" ∷ ws in
+    same (file_of before) (grown esop_said (codes "esop") before line ∙ append-nil _) (grown vector_said (codes "vector") before line) (grown idle_said (codes "unchanged") before line ∙ append-nil _)
+
+step_unchanged : (ws : List Word) → Steps (codes "unchanged" ∷ ws)
+unfolding line_faults with_line seen file_of
+step_unchanged ws [] h = absurd (headless (codes "unchanged" ∷ ws) refl h)
+step_unchanged ws (a ∷ []) h = absurd cc
+step_unchanged ws (a ∷ b ∷ []) h = absurd cc
+step_unchanged ws (a ∷ b ∷ c ∷ []) h = absurd cc
+step_unchanged ws (a ∷ b ∷ c ∷ d ∷ []) h = absurd cc
+step_unchanged ws (a ∷ b ∷ c ∷ d ∷ e ∷ rest) h =
+    let before = a ∷ b ∷ c ∷ d ∷ e ∷ rest in
+    let line = codes "unchanged" ∷ ws in
+    same (file_of before) (grown esop_said (codes "esop") before line ∙ append-nil _) (grown vector_said (codes "vector") before line ∙ append-nil _) (grown idle_said (codes "unchanged") before line)
+
+-- ---- any line
+
+abbrev first_words : List Word
+first_words = codes "andexor-vectors" ∷ codes "form" ∷ codes "inputs" ∷ codes "outputs" ∷ codes "polarity" ∷ codes "esop" ∷ codes "vector" ∷ codes "unchanged" ∷ []
+
+step_other : (line : List Word) → AllByRecursion (λ h. heads h line ≡ false) first_words → Steps line
+unfolding line_faults seen
+step_other line (z, u) [] h = absurd (headless line z h)
+step_other line (z, (a, (b, (c, (d, (x, (y, (w, u)))))))) (l ∷ rest) h = absurd (let unknown = rw (ne_eqb (suc (length (take 4 rest))) 0 (λ e. omega (arith, e)), a, b, c, d, x, y, w) at h in cc)
+
+pub seen_push : (line : List Word) → Steps line
+seen_push line =
+    by_heads Steps first_words refl (step_head, (step_form, (step_inputs, (step_outputs, (step_polarity, (step_esop, (step_vector, (step_unchanged, tt)))))))) step_other line
+
+-- ---- what is read
+
+pub takes : (before : List (List Word)) (ws : List Word) (old new : Seen) (result : Result (Unit {0}) (LineErr VecFault)) → old ≡ seen before → Takes (faults_in old ws) (new ≡ with_line old ws) result
+    → Takes (faults before ws) (new ≡ seen (before ++ ws ∷ [])) result
+takes before ws old new (Ok x) is h =
+    let none : first_of (faults_in (seen before) ws) ≡ None = ap (λ (s : Seen). first_of (faults_in s ws)) (sym is) ∙ h.0 in
+    (ap first_of (faults_same before ws) ∙ none, h.1 ∙ ap (λ (s : Seen). with_line s ws) is ∙ sym (seen_push ws before none))
+takes before ws old new (Err (line.Fault f)) is h = ap first_of (faults_same before ws) ∙ ap (λ (s : Seen). first_of (faults_in s ws)) (sym is) ∙ h
+takes before ws old new (Err line.Memory) is h = tt
+
+-- the faults of the whole text go by the stage
+pub whole_same : (before : List (List Word)) (ended : Bool) → whole_faults (length before) ended ≡ whole_faults (stage_of before) ended
+whole_same [] ended = refl
+whole_same (a ∷ []) ended = refl
+whole_same (a ∷ b ∷ []) ended = refl
+whole_same (a ∷ b ∷ c ∷ []) ended = refl
+whole_same (a ∷ b ∷ c ∷ d ∷ []) ended = refl
+whole_same (a ∷ b ∷ c ∷ d ∷ e ∷ rest) ended = long (length (a ∷ b ∷ c ∷ d ∷ e ∷ rest)) (omega arith)
+  where
+    long : (k : ℕ) → 5 ≤ k → whole_faults k ended ≡ whole_faults 5 ended
+    long k le = rw (ne_eqb k 0 (λ e. omega (arith, le, e)), le-ltb k 5 le) refl

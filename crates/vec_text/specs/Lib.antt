@@ -1,7 +1,7 @@
 pub mod Faults
-pub mod Reads
+pub mod Lines
 pub mod Says
+pub mod Seen
 pub mod Sound
-pub mod Step
 pub mod VectorFile
 pub mod Words

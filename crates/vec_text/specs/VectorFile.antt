@@ -1,19 +1,19 @@
 -- Vector files and their text.
-use Rattle.std.specs.Prelude.{◌≡◌, ◌≢◌, ℕ, suc, ◌+◌, ◌==◌, ◌<◌, ◌≤◌, Bool, true, not, ◌&&◌, nat_le, if◌then◌else◌, List, [], ◌∷◌, ◌++◌, length, map, All, AllPairs, codes}
+use Rattle.std.specs.Prelude.{◌≡◌, ◌≢◌, ℕ, suc, ◌+◌, ◌==◌, ◌<◌, ◌≤◌, Bool, true, false, not, ◌&&◌, nat_le, if◌then◌else◌, List, [], ◌∷◌, ◌++◌, length, map, All, AllPairs, codes}
 use Rattle.std.specs.Fmt.{decimal}
 use Rattle.ae_base.specs.declared.limits.TheConstants.{PINS, WRITTEN_LINES}
 use Rattle.ae_base.specs.Cube.{Signs, IsSigns, IsOver}
+use Rattle.ae_base.specs.Form.{features_of, form_word}
 use Rattle.ae_base.specs.Name.{is_name}
 use Rattle.ae_base.specs.Terms.{IsPoint}
 use Rattle.ae_base.specs.Text.{bits_of, cube_text, text_of}
-use Rattle.vec_text.specs.declared.file.Form.{Form}
-use Rattle.vec_text.specs.declared.file.Form.TheVariants.{Reddy, Factored}
+use Rattle.ae_base.specs.declared.form.Form.{Form}
 use Rattle.vec_text.specs.declared.file.Vector.{Vector}
 use Rattle.vec_text.specs.declared.file.EsopLine.{EsopLine}
 use Rattle.vec_text.specs.declared.file.PlaceName.{PlaceName}
 use Rattle.vec_text.specs.declared.file.PlaceName.TheVariants.{Stem, Pin, Port}
-use Rattle.vec_text.specs.declared.file.Step.{Step}
-use Rattle.vec_text.specs.declared.file.Step.TheVariants.{S, L}
+use Rattle.ae_base.specs.declared.step.Step.{Step}
+use Rattle.ae_base.specs.declared.step.Step.TheVariants.{S, L}
 use Rattle.vec_text.specs.declared.file.Shown.{Shown}
 use Rattle.vec_text.specs.declared.file.Shown.TheVariants.{Tree, Wide}
 use Rattle.vec_text.specs.declared.file.Idle.{Idle}
@@ -29,10 +29,9 @@ pub record VectorFile : Type 0 where
   pub vectors : List Vector
   pub unchanged : List Idle
 
--- the number of a network's inputs over n inputs of a source: in Reddy form the control is one more
+-- the number of a network's inputs over n inputs of a source: the control, where there is one, is one more
 abbrev pub inputs_over : Form → ℕ → ℕ
-inputs_over Reddy n = suc n
-inputs_over Factored n = n
+inputs_over form n = if (features_of form).control then suc n else n
 
 -- ---- valid files
 
@@ -56,9 +55,9 @@ pub record IsIdle (idle : Idle) : Type 0 where
   pub place : is_place idle.place ≡ true
   pub shown : is_shown idle.shown ≡ true
 
--- The rules of the vector text: one to 65 names of inputs and of outputs, all different, a polarity of the inputs of the source, of
--- which there is one or more, vectors over the inputs with responses over the outputs, and in factored form alone cubes of the outputs
--- and undetectable faults.
+-- The rules of the vector text: one to WRITTEN_LINES names of inputs and of outputs, all different, a polarity of the inputs of the
+-- source, of which there is one or more, vectors over the inputs with responses over the outputs, and cubes of the outputs and
+-- undetectable faults in those forms alone that list them.
 pub record IsValidVectorFile (file : VectorFile) : Type 0 where
   pub some_input : 0 < file.polarity.n
   pub signs : IsSigns file.polarity
@@ -72,13 +71,10 @@ pub record IsValidVectorFile (file : VectorFile) : Type 0 where
   pub points : All (λ v. IsPoint (length file.inputs) v.point) file.vectors
   pub responses : All (λ v. IsPoint (length file.outputs) v.outs) file.vectors
   pub unchanged : All IsIdle file.unchanged
-  pub reddy : file.form ≡ Reddy → (file.esop ≡ []) × (file.unchanged ≡ [])
+  pub no_cubes : (features_of file.form).cubes ≡ false → file.esop ≡ []
+  pub none_listed : (features_of file.form).undetectable ≡ false → file.unchanged ≡ []
 
 -- ---- the lines of a file, as words
-
-abbrev pub form_word : Form → List ℕ
-form_word Reddy = codes "reddy"
-form_word Factored = codes "factored"
 
 -- the line of the form
 abbrev pub form_line : Form → List (List ℕ)
@@ -116,30 +112,10 @@ shown_word Wide = codes "wide"
 abbrev pub unchanged_line : Idle → List (List ℕ)
 unchanged_line idle = codes "unchanged" ∷ place_words idle.place ++ (value_word idle.value ∷ shown_word idle.shown ∷ [])
 
--- the head, and the line of the form
-abbrev pub title_lines : Form → List (List (List ℕ))
-title_lines form = (codes "andexor-vectors" ∷ codes "1" ∷ []) ∷ form_line form ∷ []
-
-abbrev pub list_lines : List (List ℕ) → List (List ℕ) → List (List (List ℕ))
-list_lines inputs outputs = (codes "inputs" ∷ inputs) ∷ (codes "outputs" ∷ outputs) ∷ []
-
--- the lines that each file has one of, before all others
-abbrev pub head_lines : VectorFile → List (List (List ℕ))
-head_lines file = title_lines file.form ++ (list_lines file.inputs file.outputs ++ (polarity_line file.polarity ∷ []))
-
-abbrev pub esop_lines : VectorFile → List (List (List ℕ))
-esop_lines file = map (esop_line (length file.inputs)) file.esop
-
-abbrev pub vector_lines : VectorFile → List (List (List ℕ))
-vector_lines file = map (vector_line (length file.inputs) (length file.outputs)) file.vectors
-
-abbrev pub unchanged_lines : VectorFile → List (List (List ℕ))
-unchanged_lines file = map unchanged_line file.unchanged
-
--- the lines after those
-abbrev pub body_lines : VectorFile → List (List (List ℕ))
-body_lines file = esop_lines file ++ (vector_lines file ++ (unchanged_lines file ++ ((codes "end" ∷ []) ∷ [])))
-
 -- the text of a vector file
 unfoldable pub vector_text : VectorFile → List ℕ
-vector_text file = text_of (head_lines file ++ body_lines file)
+vector_text file =
+    let n = length file.inputs in
+    let m = length file.outputs in
+    let front = (codes "andexor-vectors" ∷ codes "1" ∷ []) ∷ form_line file.form ∷ (codes "inputs" ∷ file.inputs) ∷ (codes "outputs" ∷ file.outputs) ∷ polarity_line file.polarity ∷ [] in
+    text_of (front ++ (map (esop_line n) file.esop ++ (map (vector_line n m) file.vectors ++ (map unchanged_line file.unchanged ++ ((codes "end" ∷ []) ∷ [])))))

@@ -1,20 +1,18 @@
 //! The vector file so far: what the lines that were read say.
-ghost use Rattle.std.specs.Prelude.{◌≡◌, ◌≤◌, [], ◌∷◌, length, codes, false, is_some};
+ghost use Rattle.std.specs.Prelude.{◌≡◌, ◌≤◌, ◌-◌, ◌==◌, [], ◌∷◌, length, codes, false, if◌then◌else◌};
 ghost use Rattle.ae_base.specs.declared.limits.TheConstants.{WRITTEN_LINES};
+ghost use Rattle.ae_base.specs.Form.{features_of};
+ghost use Rattle.ae_lex.specs.Reads.{Takes};
 ghost use Rattle.ae_lex.specs.Slices.{texts};
-ghost use Rattle.vec_text.specs.Says as spec;
-ghost use Rattle.vec_text.specs.Step.{with_line, Takes};
-ghost use Rattle.vec_text.specs.Words.{is_end, share};
-ghost use Rattle.std.specs.Str.{bytes_eq};
+ghost use Rattle.vec_text.specs.Seen as spec;
 
 use crate::fault::VecFault;
-use crate::file::{EsopLine, Form, Idle, Vector};
+use crate::file::{EsopLine, Idle, Vector};
 use crate::idle::read_idle;
 use crate::words::{
-    are_names, has_twins, is_word, names_of, polarity_of, read_count, read_cube, read_form, share,
-    vector_of,
+    is_end, is_head, is_word, polarity_of, read_count, read_cube, read_form, read_names, vector_of,
 };
-use ae_base::{Name, Polarity, Seq};
+use ae_base::{Form, Mask, Name, Polarity, Seq, has_twins, share};
 use ae_lex::LineErr;
 use std::alloc::Global;
 use std::marker::Model;
@@ -22,181 +20,170 @@ use std::marker::Model;
 /// What the lines so far say, none of which has a fault.
 #[derive(Drop, Debug)]
 pub struct Draft {
-    pub form: Option<Form>,
-    pub inputs: Option<Seq<Name>>,
-    pub outputs: Option<Seq<Name>>,
-    pub polarity: Option<Polarity>,
+    /// The number of lines, counted up to the five of which each file has one.
+    pub stage: u32,
+    pub form: Form,
+    pub inputs: Seq<Name>,
+    pub outputs: Seq<Name>,
+    pub polarity: Polarity,
     pub esop: Seq<EsopLine>,
     pub vectors: Seq<Vector>,
     pub unchanged: Seq<Idle>,
 }
 
 impl Model for Draft {
-    ghost use Rattle.vec_text.specs.Says.{Seen};
+    ghost use Rattle.vec_text.specs.Seen.{Seen};
     ghost use Rattle.vec_text.specs.Sound.{AreFew};
 
     ghost Value = { Seen };
 
-    ghost view = { λ s. record { form = s.form; inputs = s.inputs; outputs = s.outputs; polarity = s.polarity; esop = s.esop; vectors = s.vectors; unchanged = s.unchanged } };
+    ghost view = { λ s. record { stage = s.stage; file = record { form = s.form; inputs = s.inputs; outputs = s.outputs; polarity = s.polarity; esop = s.esop; vectors = s.vectors; unchanged = s.unchanged } } };
 
     ghost invariant = { λ s. AreFew (record { form = s.form; inputs = s.inputs; outputs = s.outputs; polarity = s.polarity; esop = s.esop; vectors = s.vectors; unchanged = s.unchanged }) };
 }
 
 impl Draft {
     /// Nothing is said yet.
-    #[tactic(auto, unfolding(crate::specs::Says::seen))]
+    #[tactic(auto, using(ae_base::proofs::Sets::set_members), unfolding(crate::specs::Seen::seen, crate::specs::Says::file_of, ae_base::specs::Digits::ones))]
     pub fn new(alloc: Global) -> Draft
         ensures { result ≡ spec.seen [] }
     {
         Draft {
-            form: None,
-            inputs: None,
-            outputs: None,
-            polarity: None,
+            stage: 0,
+            form: Form::Reddy,
+            inputs: Seq::new(alloc),
+            outputs: Seq::new(alloc),
+            polarity: Polarity {
+                n: 0,
+                plain: Mask::empty(),
+            },
             esop: Seq::new(alloc),
             vectors: Seq::new(alloc),
             unchanged: Seq::new(alloc),
         }
     }
 
-    fn is_reddy(&self) -> bool
-        ensures { result ≡ spec.is_reddy self.now.form }
-    {
-        match self.form {
-            Some(Form::Reddy) => true,
-            _ => false,
-        }
-    }
-
-    fn is_factored(&self) -> bool
-        ensures { result ≡ spec.is_factored self.now.form }
-    {
-        match self.form {
-            Some(Form::Factored) => true,
-            _ => false,
-        }
-    }
-
-    /// Whether each line of which a file has one, before all others, is there.
-    fn has_front(&self) -> bool
-        ensures { result ≡ spec.has_front self.now }
-    {
-        self.form.is_some()
-            && self.inputs.is_some()
-            && self.outputs.is_some()
-            && self.polarity.is_some()
-    }
-
     /// The number of inputs.
     fn input_count(&self) -> u32
-        ensures count { result ≡ length (spec.inputs_of self.now) }
+        ensures count { result ≡ length self.now.file.inputs }
         ensures few { result ≤ WRITTEN_LINES }
     {
-        match &self.inputs {
-            Some(names) => names.len() as u32,
-            None => 0,
-        }
+        self.inputs.len() as u32
     }
 
     /// The number of outputs.
     fn output_count(&self) -> u32
-        ensures count { result ≡ length (spec.outputs_of self.now) }
+        ensures count { result ≡ length self.now.file.outputs }
         ensures few { result ≤ WRITTEN_LINES }
     {
-        match &self.outputs {
-            Some(names) => names.len() as u32,
-            None => 0,
-        }
+        self.outputs.len() as u32
     }
 
     /// The number of the source's inputs.
     fn source_inputs(&self) -> u32
-        ensures count { result ≡ spec.source_inputs self.now }
+        ensures count { result ≡ (if (features_of self.now.file.form).control then length self.now.file.inputs - 1 else length self.now.file.inputs) }
         ensures few { result ≤ WRITTEN_LINES }
     {
         let n = self.input_count();
-        if self.is_reddy() && 0 < n { n - 1 } else { n }
+        if self.form.features().control && 0 < n {
+            n - 1
+        } else {
+            n
+        }
     }
 
-    #[tactic(auto, unfolding(crate::specs::Says::faults, crate::specs::Step::with_line))]
-    fn read_form(&mut self, words: &[&[u8]]) -> Result<(), LineErr<VecFault>>
-        ensures { Takes (spec.faults self.old (codes "form" ∷ texts words.now)) (with_line self.old (codes "form" ∷ texts words.now)) result self.new }
+    #[tactic(auto, unfolding(crate::specs::Says::line_faults, crate::specs::Seen::with_line))]
+    fn read_head(&mut self, words: &[&[u8]]) -> Result<(), LineErr<VecFault>>
+        requires { self.now.stage ≡ 0 }
+        ensures { Takes (spec.faults_in self.old (texts words.now)) (self.new ≡ spec.with_line self.old (texts words.now)) result }
     {
-        if self.form.is_some() {
+        if !is_head(words) {
+            return Err(LineErr::Fault(VecFault::NoHead));
+        }
+        self.stage = 1;
+        Ok(())
+    }
+
+    #[tactic(auto, unfolding(crate::specs::Says::line_faults, crate::specs::Seen::with_line))]
+    fn read_form(&mut self, words: &[&[u8]]) -> Result<(), LineErr<VecFault>>
+        requires { (self.now.stage == 0) ≡ false }
+        ensures { Takes (spec.faults_in self.old (codes "form" ∷ texts words.now)) (self.new ≡ spec.with_line self.old (codes "form" ∷ texts words.now)) result }
+    {
+        if self.stage != 1 {
             return Err(LineErr::Fault(VecFault::OutOfOrder));
         }
         let Some(form) = read_form(words) else {
             return Err(LineErr::Fault(VecFault::BadForm));
         };
-        self.form = Some(form);
+        self.form = form;
+        self.stage = 2;
         Ok(())
     }
 
-    #[tactic(auto, unfolding(crate::specs::Says::faults, crate::specs::Step::with_line))]
+    #[tactic(auto, unfolding(crate::specs::Says::line_faults, crate::specs::Seen::with_line))]
     fn read_inputs(&mut self, alloc: Global, words: &[&[u8]]) -> Result<(), LineErr<VecFault>>
-        ensures { Takes (spec.faults self.old (codes "inputs" ∷ texts words.now)) (with_line self.old (codes "inputs" ∷ texts words.now)) result self.new }
+        requires { (self.now.stage == 0) ≡ false }
+        ensures { Takes (spec.faults_in self.old (codes "inputs" ∷ texts words.now)) (self.new ≡ spec.with_line self.old (codes "inputs" ∷ texts words.now)) result }
     {
-        if self.form.is_none() || self.inputs.is_some() {
+        if self.stage != 2 {
             return Err(LineErr::Fault(VecFault::OutOfOrder));
         }
-        if !are_names(words) || self.is_reddy() && words.len() == 1 {
+        let Some(names) = read_names(alloc, words)? else {
+            return Err(LineErr::Fault(VecFault::BadNames));
+        };
+        if self.form.features().control && words.len() == 1 {
             return Err(LineErr::Fault(VecFault::BadNames));
         }
-        if has_twins(words) {
+        if has_twins(names.as_slice()) {
             return Err(LineErr::Fault(VecFault::NameTwice));
         }
-        self.inputs = Some(names_of(alloc, words)?);
+        self.inputs = names;
+        self.stage = 3;
         Ok(())
     }
 
-    /// Whether some word is the name of an input.
-    #[tactic(auto, using(crate::proofs::WordLists::share_nothing))]
-    fn has_input(&self, words: &[&[u8]]) -> bool
-        ensures { result ≡ share (spec.inputs_of self.now) (texts words.now) }
-    {
-        match &self.inputs {
-            Some(names) => share(names.as_slice(), words),
-            None => false,
-        }
-    }
-
-    #[tactic(auto, unfolding(crate::specs::Says::faults, crate::specs::Step::with_line))]
+    #[tactic(auto, unfolding(crate::specs::Says::line_faults, crate::specs::Seen::with_line))]
     fn read_outputs(&mut self, alloc: Global, words: &[&[u8]]) -> Result<(), LineErr<VecFault>>
-        ensures { Takes (spec.faults self.old (codes "outputs" ∷ texts words.now)) (with_line self.old (codes "outputs" ∷ texts words.now)) result self.new }
+        requires { (self.now.stage == 0) ≡ false }
+        ensures { Takes (spec.faults_in self.old (codes "outputs" ∷ texts words.now)) (self.new ≡ spec.with_line self.old (codes "outputs" ∷ texts words.now)) result }
     {
-        if self.inputs.is_none() || self.outputs.is_some() {
+        if self.stage != 3 {
             return Err(LineErr::Fault(VecFault::OutOfOrder));
         }
-        if !are_names(words) {
+        let Some(names) = read_names(alloc, words)? else {
             return Err(LineErr::Fault(VecFault::BadNames));
-        }
-        if has_twins(words) || self.has_input(words) {
+        };
+        if has_twins(names.as_slice()) || share(self.inputs.as_slice(), names.as_slice()) {
             return Err(LineErr::Fault(VecFault::NameTwice));
         }
-        self.outputs = Some(names_of(alloc, words)?);
+        self.outputs = names;
+        self.stage = 4;
         Ok(())
     }
 
-    #[tactic(auto, unfolding(crate::specs::Says::faults, crate::specs::Step::with_line))]
+    #[tactic(auto, unfolding(crate::specs::Says::line_faults, crate::specs::Seen::with_line))]
     fn read_polarity(&mut self, words: &[&[u8]]) -> Result<(), LineErr<VecFault>>
-        ensures { Takes (spec.faults self.old (codes "polarity" ∷ texts words.now)) (with_line self.old (codes "polarity" ∷ texts words.now)) result self.new }
+        requires { (self.now.stage == 0) ≡ false }
+        ensures { Takes (spec.faults_in self.old (codes "polarity" ∷ texts words.now)) (self.new ≡ spec.with_line self.old (codes "polarity" ∷ texts words.now)) result }
     {
-        if self.outputs.is_none() || self.polarity.is_some() {
+        if self.stage != 4 {
             return Err(LineErr::Fault(VecFault::OutOfOrder));
         }
         let Some(polarity) = polarity_of(self.source_inputs(), words) else {
             return Err(LineErr::Fault(VecFault::BadBits));
         };
-        self.polarity = Some(polarity);
+        self.polarity = polarity;
+        self.stage = 5;
         Ok(())
     }
 
-    #[tactic(auto, unfolding(crate::specs::Says::faults, crate::specs::Step::with_line))]
+    #[tactic(auto, unfolding(crate::specs::Says::line_faults, crate::specs::Seen::with_line))]
     fn read_esop(&mut self, words: &[&[u8]]) -> Result<(), LineErr<VecFault>>
-        ensures { Takes (spec.faults self.old (codes "esop" ∷ texts words.now)) (with_line self.old (codes "esop" ∷ texts words.now)) result self.new }
+        requires { (self.now.stage == 0) ≡ false }
+        ensures { Takes (spec.faults_in self.old (codes "esop" ∷ texts words.now)) (self.new ≡ spec.with_line self.old (codes "esop" ∷ texts words.now)) result }
     {
-        if !self.has_front()
-            || !self.is_factored()
+        if self.stage < 5
+            || !self.form.features().cubes
             || !self.vectors.is_empty()
             || !self.unchanged.is_empty()
         {
@@ -218,11 +205,12 @@ impl Draft {
         Ok(())
     }
 
-    #[tactic(auto, unfolding(crate::specs::Says::faults, crate::specs::Step::with_line))]
+    #[tactic(auto, unfolding(crate::specs::Says::line_faults, crate::specs::Seen::with_line))]
     fn read_vector(&mut self, words: &[&[u8]]) -> Result<(), LineErr<VecFault>>
-        ensures { Takes (spec.faults self.old (codes "vector" ∷ texts words.now)) (with_line self.old (codes "vector" ∷ texts words.now)) result self.new }
+        requires { (self.now.stage == 0) ≡ false }
+        ensures { Takes (spec.faults_in self.old (codes "vector" ∷ texts words.now)) (self.new ≡ spec.with_line self.old (codes "vector" ∷ texts words.now)) result }
     {
-        if !self.has_front() || !self.unchanged.is_empty() {
+        if self.stage < 5 || !self.unchanged.is_empty() {
             return Err(LineErr::Fault(VecFault::OutOfOrder));
         }
         let Some(vector) = vector_of(self.input_count(), self.output_count(), words) else {
@@ -232,11 +220,12 @@ impl Draft {
         Ok(())
     }
 
-    #[tactic(auto, unfolding(crate::specs::Says::faults, crate::specs::Step::with_line))]
+    #[tactic(auto, unfolding(crate::specs::Says::line_faults, crate::specs::Seen::with_line))]
     fn read_unchanged(&mut self, alloc: Global, words: &[&[u8]]) -> Result<(), LineErr<VecFault>>
-        ensures { Takes (spec.faults self.old (codes "unchanged" ∷ texts words.now)) (with_line self.old (codes "unchanged" ∷ texts words.now)) result self.new }
+        requires { (self.now.stage == 0) ≡ false }
+        ensures { Takes (spec.faults_in self.old (codes "unchanged" ∷ texts words.now)) (self.new ≡ spec.with_line self.old (codes "unchanged" ∷ texts words.now)) result }
     {
-        if !self.has_front() || !self.is_factored() {
+        if self.stage < 5 || !self.form.features().undetectable {
             return Err(LineErr::Fault(VecFault::OutOfOrder));
         }
         let idle = read_idle(alloc, words)?;
@@ -244,28 +233,16 @@ impl Draft {
         Ok(())
     }
 
-    /// Reads the words of one more line, which is no `end`. After an error the draft is of no further use.
-    #[tactic(auto, unfolding(crate::specs::Says::faults, crate::specs::Step::with_line))]
-    pub fn read(&mut self, alloc: Global, words: &[&[u8]]) -> Result<(), LineErr<VecFault>>
-        requires { is_end (texts words.now) ≡ false }
-        ensures { Takes (spec.faults self.old (texts words.now)) (with_line self.old (texts words.now)) result self.new }
-    {
-        match words {
-            [] => Err(LineErr::Fault(VecFault::Unknown)),
-            [first, others @ ..] => self.read_line(alloc, first, others),
-        }
-    }
-
     /// A line's first word, and the words after it.
-    #[tactic(auto, unfolding(crate::specs::Says::faults, crate::specs::Step::with_line))]
+    #[tactic(auto, unfolding(crate::specs::Says::line_faults, crate::specs::Seen::with_line))]
     fn read_line(
         &mut self,
         alloc: Global,
         first: &[u8],
         words: &[&[u8]],
     ) -> Result<(), LineErr<VecFault>>
-        requires { bytes_eq first.now (codes "end") ≡ false }
-        ensures { Takes (spec.faults self.old (first.now ∷ texts words.now)) (with_line self.old (first.now ∷ texts words.now)) result self.new }
+        requires { (self.now.stage == 0) ≡ false }
+        ensures { Takes (spec.faults_in self.old (first.now ∷ texts words.now)) (self.new ≡ spec.with_line self.old (first.now ∷ texts words.now)) result }
     {
         if is_word(first, b"form") {
             self.read_form(words)
@@ -284,5 +261,42 @@ impl Draft {
         } else {
             Err(LineErr::Fault(VecFault::Unknown))
         }
+    }
+
+    /// Reads the words of one more line.
+    #[tactic(auto, unfolding(crate::specs::Says::line_faults, crate::specs::Seen::with_line))]
+    fn read_words(&mut self, alloc: Global, words: &[&[u8]]) -> Result<(), LineErr<VecFault>>
+        ensures { Takes (spec.faults_in self.old (texts words.now)) (self.new ≡ spec.with_line self.old (texts words.now)) result }
+    {
+        if self.stage == 0 {
+            return self.read_head(words);
+        }
+        match words {
+            [] => Err(LineErr::Fault(VecFault::Unknown)),
+            [first, others @ ..] => self.read_line(alloc, first, others),
+        }
+    }
+}
+
+impl ae_lex::Draft for Draft {
+    ghost use Rattle.std.specs.Prelude.{◌≡◌};
+    ghost use Rattle.vec_text.specs.Says.{faults};
+    ghost use Rattle.vec_text.specs.Seen.{seen};
+    ghost use Rattle.vec_text.specs.Words.{is_end};
+
+    type Fault = VecFault;
+
+    ghost says = { λ lines draft. draft ≡ seen lines };
+
+    ghost faults = { faults };
+
+    ghost ends = { is_end };
+
+    fn ends(words: &[&[u8]]) -> bool {
+        is_end(words)
+    }
+
+    fn read(&mut self, alloc: Global, words: &[&[u8]]) -> Result<(), LineErr<VecFault>> {
+        self.read_words(alloc, words)
     }
 }

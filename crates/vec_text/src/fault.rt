@@ -1,8 +1,7 @@
 //! Why a vector text is refused.
 
-use ae_base::Memory;
+use ae_lex::TextErr;
 use std::fmt;
-use thiserror::Error;
 
 /// What is wrong with a line, or with the whole text.
 #[derive(Clone, Copy, Debug, PartialEq, Eq)]
@@ -13,9 +12,9 @@ pub enum VecFault {
     Unknown,
     /// The line's first word may not stand after the lines before it, or not in this form.
     OutOfOrder,
-    /// `form` is not followed by exactly one of `reddy` and `factored`.
+    /// `form` is not followed by exactly one word of a form.
     BadForm,
-    /// `inputs` or `outputs` has no name, more than `WRITTEN_LINES`, or a word that is no name, or `inputs` in Reddy form only one.
+    /// `inputs` or `outputs` has no name, more than `WRITTEN_LINES`, or a word that is no name, or `inputs` only one in a form with a control.
     BadNames,
     /// A name of the line stands earlier in it, or among the inputs.
     NameTwice,
@@ -57,25 +56,6 @@ impl fmt::Display for VecFault {
 
 impl std::error::Error for VecFault {}
 
-/// Why `read_vec` gives no vector file.
-#[derive(Clone, Copy, Debug, PartialEq, Eq, Drop, Error)]
-pub enum VecErr {
-    /// The first fault, with the number of its line from 1 on. Where no line has words, or no line that is read has a fault and none is
-    /// `end`, that is the number of the last line of the text, 0 where there is none.
-    #[error("line {line}: {what}")]
-    At { line: u32, what: VecFault },
-    /// Memory is wanting.
-    #[error("want of memory")]
-    Memory,
-}
-
-impl From<Memory> for VecErr {
-    ghost use Rattle.std.specs.Prelude.{◌≡◌};
-    ghost use Rattle.vec_text.specs.declared.fault.VecErr.TheVariants as errors;
-
-    ghost from_gives = { λ _ e. e ≡ errors.Memory };
-
-    fn from(_want: Memory) -> VecErr {
-        VecErr::Memory
-    }
-}
+/// Why `read_vec` gives no vector file. A fault of the whole text has the number of the last line that is read: that of `end`, else that
+/// of the last line of the text, 0 where there is none.
+pub type VecErr = TextErr<VecFault>;

@@ -1,16 +1,7 @@
 //! What a vector file holds.
 
-use ae_base::{Cube, Mask, Name, Point, Polarity, Seq};
+use ae_base::{Cube, Form, Mask, Name, Point, Polarity, Seq, Step};
 use std::marker::Model;
-
-/// Which construction the network and its vectors have.
-#[derive(Clone, Copy, Debug, PartialEq, Eq)]
-pub enum Form {
-    /// The AND-EXOR cascade with a control input (after Reddy 1972).
-    Reddy,
-    /// The network of a factored ESOP, without a control input.
-    Factored,
-}
 
 /// A vector and its expected response.
 #[derive(Drop, Debug)]
@@ -40,15 +31,6 @@ pub enum PlaceName {
     Port(Name),
 }
 
-/// A letter of an evidence tree.
-#[derive(Clone, Copy, Debug, PartialEq, Eq)]
-pub enum Step {
-    /// A split on the next input, before the trees for its values 0 and 1.
-    S,
-    /// A leaf.
-    L,
-}
-
 /// What a file shows of an undetectable fault.
 #[derive(Drop, Debug)]
 pub enum Shown {
@@ -67,16 +49,16 @@ pub struct Idle {
 }
 
 /// What the text of a vector file says: the form, the names of the network's inputs and outputs, the polarity of the source's inputs,
-/// the ESOP, the vectors with their responses, and the undetectable faults. In Reddy form the control is one of the network's inputs.
+/// the ESOP, the vectors with their responses, and the undetectable faults. Where the form has a control it is one of the network's inputs.
 ///
 /// Its invariant is the rules of the vector text, a format of this project's own (`IsValidVectorFile`): the source has an input, and in
-/// Reddy form the network one more; there is an output; there are at most `WRITTEN_LINES` inputs and as many outputs; their names all
+/// a form with a control the network one more; there is an output; there are at most `WRITTEN_LINES` inputs and as many outputs; their names all
 /// differ; each cube is over the inputs and of one of the outputs; each vector is over the inputs, and its response over the outputs; a
-/// pin's number is from 1 to `PINS`, and a tree has a letter. In Reddy form there is neither a cube nor an undetectable fault.
+/// pin's number is from 1 to `PINS`, and a tree has a letter. Cubes and undetectable faults stand only in forms that list them.
 #[derive(Drop, Debug)]
 pub struct VecFile {
     pub form: Form,
-    /// The network's inputs, in Reddy form the control last.
+    /// The network's inputs, the control last where there is one.
     pub inputs: Seq<Name>,
     pub outputs: Seq<Name>,
     /// Which literal each input of the source has in the network.

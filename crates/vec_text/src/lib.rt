@@ -11,7 +11,7 @@ mod text;
 mod words;
 
 pub use fault::{VecErr, VecFault};
-pub use file::{EsopLine, Form, Idle, PlaceName, Shown, Step, VecFile, Vector};
+pub use file::{EsopLine, Idle, PlaceName, Shown, VecFile, Vector};
 pub use laws::{line_law, said_again, said_law};
 pub use read::read_vec;
 pub use text::{push_form, push_polarity, vec_text};

@@ -1,113 +1,74 @@
 //! Reads a vector text.
-ghost use Rattle.std.specs.Prelude.{◌≡◌, ◌≤◌, not, [], ◌∷◌, length, false};
-ghost use Rattle.ae_lex.specs.First.{first_of};
-ghost use Rattle.vec_text.specs.declared.fault.VecErr.TheVariants as errors;
-ghost use Rattle.vec_text.specs.declared.fault.VecFault.TheVariants as fault;
+ghost use Rattle.std.specs.Prelude.{◌≡◌, ◌≤◌, None, length, is_some, unwrap_or};
+ghost use Rattle.ae_lex.specs.First.{first_of, at_line, judged};
+ghost use Rattle.ae_lex.specs.Reads.{Gives};
 ghost use Rattle.vec_text.specs.Says as spec;
-ghost use Rattle.vec_text.specs.Sound.{IsSound};
-ghost use Rattle.vec_text.specs.Step.{TakesLine};
-ghost use Rattle.vec_text.specs.Reads.{Gives};
-ghost use Rattle.vec_text.specs.Words.{is_end};
+ghost use Rattle.vec_text.specs.VectorFile.{IsValidVectorFile};
 
 use crate::draft::Draft;
 use crate::fault::{VecErr, VecFault};
 use crate::file::VecFile;
-use crate::words::{is_end, is_head};
 use ae_base::TEXT_BYTES;
-use ae_lex::{LineErr, Style, WordLine, WordLines, word_lines};
+use ae_lex::{Style, WordLines, read_lines, word_lines};
 use std::alloc::Global;
 
-/// The refusal of a line.
-fn fault_at(line: u32, what: VecFault) -> VecErr
-    ensures { result ≡ errors.At line what }
+/// The fault of the whole text, at this stage of its draft and with or without an `end`.
+fn whole_fault(stage: u32, ended: bool) -> Option<VecFault>
+    ensures { result ≡ first_of (spec.whole_faults stage ended) }
 {
-    VecErr::At { line, what }
+    if stage == 0 {
+        return Some(VecFault::NoHead);
+    }
+    if !ended {
+        return Some(VecFault::NoEnd);
+    }
+    if stage < 5 {
+        return Some(VecFault::OutOfOrder);
+    }
+    None
 }
 
-/// Reads one more line, which is no `end`.
-fn read_line(alloc: Global, line: &WordLine<'_>, draft: &mut Draft) -> Result<(), VecErr>
-    requires { is_end line.now.words ≡ false }
-    ensures { TakesLine draft.old line.now result draft.new }
+/// The file of a draft.
+fn file_of(draft: Draft) -> VecFile
+    requires { IsValidVectorFile draft.file }
+    ensures { result ≡ draft.file }
 {
-    match draft.read(alloc, line.words()) {
-        Ok(()) => Ok(()),
-        Err(LineErr::Memory) => Err(VecErr::Memory),
-        Err(LineErr::Fault(what)) => Err(fault_at(line.number(), what)),
+    VecFile {
+        form: draft.form,
+        inputs: draft.inputs,
+        outputs: draft.outputs,
+        polarity: draft.polarity,
+        esop: draft.esop,
+        vectors: draft.vectors,
+        unchanged: draft.unchanged,
     }
 }
 
-/// The file of a draft at an `end` on the line of this number.
-#[tactic(auto, unfolding(crate::specs::Says::file_of))]
-fn finish(draft: Draft, number: u32) -> Result<VecFile, VecErr>
-    requires { IsSound draft }
-    ensures { Gives (spec.judged (spec.at_line number (first_of ((not (spec.has_front draft), fault.OutOfOrder) ∷ []))) (spec.file_of draft)) result }
+/// The file of a draft, or the fault of the whole text, which ends on the line of the number `end`, or has no end and so many lines.
+fn finish(draft: Draft, end: Option<u32>, last: u32) -> Result<VecFile, VecErr>
+    requires { first_of (spec.whole_faults draft.stage (is_some end)) ≡ None → IsValidVectorFile draft.file }
+    ensures { Gives (judged (at_line (unwrap_or end last) (first_of (spec.whole_faults draft.stage (is_some end)))) draft.file) result }
 {
-    let Draft {
-        form,
-        inputs,
-        outputs,
-        polarity,
-        esop,
-        vectors,
-        unchanged,
-    } = draft;
-    let (Some(form), Some(inputs), Some(outputs), Some(polarity)) = (
-        form, inputs, outputs, polarity,
-    ) else {
-        return Err(fault_at(number, VecFault::OutOfOrder));
-    };
-    Ok(VecFile {
-        form,
-        inputs,
-        outputs,
-        polarity,
-        esop,
-        vectors,
-        unchanged,
-    })
-}
-
-/// The file that the lines after the head say, in a text whose last line has this number.
-#[tactic(auto, using(crate::proofs::Reading::at_last))]
-fn read_lines(alloc: Global, lines: &[WordLine<'_>], last: u32) -> Result<VecFile, VecErr>
-    ensures { Gives (spec.lines_say last [] lines.now) result }
-{
-    let mut draft = Draft::new(alloc);
-    for line in lines {
-        if is_end(line.words()) {
-            return finish(draft, line.number());
-        }
-        read_line(alloc, line, &mut draft)?;
-    }
-    Err(fault_at(last, VecFault::NoEnd))
-}
-
-/// The file that the lines of a text say, the last of which has this number.
-fn read_text(alloc: Global, lines: &[WordLine<'_>], last: u32) -> Result<VecFile, VecErr>
-    ensures { Gives (spec.text_says last lines.now) result }
-{
-    match lines {
-        [] => Err(fault_at(last, VecFault::NoHead)),
-        [head, others @ ..] => {
-            if is_head(head.words()) {
-                read_lines(alloc, others, last)
-            } else {
-                Err(fault_at(head.number(), VecFault::NoHead))
-            }
-        }
+    match whole_fault(draft.stage, end.is_some()) {
+        Some(what) => Err(VecErr::At {
+            line: end.unwrap_or(last),
+            what,
+        }),
+        None => Ok(file_of(draft)),
     }
 }
 
 /// The vector file that a text says. The text has at most `TEXT_BYTES` bytes.
 ///
 /// `At` carries exactly the first fault: that of the first faulty line in order, and only where no line that is read has one, that of the
-/// whole text with the number of its last line. Nothing is read after an `end`. `Memory` comes only for want of memory. The text is a
-/// format of this project's own, whose rules `VecFault` names.
-#[tactic(auto, unfolding(crate::specs::Says::vec_says))]
+/// whole text with the number of the last line that is read. Nothing is read after an `end`. `Memory` comes only for want of memory. The
+/// text is a format of this project's own, whose rules `VecFault` names.
 pub fn read_vec(alloc: Global, bytes: &[u8]) -> Result<VecFile, VecErr>
     requires { length bytes.now ≤ TEXT_BYTES }
     ensures { Gives (spec.vec_says bytes.now) result }
 {
     let WordLines { list, last } = word_lines(alloc, bytes, Style::Pla)?;
-    read_text(alloc, list.as_slice(), last)
+    let mut draft = Draft::new(alloc);
+    let end = read_lines(alloc, list.as_slice(), &mut draft)?;
+    finish(draft, end, last)
 }

@@ -3,10 +3,13 @@ ghost use Rattle.std.specs.Prelude.{◌≡◌, ◌+◌, ◌++◌, ◌∷◌, [],
 ghost use Rattle.std.specs.List.{flat_map};
 ghost use Rattle.std.specs.Fmt.{decimal};
 ghost use Rattle.ae_base.specs.Text.{text_of, cube_text};
+ghost use Rattle.vec_text.specs.Lines as lines;
 ghost use Rattle.vec_text.specs.VectorFile as spec;
 
-use crate::file::{EsopLine, Form, Idle, PlaceName, Shown, Step, VecFile, Vector};
-use ae_base::{Cube, Memory, Name, Polarity, WRITTEN_LINES, push_bits, push_names, push_word};
+use crate::file::{EsopLine, Idle, PlaceName, Shown, VecFile, Vector};
+use ae_base::{
+    Cube, Form, Memory, Name, Polarity, Step, WRITTEN_LINES, push_bits, push_names, push_word,
+};
 use std::alloc::Global;
 
 /// Writes a blank and a number.
@@ -71,21 +74,12 @@ fn push_vectors(out: &mut Vec<u8>, n: u32, m: u32, vectors: &[Vector]) -> Result
     Ok(())
 }
 
-fn form_word(form: Form) -> &'static [u8]
-    ensures { result.now ≡ spec.form_word form }
-{
-    match form {
-        Form::Reddy => b"reddy",
-        Form::Factored => b"factored",
-    }
-}
-
 /// Writes the line of the form. After want of memory some of it may stand.
 pub fn push_form(out: &mut Vec<u8>, form: Form) -> Result<(), Memory>
     ensures { OnOk result (out.new.items ≡ out.old.items ++ text_of (spec.form_line form ∷ [])) }
 {
     out.extend_from_slice(b"form")?;
-    push_word(out, form_word(form))?;
+    push_word(out, form.word().as_bytes())?;
     out.push(b'\n')?;
     Ok(())
 }
@@ -113,7 +107,7 @@ pub fn push_polarity(out: &mut Vec<u8>, polarity: Polarity) -> Result<(), Memory
 
 /// Writes the head and the line of the form.
 fn push_title(out: &mut Vec<u8>, form: Form) -> Result<(), Memory>
-    ensures { OnOk result (out.new.items ≡ out.old.items ++ text_of (spec.title_lines form)) }
+    ensures { OnOk result (out.new.items ≡ out.old.items ++ text_of (lines.title_lines form)) }
 {
     out.extend_from_slice(b"andexor-vectors 1\n")?;
     push_form(out, form)?;
@@ -122,7 +116,7 @@ fn push_title(out: &mut Vec<u8>, form: Form) -> Result<(), Memory>
 
 /// Writes the lines of the inputs and of the outputs.
 fn push_lists(out: &mut Vec<u8>, inputs: &[Name], outputs: &[Name]) -> Result<(), Memory>
-    ensures { OnOk result (out.new.items ≡ out.old.items ++ text_of (spec.list_lines inputs.now outputs.now)) }
+    ensures { OnOk result (out.new.items ≡ out.old.items ++ text_of (lines.list_lines inputs.now outputs.now)) }
 {
     push_list(out, b"inputs", inputs)?;
     push_list(out, b"outputs", outputs)?;
@@ -131,7 +125,7 @@ fn push_lists(out: &mut Vec<u8>, inputs: &[Name], outputs: &[Name]) -> Result<()
 
 /// Writes the lines before the vectors.
 fn push_head(out: &mut Vec<u8>, file: &VecFile) -> Result<(), Memory>
-    ensures { OnOk result (out.new.items ≡ out.old.items ++ text_of (spec.head_lines file.now)) }
+    ensures { OnOk result (out.new.items ≡ out.old.items ++ text_of (lines.head_lines file.now)) }
 {
     push_title(out, file.form)?;
     push_lists(out, file.inputs.as_slice(), file.outputs.as_slice())?;
@@ -221,7 +215,7 @@ fn push_unchanged(alloc: Global, out: &mut Vec<u8>, list: &[Idle]) -> Result<(),
 
 /// Writes the lines after those of the head.
 fn push_body(alloc: Global, out: &mut Vec<u8>, file: &VecFile) -> Result<(), Memory>
-    ensures { OnOk result (out.new.items ≡ out.old.items ++ text_of (spec.body_lines file.now)) }
+    ensures { OnOk result (out.new.items ≡ out.old.items ++ text_of (lines.body_lines file.now)) }
 {
     let n = file.inputs.len() as u32;
     let m = file.outputs.len() as u32;

@@ -1,5 +1,5 @@
 use Rattle.std.proofs.Common.{◌≡◌, map}
-use Rattle.ae_lex.specs.Words.{cut_line}
+use Rattle.ae_lex.specs.Lines.{cut_line}
 use Rattle.ae_lex.proofs.slices.cut_lines.Given as goal
 
 abbrev pub invariant-loop-line : goal.invariant-loop-line

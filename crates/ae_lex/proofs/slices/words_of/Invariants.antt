@@ -1,6 +1,6 @@
 use Rattle.std.proofs.Common.{◌≡◌, map, take}
 use Rattle.ae_lex.specs.Slices.{texts}
-use Rattle.ae_lex.specs.Words.{cut}
+use Rattle.ae_lex.specs.Lines.{cut}
 use Rattle.ae_lex.proofs.slices.words_of.Given as goal
 
 abbrev pub invariant-loop-span : goal.invariant-loop-span

@@ -1,7 +1,7 @@
 use Rattle.std.proofs.Common.{◌≡◌, ◌∷◌, ◌++◌, [], List, map, drop, ◌+◌, sym, ap, ◌∙◌}
 use Rattle.ae_base.specs.Cube.{Product}
 use Rattle.blif_read.specs.Build as spec
-use Rattle.blif_read.specs.Says as says
+use Rattle.blif_read.specs.Lines as says
 use Rattle.blif_read.proofs.Cubes.{rows_more, rows_stop}
 use Rattle.blif_read.proofs.build.rows_at.Goals as goal
 

@@ -1,6 +1,6 @@
 use Rattle.std.proofs.Common.{◌≡◌, ◌++◌, map, drop}
 use Rattle.blif_read.specs.Build as spec
-use Rattle.blif_read.specs.Says as says
+use Rattle.blif_read.specs.Lines as says
 use Rattle.blif_read.proofs.build.rows_at.Given as goal
 
 abbrev pub invariant-loop-line : goal.invariant-loop-line

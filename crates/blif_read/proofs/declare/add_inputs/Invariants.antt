@@ -1,10 +1,11 @@
 use Rattle.std.proofs.Common.{◌≡◌, ◌++◌, take, drop}
 use Rattle.blif_read.specs.Faults as faults
+use Rattle.blif_read.specs.declared.fault.BlifFault.TheVariants as fault
 use Rattle.ae_lex.specs.Slices.{texts}
 use Rattle.blif_read.proofs.declare.add_inputs.Given as goal
 
 abbrev pub invariant-loop-word : goal.invariant-loop-word
 invariant-loop-word l = record {
   inputs : l.inputs ≡ l.fn.inputs ++ texts (take l.word-index l.words);
-  fault : faults.word_fault (faults.input_fault l.limits l.outputs l.driven) l.inputs (texts (drop l.word-index l.words)) ≡ faults.word_fault (faults.input_fault l.limits l.outputs l.driven) l.fn.inputs (texts l.words);
+  fault : faults.word_fault (faults.declared_fault l.limits fault.TooManyInputs l.outputs l.driven) l.inputs (texts (drop l.word-index l.words)) ≡ faults.word_fault (faults.declared_fault l.limits fault.TooManyInputs l.outputs l.driven) l.fn.inputs (texts l.words);
 }

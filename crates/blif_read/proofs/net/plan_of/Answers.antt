@@ -1,5 +1,5 @@
 use Rattle.std.proofs.Common.{◌≡◌, ℕ, length, map, ap, ◌∙◌, arith, length-append}
-use Rattle.blif_place.specs.Order.{order_of}
+use Rattle.blif_order.specs.Order.{order_of}
 use Rattle.blif_read.specs.Build.{gates_among}
 use Rattle.blif_read.proofs.Whole.{signals_are, needs_fit, order_within}
 use Rattle.blif_read.proofs.net.plan_of.Goals as goal

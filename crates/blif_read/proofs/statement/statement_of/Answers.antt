@@ -6,8 +6,9 @@ use Rattle.std.proofs.lemmas.Iterator.{YieldsList-from_slice}
 use Rattle.std.proofs.lemmas.Iterator.Search.{find_from_yields_List}
 use borrow.Author.Tests.{tests}
 use Rattle.blif_read.specs.declared.head.Head.TheVariants as head
-use Rattle.blif_read.specs.Words.{is_among}
-use Rattle.blif_read.specs.Statement.{head_of, unsupported}
+use Rattle.ae_base.specs.Twins.{is_among}
+use Rattle.blif_read.specs.Statement.{head_of}
+use Rattle.blif_read.specs.Words.{unsupported}
 use Rattle.blif_read.proofs.Heads.{head_in, head_some, head_none}
 use Rattle.blif_read.proofs.statement.statement_of.Goals as goal
 

@@ -1,5 +1,5 @@
 use Rattle.std.proofs.Common.{◌≡◌, ◌++◌}
-use Rattle.polarity.specs.Proposals.{after_draws}
+use Rattle.polarity.specs.Draws.{after_draws}
 use Rattle.demo_source.specs.Demo.{characters, input_char}
 use Rattle.demo_source.proofs.rows.push_inputs.Given as goal
 

@@ -1,5 +1,5 @@
 use Rattle.std.proofs.Common.{◌∙◌, ap, sym}
-use Rattle.polarity.specs.Proposals.{after_draws}
+use Rattle.polarity.specs.Draws.{after_draws}
 use Rattle.demo_source.proofs.Draws.{draws_on}
 use Rattle.demo_source.proofs.rows.push_row.Goals as goal
 

@@ -1,7 +1,7 @@
 use Rattle.std.proofs.Common.{◌≡◌, ◌+◌, ◌*◌, ◌++◌, map}
 use Rattle.std.specs.List.{range_with_len}
 use Rattle.ae_base.specs.Text.{text_of}
-use Rattle.polarity.specs.Proposals.{after_draws}
+use Rattle.polarity.specs.Draws.{after_draws}
 use Rattle.demo_source.specs.Demo.{demo_row}
 use Rattle.demo_source.proofs.rows.push_rows.Given as goal
 

@@ -11,12 +11,12 @@ with_third-requires-clause-apart c =
     let found : least (apart c.args.first c.args.second) ≡ Some c.in-Some.j = ap least (sym c.apart.ensures) ∙ sym c.least.ensures.least ∙ c.in-Some.is in
     (least-is _ _ found).0
 
-pub returns-in-Some : goal.returns-in-Some
-returns-in-Some c =
+pub returns : goal.returns
+returns c =
     let found : least (apart c.args.first c.args.second) ≡ Some c.in-Some.j = ap least (sym c.apart.ensures) ∙ sym c.least.ensures.least ∙ c.in-Some.is in
     c.with_third.ensures ∙ ap (with_third c.args.first c.args.second) (sym (first_apart _ _ found))
 
-pub returns-in-None : goal.returns-in-None
-returns-in-None c =
+pub unreachable-requires : goal.unreachable-requires
+unreachable-requires c =
     let none : least (apart c.args.first c.args.second) ≡ None = ap least (sym c.apart.ensures) ∙ sym c.least.ensures.least ∙ c.in-None.is in
-    absurd (omega (arith, ap length (members-none _ none), members-distance c.args.first c.args.second 1 c.requires))
+    omega (arith, ap length (members-none _ none), members-distance c.args.first c.args.second 1 c.requires)

@@ -1,7 +1,7 @@
 use Rattle.std.proofs.Common.{◌≡◌, ◌≤◌, ◌∙◌, get_or, length, map, subst, sym, ap}
 use Rattle.std.specs.Prelude.{All}
 use Rattle.std.specs.List.{AllZip}
-use Rattle.esop.specs.Esop.{HasSameValue}
+use Rattle.esop.specs.Kept.{HasSameValue}
 use Rattle.esop.specs.Rewriting.{rewritten}
 use Rattle.esop.specs.Search.{IsOrdered}
 use Rattle.esop.specs.Settled.{IsSettled}

@@ -13,12 +13,12 @@ returns-in_default c =
     let cs = c.args.cubes.now.items in
     taken_none (linked cs) cs cs (no_linked cs (ap (first_pair Linked) (sym c.as_slice.ensures.value) ∙ sym c.first_pair.ensures.pair ∙ c.in_default.is)) refl
 
-pub returns-in_default-useful_link : goal.returns-in_default-useful_link
-returns-in_default-useful_link c =
+pub unreachable-requires : goal.unreachable-requires
+unreachable-requires c =
     let cs = c.args.cubes.now.items in
     let found : first_pair Linked cs ≡ Some (c.in-Some.first, c.in-Some.second) = ap (first_pair Linked) (sym c.as_slice.ensures.value) ∙ sym c.first_pair.ensures.pair ∙ c.in-Some.is in
     let none : useful_link cs (c.in-Some.first, c.in-Some.second) ≡ None = ap (λ xs. useful_link xs (c.in-Some.first, c.in-Some.second)) (sym c.as_slice-2.ensures.value) ∙ sym c.useful_link.ensures ∙ c.in_default-useful_link.is in
-    absurd (false≢true (sym (ap is_some none) ∙ linked_useful cs (c.in-Some.first, c.in-Some.second) found))
+    false≢true (sym (ap is_some none) ∙ linked_useful cs (c.in-Some.first, c.in-Some.second) found)
 
 pub returns : goal.returns
 returns c =

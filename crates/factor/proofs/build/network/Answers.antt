@@ -1,14 +1,20 @@
-use Rattle.std.proofs.Common.{◌≡◌, ℕ, ◌+◌, ◌∙◌, List, ◌++◌, refl, ap, sym, subst, length, arith}
-use Rattle.std.specs.Prelude.{IfOk}
+use Rattle.std.proofs.Common.{◌≡◌, ◌+◌, ◌∙◌, List, ℕ, ◌++◌, ap, ap₂, sym, length, arith}
 use Rattle.ae_net.proofs.LeadLemmas.{lead_few}
+use Rattle.ae_net.specs.Builder.{Built}
 use Rattle.ae_net.specs.Network.{Network}
-use Rattle.factor.specs.Factored.{inverters, output_gates}
+use Rattle.ae_net.specs.declared.net.Gate.{Gate}
+use Rattle.factor.specs.Factored.{inverters, output_gates, network_of}
 use Rattle.factor.specs.Plan.{sums_of}
 use Rattle.factor.proofs.Planned.{is_plan, as_many, net_is, net_valid}
 use Rattle.factor.proofs.build.network.Goals as goal
 
-pub inverters-requires : goal.inverters-requires
-inverters-requires c = omega (arith, c.requires.lead, lead_few c.args.names.now c.requires.can.named)
+pub push_inverters-requires-clause-short : goal.push_inverters-requires-clause-short
+push_inverters-requires-clause-short c = omega (arith, c.requires.lead, lead_few c.args.names.now c.requires.can.named)
+
+pub push_inverters-requires-clause-room : goal.push_inverters-requires-clause-room
+push_inverters-requires-clause-room c =
+    let plan = is_plan c.args.plan.now c.args.names.now c.args.e.now c.requires.can c.requires.lead c.requires.wires c.requires.sums in
+    omega (arith, plan.few, ap length c.as_slice.ensures, ap (λ (b : Built). length b.gates) c.new-net.ensures)
 
 pub push_outputs-requires-clause-plan : goal.push_outputs-requires-clause-plan
 push_outputs-requires-clause-plan c = is_plan c.args.plan.now c.args.names.now c.args.e.now c.requires.can c.requires.lead c.requires.wires c.requires.sums
@@ -16,19 +22,22 @@ push_outputs-requires-clause-plan c = is_plan c.args.plan.now c.args.names.now c
 pub push_outputs-requires-clause-fits : goal.push_outputs-requires-clause-fits
 push_outputs-requires-clause-fits c = as_many c.args.plan.now c.args.names.now c.args.e.now c.requires.can c.requires.sums ∙ ap length (sym c.outputs.ensures.outputs)
 
-pub finish-requires : goal.finish-requires
-finish-requires c =
+-- what is finished is the network of the plan
+is_network : (c : goal.In_ok-outputs)
+    → let net = c.push_outputs.new.net in
+    ◌≡◌ {A = Network} (record { model = c.in_ok-model.model; inputs = net.inputs; outputs = c.in_ok-outputs.outputs; gates = net.gates }) (network_of c.args.plan.now.lead c.args.names.now c.args.plan.now.wires (sums_of c.args.plan.now))
+is_network c =
     let plan = c.args.plan.now in
-    let names = c.args.names.now in
-    let gates = c.in_ok-outputs.ensures.gates ∙ ap (λ (outs : List (List ℕ)). c.in_ok-gates.gates ++ output_gates plan.lead plan.wires (plan.wires.inputs + length c.in_ok-gates.gates) 0 (sums_of plan) outs) c.outputs.ensures.outputs in
-    net_valid plan names c.args.e.now _ c.requires.can c.requires.lead c.requires.wires c.requires.sums
-    (net_is plan.lead names plan.wires (sums_of plan) names.model names.inputs c.in_ok-outputs.outputs c.in_ok-gates.gates c.push_outputs.new.gates refl refl (c.in_ok-gates.ensures ∙ ap (inverters plan.lead) c.as_slice.ensures) gates c.in_ok-outputs.ensures.ports)
+    let start = c.push_inverters.new.net in
+    net_is plan.lead c.args.names.now plan.wires (sums_of plan) c.in_ok-model.model c.push_outputs.new.net.inputs c.in_ok-outputs.outputs start.gates c.push_outputs.new.net.gates
+    (c.in_ok-model.ensures ∙ c.model.ensures.model)
+    (c.push_outputs.ensures.inputs ∙ c.push_inverters.ensures.inputs ∙ ap (λ (b : Built). b.inputs) c.new-net.ensures ∙ c.in_ok-copies.ensures ∙ c.inputs.ensures.inputs)
+    (c.in_ok-push_inverters.ensures.gates ∙ ap₂ (λ (gates : List Gate) js. gates ++ inverters plan.lead js) (ap (λ (b : Built). b.gates) c.new-net.ensures) c.as_slice.ensures)
+    (c.in_ok-outputs.ensures.gates ∙ ap (λ (outs : List (List ℕ)). start.gates ++ output_gates plan.lead plan.wires (plan.wires.inputs + length start.gates) 0 (sums_of plan) outs) c.outputs.ensures.outputs)
+    c.in_ok-outputs.ensures.ports
+
+pub finish-requires : goal.finish-requires
+finish-requires c = net_valid c.args.plan.now c.args.names.now c.args.e.now _ c.names_law.ensures c.requires.can c.requires.lead c.requires.wires c.requires.sums (is_network c)
 
 pub returns : goal.returns
-returns c =
-    let plan = c.args.plan.now in
-    let names = c.args.names.now in
-    let gates = c.in_ok-outputs.ensures.gates ∙ ap (λ (outs : List (List ℕ)). c.in_ok-gates.gates ++ output_gates plan.lead plan.wires (plan.wires.inputs + length c.in_ok-gates.gates) 0 (sums_of plan) outs) c.outputs.ensures.outputs in
-    subst (λ (n : Network). IfOk c.finish.result (λ net. net ≡ n))
-    (net_is plan.lead names plan.wires (sums_of plan) names.model names.inputs c.in_ok-outputs.outputs c.in_ok-gates.gates c.push_outputs.new.gates refl refl (c.in_ok-gates.ensures ∙ ap (inverters plan.lead) c.as_slice.ensures) gates c.in_ok-outputs.ensures.ports)
-    c.finish.ensures
+returns c = c.finish.ensures ∙ is_network c.before

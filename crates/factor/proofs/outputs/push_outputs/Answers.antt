@@ -36,8 +36,8 @@ loop-o-preserved c =
     let plan = c.args.plan.now in
     let o = c.loop-o.o in
     let s = seen c.index.result.now in
-    let now = c.loop-o.gates in
-    let next = c.push_output.new.gates in
+    let now = c.loop-o.net.gates in
+    let next = c.push_output.new.net.gates in
     let l : o < length plan.sums.items = omega (arith, c.loop-o-test.true, c.len-o-end.ensures) in
     let m : o < length c.args.names.now = omega (arith, l, c.requires.fits) in
     let at = at_place plan o c.index.result.now l c.index.ensures in
@@ -48,8 +48,9 @@ loop-o-preserved c =
       gates = rw z (outputs_more plan.lead plan.wires (sums_of plan) c.args.names.now o c.loop-o.number c.in_ok-inner.inner s c.index-names-o.result now next _ (within plan o l) m at c.index-names-o.is c.in_ok-inner.ensures.gates c.in_ok-inner.ensures.inner c.loop-o.invariant.gates);
       ports = rw z (
           ap (λ (ps : List ℕ). ps ++ ends plan.wires (plan.wires.inputs + length next) (drop (suc o) (sums_of plan))) c.in_ok-push.ensures.ok
-          ∙ ends_more plan.lead c.loop-o.number plan.wires (sums_of plan) o c.in_ok-inner.inner _ s c.index-names-o.result now next c.loop-o.ports _ (within plan o l) at c.in_ok-inner.ensures.gates c.in_ok-inner.ensures.inner (ap (λ n. plan.wires.inputs + n + c.in_ok-inner.inner) c.len.ensures) c.loop-o.invariant.ports
+          ∙ ends_more plan.lead c.loop-o.number plan.wires (sums_of plan) o c.in_ok-inner.inner _ s c.index-names-o.result now next c.loop-o.ports _ (within plan o l) at c.in_ok-inner.ensures.gates c.in_ok-inner.ensures.inner (ap (λ n. plan.wires.inputs + n + c.in_ok-inner.inner) (ap length c.gates.ensures)) c.loop-o.invariant.ports
           );
       small = omega (arith, c.loop-o.invariant.small, grown, c.in_ok-inner.ensures.inner);
+      inputs = c.push_output.ensures.inputs ∙ c.loop-o.invariant.inputs;
       room = rw z (omega (arith, c.loop-o.invariant.room, grown, output_bound plan.wires (plan.wires.inputs + length now) s, most_more (sums_of plan) o s (within plan o l) at));
     }

@@ -1,8 +1,8 @@
 use Rattle.std.proofs.Common.{◌≡◌, ℕ, ◌+◌, ◌∙◌, List, ◌++◌, ap, sym, subst, length, length-append, append-nil, arith}
 use Rattle.std.specs.Prelude.{OnOk, IfOk}
 use Rattle.std.proofs.lemmas.Result.{on_ok_weaker}
-use Rattle.factor.specs.declared.cells.Cell.{Cell}
-use Rattle.factor.specs.declared.cells.Factor.{Factor}
+use Rattle.ae_net.specs.declared.gates.Cell.{Cell}
+use Rattle.factor.specs.declared.parts.Factor.{Factor}
 use Rattle.factor.specs.Cells.{Parts, parts, sum_part, closing}
 use Rattle.factor.specs.Seen.{seen}
 use Rattle.factor.specs.Sums.Summands.{end, literals, factored}

@@ -1,6 +1,6 @@
 use Rattle.std.proofs.Common.{refl, ap, ◌∙◌}
 use Rattle.ae_base.proofs.Sets.{has-empty}
-use Rattle.expansion.specs.Even.{is_odd}
+use Rattle.expansion.specs.Counts.{is_odd}
 use Rattle.input_tests.proofs.CodeLemmas.{odd_of, odds_more}
 use Rattle.input_tests.proofs.vectors.odd_inputs.Goals as goal
 

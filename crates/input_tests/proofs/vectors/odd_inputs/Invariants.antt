@@ -2,7 +2,7 @@ use Rattle.std.proofs.Common.{◌≡◌, ℕ, ◌||◌, ◌%◌, drop}
 use Rattle.std.specs.Prelude.{◌==◌, count_by}
 use Rattle.std.specs.List.{list_any}
 use Rattle.ae_base.specs.Mask.{has}
-use Rattle.expansion.specs.Even.{is_odd}
+use Rattle.expansion.specs.Counts.{is_odd}
 use Rattle.input_tests.proofs.vectors.odd_inputs.Given as goal
 
 abbrev pub invariant-loop-terms : goal.invariant-loop-terms

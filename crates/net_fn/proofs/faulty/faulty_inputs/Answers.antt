@@ -3,10 +3,10 @@ use Rattle.std.specs.Prelude.{Some, None}
 use Rattle.std.proofs.lemmas.Option.{slice_get-get_or}
 use Rattle.ae_base.specs.Mask.{Set, has}
 use Rattle.ae_net.specs.declared.net.Place.TheVariants.{Stem}
-use Rattle.ae_net.specs.Run.{seen}
+use Rattle.ae_net.specs.Run.{seen, value_of}
 use Rattle.net_fn.proofs.Alike.{input-shown, Keeps-itself}
 use Rattle.net_fn.proofs.References.{Shown-push}
-use Rattle.net_fn.proofs.Signals.{inputs-shown}
+use Rattle.net_fn.proofs.Signals.{inputs-shown, runs-evaluation}
 use Rattle.net_fn.proofs.faulty.faulty_inputs.Goals as goal
 
 pub loop-j-preserved : goal.loop-j-preserved
@@ -19,7 +19,7 @@ loop-j-preserved g c =
     rw c.in_ok-push.ensures.items
     (Shown-push s s s c.loop-j.refs.items c.seen.result (λ j x. seen (Some c.args.fault) (Stem j) (has x j)) c.loop-j.j c.loop-j.invariant (Keeps-itself s)
     (c.seen.ensures.shows (λ x. has x c.loop-j.j)
-    (input-shown s n c.args.good.now c.loop-j.j _ (λ x. (one x).0) (λ x. (one x).1) c.requires below (slice_get-get_or c.args.good.now c.loop-j.j (record { at = 0 }) within))))
+    (input-shown s n c.args.good.now c.loop-j.j _ (λ s x. value_of (one x).0 s) (runs-evaluation n None (λ x. (one x).0) (λ x. (one x).1)) c.requires below (slice_get-get_or c.args.good.now c.loop-j.j (record { at = 0 }) within))))
 
 pub returns : goal.returns
 returns g c =

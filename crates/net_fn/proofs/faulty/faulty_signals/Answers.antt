@@ -22,5 +22,5 @@ loop-i-preserved g c =
     rw c.in_ok-push.ensures.items
     (Made-push (g.S.FnStore.functions c.args.store.now) (g.S.FnStore.functions c.loop-i.store) (g.S.FnStore.functions c.faulty_gate.new.store) n (Some c.args.fault) c.loop-i.refs.items c.loop-i.i (gate_at n c.loop-i.i) c.in_ok-value.value c.seen.result
     c.loop-i.invariant there
-    (λ w each. c.in_ok-value.ensures.shows c.loop-i.i w (rw c.deref.ensures.value c.loop-i.invariant.signals.count) (rw c.deref.ensures.value each)) c.faulty_gate.ensures.keeps
+    (λ fs each. c.in_ok-value.ensures.shows c.loop-i.i fs (rw c.deref.ensures.value c.loop-i.invariant.signals.count) (rw c.deref.ensures.value each)) c.faulty_gate.ensures.keeps
     (λ f h. rw (← len) (c.seen.ensures.shows f h)) c.seen.ensures.live)

@@ -17,5 +17,5 @@ loop-i-preserved g c =
     rw c.in_ok-push.ensures.items
     (Made-push (g.S.FnStore.functions c.args.store.now) (g.S.FnStore.functions c.loop-i.store) (g.S.FnStore.functions c.gate_value.new.store) c.args.net.now c.args.fault c.loop-i.refs.items c.loop-i.i c.gate.result.now c.in_ok-value.value c.seen.result
     c.loop-i.invariant there
-    (λ w each. c.in_ok-value.ensures.shows w (rw c.deref.ensures.value each)) c.gate_value.ensures.keeps
+    (λ fs each. c.in_ok-value.ensures.shows fs (rw c.deref.ensures.value each)) c.gate_value.ensures.keeps
     (λ f h. rw (← len) (c.seen.ensures.shows f h)) c.seen.ensures.live)

@@ -1,7 +1,8 @@
 use Rattle.std.proofs.Common.{◌≡◌, take, drop, map}
 use Rattle.std.specs.List.{AllZip}
 use Rattle.polarity.specs.Asking.{AreAsked, IsCandidate}
-use Rattle.polarity.specs.Search.{OfEachSource, Stands, advised}
+use Rattle.polarity.specs.Search.{Stands, advised}
+use Rattle.polarity.specs.Makers.{OfEachSource}
 use Rattle.polarity.proofs.asking.ask_each.Given as goal
 
 abbrev pub invariant-each : goal.invariant-each

@@ -1,6 +1,7 @@
 use Rattle.std.proofs.Common.{◌≡◌}
 use Rattle.polarity.specs.Asking.{IsCandidate, IsBeingAsked}
-use Rattle.polarity.specs.Search.{OfEachSource, Stands, advised}
+use Rattle.polarity.specs.Search.{Stands, advised}
+use Rattle.polarity.specs.Makers.{OfEachSource}
 use Rattle.polarity.proofs.asking.ask_one.Given as goal
 
 abbrev pub invariant-asking : goal.invariant-asking

@@ -1,7 +1,7 @@
 use Rattle.std.proofs.Common.{◌≡◌, suc}
 use Rattle.std.specs.Prelude.{nat_lt}
 use Rattle.ae_base.specs.Mask.{where_below}
-use Rattle.polarity.specs.Proposals.{after_draws, drawn}
+use Rattle.polarity.specs.Draws.{after_draws, drawn}
 use Rattle.polarity.proofs.walker.draw_polarity.Given as goal
 
 abbrev pub invariant-loop-j : goal.invariant-loop-j

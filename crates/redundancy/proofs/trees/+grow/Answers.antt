@@ -8,11 +8,11 @@ use Rattle.redundancy.proofs.trees.+grow.Goals as goal
 
 pub returns-then-leaf_holds-clause-grows : goal.returns-then-leaf_holds-clause-grows
 returns-then-leaf_holds-clause-grows t c =
-    IfOk-weaker c.add_leaf.result _ _ (grows_leaf c.args.net.now c.args.fault _ c.args.cube.now c.args.tree.now c.add_leaf.new.tree (sym c.leaf_holds.ensures ∙ c.if-leaf_holds.true)) c.add_leaf.ensures.adds
+    IfOk-weaker c.add_leaf.result _ _ (grows_leaf c.args.net.now c.args.fault _ c.args.cube.now c.args.tree.now c.add_leaf.new.tree (sym c.leaf_holds.ensures.worked ∙ c.if-leaf_holds.true)) c.add_leaf.ensures.adds
 
 pub returns-then-cube-inputs-clause-grows : goal.returns-then-cube-inputs-clause-grows
 returns-then-cube-inputs-clause-grows t c =
-    grows_point c.args.net.now c.args.fault _ c.args.cube.now c.args.tree.now c.args.tree.now (sym c.leaf_holds.ensures ∙ c.if-leaf_holds.false)
+    grows_point c.args.net.now c.args.fault _ c.args.cube.now c.args.tree.now c.args.tree.now (sym c.leaf_holds.ensures.worked ∙ c.if-leaf_holds.false)
     (omega (arith, c.if-cube-inputs.true, ap length c.inputs-inputs.ensures.inputs))
 
 -- one input more is known below
@@ -24,7 +24,7 @@ returns-in-None-clause-grows t c =
     let n = c.args.net.now in
     let d = c.args.cube.now in
     let inputs = length n.inputs in
-    let e = sym c.leaf_holds.ensures ∙ c.if-leaf_holds.false in
+    let e = sym c.leaf_holds.ensures.worked ∙ c.if-leaf_holds.false in
     let more = one_more inputs d.depth c.requires.depth (λ same. c.if-cube-inputs.false (same ∙ sym (ap length c.inputs-inputs.ensures.inputs))) in
     let first : Grows n c.args.fault (inputs - suc d.depth) (low d) c.add_split.new.tree c.grow.new.tree None =
     subst (λ o. Grows n c.args.fault (inputs - suc d.depth) (low d) c.add_split.new.tree c.grow.new.tree o) c.in-None.is
@@ -38,7 +38,7 @@ returns-in-Some-clause-grows t c =
     let n = c.args.net.now in
     let d = c.args.cube.now in
     let inputs = length n.inputs in
-    let e = sym c.leaf_holds.ensures ∙ c.if-leaf_holds.false in
+    let e = sym c.leaf_holds.ensures.worked ∙ c.if-leaf_holds.false in
     let more = one_more inputs d.depth c.requires.depth (λ same. c.if-cube-inputs.false (same ∙ sym (ap length c.inputs-inputs.ensures.inputs))) in
     grows_stopped n c.args.fault (inputs - suc d.depth) (inputs - d.depth) d c.args.tree.now c.add_split.new.tree c.grow.new.tree e more c.in_ok-add_split.ensures.adds c.in-Some.found c.grow.new.tree
     (subst (λ o. Grows n c.args.fault (inputs - suc d.depth) (low d) c.add_split.new.tree c.grow.new.tree o) c.in-Some.is

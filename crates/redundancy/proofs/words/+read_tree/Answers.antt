@@ -2,10 +2,9 @@ use Rattle.std.proofs.Common.{◌≡◌, ℕ, suc, ◌+◌, ◌<◌, List, ◌�
 use Rattle.std.specs.Prelude.{MatchOption}
 use Rattle.std.proofs.lemmas.Bool.{false≢true}
 use Rattle.std.proofs.lemmas.List.{drop_all}
-use Rattle.redundancy.specs.declared.words.Step.{Step}
-use Rattle.redundancy.specs.declared.words.Step.TheVariants.{S, L}
+use Rattle.ae_base.specs.declared.step.Step.{Step}
+use Rattle.ae_base.specs.declared.step.Step.TheVariants.{S, L}
 use Rattle.redundancy.specs.Reading.{HasNoTree, ReadsTo}
-use Rattle.redundancy.proofs.Full.{LeafHolds-worked, worked-LeafHolds}
 use Rattle.redundancy.proofs.Readings.{nothing_left, reads_leaf, no_leaf, no_split, no_low, reads_second}
 use Rattle.redundancy.proofs.words.+read_tree.Goals as goal
 
@@ -19,12 +18,12 @@ returns-then-at-word-clause-reads t c = nothing_left c.args.net.now c.args.fault
 pub returns-then-leaf_holds-clause-reads : goal.returns-then-leaf_holds-clause-reads
 returns-then-leaf_holds-clause-reads t c =
     reads_leaf c.args.net.now c.args.fault c.args.cube.now c.args.word.now c.args.at (letter c.args.word.now c.args.at L S c.if-at-word.false c.in-L.is) c.if-at-word.false
-    (LeafHolds-worked c.args.net.now c.args.fault c.args.cube.now c.inputs-inputs.ensures.valid (sym c.leaf_holds.ensures ∙ c.if-leaf_holds.true))
+    (c.leaf_holds.ensures.tells.worked.0 (sym c.leaf_holds.ensures.worked ∙ c.if-leaf_holds.true))
 
 pub returns-else-leaf_holds-clause-reads : goal.returns-else-leaf_holds-clause-reads
 returns-else-leaf_holds-clause-reads t c =
     no_leaf c.args.net.now c.args.fault c.args.cube.now c.args.word.now c.args.at (letter c.args.word.now c.args.at L S c.if-at-word.false c.in-L.is)
-    (λ h. false≢true (sym c.if-leaf_holds.false ∙ c.leaf_holds.ensures ∙ worked-LeafHolds c.args.net.now c.args.fault c.args.cube.now c.inputs-inputs.ensures.valid h))
+    (λ h. false≢true (sym c.if-leaf_holds.false ∙ c.leaf_holds.ensures.worked ∙ c.leaf_holds.ensures.tells.worked.1 h))
 
 pub returns-then-cube-inputs-clause-reads : goal.returns-then-cube-inputs-clause-reads
 returns-then-cube-inputs-clause-reads t c =

@@ -3,7 +3,6 @@ use Rattle.std.specs.Prelude.{MatchOption, Some}
 use Rattle.std.proofs.lemmas.Bool.{OnTrue_from}
 use Rattle.redundancy.specs.Evidence.{WordHolds}
 use Rattle.redundancy.specs.Reading.{HasNoTree, ReadsTo}
-use Rattle.redundancy.proofs.EvidenceTrees.{undetectable}
 use Rattle.redundancy.proofs.Readings.{checked}
 use Rattle.redundancy.proofs.words.check_tree.Goals as goal
 
@@ -18,4 +17,4 @@ pub returns-clause-holds : goal.returns-clause-holds
 returns-clause-holds c = (λ h. (whole_word c).0 (c.is_whole.ensures.0 h), λ h. c.is_whole.ensures.1 ((whole_word c).1 h))
 
 pub returns-clause-undetectable : goal.returns-clause-undetectable
-returns-clause-undetectable c = OnTrue_from c.is_whole.result _ (λ h. undetectable c.args.net.now c.args.fault c.args.word.now c.read_tree-end.ensures.valid ((whole_word c).0 (c.is_whole.ensures.0 h)))
+returns-clause-undetectable c = OnTrue_from c.is_whole.result _ (λ h. c.evidence_law.ensures.sound c.args.net.now c.args.fault c.args.word.now c.read_tree-end.ensures.valid ((whole_word c).0 (c.is_whole.ensures.0 h)))

@@ -1,35 +1,44 @@
-use Rattle.std.proofs.Common.{ap, Err, inr}
-use Rattle.ae_base.proofs.Results.{answered}
+use Rattle.std.proofs.Common.{◌∷◌, [], refl, subst}
 use Rattle.synth_core.specs.Made.{texts_of}
-use Rattle.synth_cmd.specs.Stops.{of_source, of_texts}
-use Rattle.synth_cmd.specs.declared.stop.Stop.TheVariants as stop
-use Rattle.synth_cmd.proofs.Jobs.{both_whole, net_stops, vectors_stop, some_stops}
-use Rattle.synth_cmd.proofs.Stopped.{memory, net_fault, source_refused, vectors_fault}
+use Rattle.synth_cmd.specs.Outcome.{synthesis_of}
+use Rattle.synth_cmd.specs.Outside.{CountsAmong}
+use Rattle.synth_cmd.specs.Reading.{names_read, names_written}
+use Rattle.synth_cmd.specs.Words.{synth_asked}
+use Rattle.synth_cmd.proofs.Ends.{comes_unmade}
+use Rattle.synth_cmd.proofs.Jobs.{comes_stopped, comes_written}
+use Rattle.synth_cmd.proofs.Names.{among_none}
 use Rattle.synth_cmd.proofs.job.synthesise_files.Goals as goal
 
-pub returns-clause-done : goal.returns-clause-done
-returns-clause-done g c = both_whole _ _ _ _ _ _ _ _ _ c.in_ok-made.ensures.stays (texts_of c.in_ok-made.made) c.in_ok-made.ensures.made c.in_ok-write_texts.ensures.done
+pub returns-in-Err : goal.returns-in-Err
+returns-in-Err g c =
+    let e = c.in-Err.ensures in
+    record {
+      comes = rw c.stop_of.ensures (comes_unmade (λ made. synthesis_of (texts_of made)) (λ made. synthesis_of (texts_of made)) (synth_asked c.args.settings.now c.args.names.now) _ _ c.in-Err.unmade e.stays e.gives);
+      reads = e.reads;
+      writes = among_none _ _ _ e.writes;
+      advisors = e.advisors;
+    }
 
-pub returns-in_err-write_texts-clause-net_stops : goal.returns-in_err-write_texts-clause-net_stops
-returns-in_err-write_texts-clause-net_stops g c is =
-    let from = c.from_residual-in_err-write_texts in
-    let fault = net_fault _ (answered from.result of_texts _ stop.NetFault from.ensures.1 is) in
-    net_stops _ _ _ _ _ _ _ _ _ c.in_ok-made.ensures.stays (texts_of c.in_ok-made.made) c.in_ok-made.ensures.made (c.in_err-write_texts.ensures.net_in_part (ap Err fault))
+pub returns-in-Ok-write_texts : goal.returns-in-Ok-write_texts
+returns-in-Ok-write_texts g c =
+    let e = c.in-Ok.ensures in
+    let w = c.in-Ok-write_texts.ensures in
+    let asked = synth_asked c.args.settings.now c.args.names.now in
+    record {
+      comes = comes_written (λ made. synthesis_of (texts_of made)) c.in-Ok.made asked _ _ _ refl e.stays e.gives w.writes;
+      reads = rw w.reads e.reads;
+      writes = subst (λ b. CountsAmong (names_written asked) b (g.F.Files.write_faults c.write_texts.new.files)) e.writes w.counts;
+      advisors = e.advisors;
+    }
 
-pub returns-in_err-write_texts-clause-vectors_stop : goal.returns-in_err-write_texts-clause-vectors_stop
-returns-in_err-write_texts-clause-vectors_stop g c is =
-    let from = c.from_residual-in_err-write_texts in
-    let fault = vectors_fault _ (answered from.result of_texts _ stop.VectorsFault from.ensures.1 is) in
-    vectors_stop _ _ _ _ _ _ _ _ _ c.in_ok-made.ensures.stays (texts_of c.in_ok-made.made) c.in_ok-made.ensures.made (c.in_err-write_texts.ensures.vectors_in_part (ap Err fault))
-
-pub returns-in_err-write_texts-clause-memory : goal.returns-in_err-write_texts-clause-memory
-returns-in_err-write_texts-clause-memory g c is =
-    let from = c.from_residual-in_err-write_texts in
-    let want = memory _ (answered from.result of_texts _ stop.Memory from.ensures.1 is) in
-    inr (some_stops _ _ _ _ _ _ _ _ _ c.in_ok-made.ensures.stays (texts_of c.in_ok-made.made) c.in_ok-made.ensures.made (c.in_err-write_texts.ensures.memory (ap Err want)))
-
-pub returns-in_err-made-clause-refused : goal.returns-in_err-made-clause-refused
-returns-in_err-made-clause-refused g c r is =
-    let from = c.from_residual in
-    let refused = source_refused _ r (answered from.result of_source _ (stop.Refused r) from.ensures.1 is) in
-    c.in_err-made.ensures.refused r (ap Err refused)
+pub returns : goal.returns
+returns g c =
+    let e = c.in-Ok.ensures in
+    let w = c.in-Err-write_texts.ensures in
+    let asked = synth_asked c.args.settings.now c.args.names.now in
+    record {
+      comes = comes_stopped (λ made. synthesis_of (texts_of made)) c.in-Ok.made asked _ _ _ refl e.stays e.gives c.in-Err-write_texts.stop e.writes w.writes;
+      reads = rw w.reads e.reads;
+      writes = subst (λ b. CountsAmong (names_written asked) b (g.F.Files.write_faults c.write_texts.new.files)) e.writes w.counts;
+      advisors = e.advisors;
+    }

@@ -1,6 +1,4 @@
-use Rattle.std.proofs.Common.{inr}
-use Rattle.synth_cmd.proofs.Telling.{tells_none}
 use Rattle.synth_cmd.proofs.tell.refuse.Goals as goal
 
-pub returns-in-Err-clause-told : goal.returns-in-Err-clause-told
-returns-in-Err-clause-told g c = inr (c.want_memory.ensures.status, tells_none _ _ _ c.want_memory.ensures.told)
+pub returns-in-Words-clause-told : goal.returns-in-Words-clause-told
+returns-in-Words-clause-told g c = rw c.in-Words.is c.tell.ensures.told

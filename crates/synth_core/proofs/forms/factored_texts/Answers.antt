@@ -5,7 +5,7 @@ use Rattle.ae_base.specs.Source.{Source}
 use Rattle.ae_net.specs.Blif.{blif_text}
 use Rattle.expansion.specs.Functions.{AreExpansions}
 use Rattle.factor.specs.Shows.{cube_count}
-use Rattle.vec_text.specs.declared.file.Form.TheVariants.{Factored}
+use Rattle.ae_base.specs.declared.form.Form.TheVariants.{Factored}
 use Rattle.vec_text.specs.VectorFile.{VectorFile, vector_text}
 use Rattle.synth_core.specs.Made.{AreNumbers, IsSynthesised, Texts, names_of, texts_of}
 use Rattle.synth_core.specs.Steps.{AreTests, IsFactoredNet}
@@ -27,7 +27,7 @@ is_net c = record {
   named = c.outputs.ensures.valid;
   cubes_valid = c.lists.ensures.valid;
   fits = cubes_fit c.args.names.now c.args.e.now c.in_ok-esop.esop c.requires.fits (c.in_ok-esop.ensures);
-  valid = c.inputs.ensures.valid;
+  valid = c.valid_law.ensures;
   form = c.in_ok-net.ensures.form;
   names_are = c.factored_law.ensures.names c.args.names.now c.in_ok-esop.esop c.in_ok-net.net (record {
     named = c.outputs.ensures.valid;
@@ -45,7 +45,7 @@ net_of c = record {
   named = c.outputs.ensures.valid;
   cubes_valid = c.lists.ensures.valid;
   fits = cubes_fit c.args.names.now c.args.e.now c.in_ok-esop.esop c.requires.fits (c.in_ok-esop.ensures);
-  valid = c.inputs.ensures.valid;
+  valid = c.valid_law.ensures;
   form = c.in_ok-net.ensures.form;
   names_are = c.factored_law.ensures.names c.args.names.now c.in_ok-esop.esop c.in_ok-net.net (record {
     named = c.outputs.ensures.valid;

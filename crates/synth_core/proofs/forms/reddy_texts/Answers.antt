@@ -2,9 +2,9 @@ use Rattle.std.proofs.Common.{◌≡◌, subst}
 use Rattle.std.proofs.lemmas.Result.{IfOk-weaker}
 use Rattle.ae_base.specs.Source.{Source}
 use Rattle.ae_net.specs.Blif.{blif_text}
-use Rattle.cascade.specs.Reddy.{reddy_net}
+use Rattle.cascade.specs.Shows.{reddy_net}
 use Rattle.expansion.specs.Functions.{AreExpansions}
-use Rattle.vec_text.specs.declared.file.Form.TheVariants.{Reddy}
+use Rattle.ae_base.specs.declared.form.Form.TheVariants.{Reddy}
 use Rattle.vec_text.specs.VectorFile.{VectorFile, vector_text}
 use Rattle.synth_core.specs.Made.{AreNumbers, IsSynthesised, names_of, texts_of}
 use Rattle.synth_core.specs.Steps.{AreReady, reddy_file}

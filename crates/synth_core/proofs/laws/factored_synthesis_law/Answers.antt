@@ -13,5 +13,5 @@ pub returns-clause-made : goal.returns-clause-made
 returns-clause-made c s e cubes n points unchanged summary are signs rewritten net tests numbers =
     let keeps = c.said_law.ensures.written n net.valid (factored_inputs (names_of s) cubes n net) (factored_outputs (names_of s) cubes n net) in
     is_factored s e are cubes n points unchanged rewritten net tests c.expansion_law.ensures.meaning
-    (is_valid_factored (names_of s) e.polarity cubes n points unchanged signs (sym rewritten.inputs) net tests) (c.said_again.ensures n net.valid keeps)
+    (c.said_again.ensures n net.valid keeps)
     (c.said_again-2.ensures _ (is_valid_factored (names_of s) e.polarity cubes n points unchanged signs (sym rewritten.inputs) net tests)) c.one_run.ensures.shows c.lead_law.ensures.least summary numbers

@@ -18,6 +18,6 @@ returns-clause-made c s e summary ready are numbers =
     let keeps = c.said_law.ensures.written _ valid (few_inputs names e can valid inputs ports) (few_outputs names e can valid inputs ports) in
     is_synthesised s e are valid inputs ports
     (c.reddy_law.ensures.functions names e can) (c.reddy_law.ensures.complements names e can) c.one_run.ensures.shows c.expansion_law.ensures.inside c.expansion_law.ensures.meaning
-    (is_valid_file names e can valid inputs ports ready.points) (c.said_again.ensures _ valid keeps) (c.said_again-2.ensures _ (is_valid_file names e can valid inputs ports ready.points))
+    (c.said_again.ensures _ valid keeps) (c.said_again-2.ensures _ (is_valid_file names e can valid inputs ports ready.points))
     (c.input_law.ensures.complete names e can) (c.input_law.ensures.few e) (c.even_law.ensures.even s e.polarity e are)
     c.lead_law.ensures.least summary numbers

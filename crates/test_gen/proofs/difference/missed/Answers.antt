@@ -13,5 +13,5 @@ pub returns : goal.returns
 returns c =
     IfOk-weaker c.not_found.result _ _
     (λ left h. h (λ fault. not (detects c.args.net.now fault c.args.point)) (rw c.deref.ensures.value
-    (one_point c.args.net.now c.args.point (λ fault. c.truth_law.ensures c.args.net.now fault c.args.point c.inputs.ensures.valid) c.args.list.now c.in_ok-found.found.items c.in_ok-found.ensures)))
+    (one_point c.args.net.now c.args.point (λ fault. c.truth_law.ensures c.args.net.now fault c.args.point c.valid_law.ensures) c.args.list.now c.in_ok-found.found.items c.in_ok-found.ensures)))
     c.not_found.ensures

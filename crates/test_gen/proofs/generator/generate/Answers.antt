@@ -11,14 +11,14 @@ returns-clause-tests g c =
 pub returns-clause-points : goal.returns-clause-points
 returns-clause-points g c =
     IfOk-weaker c.tests_for.result _ _
-    (λ tests h. rw h (c.tests_law.ensures.points c.args.net.now (g.S.FnStore.functions c.args.store.now).polarity c.inputs.ensures.valid c.requires)) (returns-clause-tests g c)
+    (λ tests h. rw h (c.tests_law.ensures.points c.args.net.now (g.S.FnStore.functions c.args.store.now).polarity c.valid_law.ensures c.requires)) (returns-clause-tests g c)
 
 pub returns-clause-complete : goal.returns-clause-complete
 returns-clause-complete g c =
     IfOk-weaker c.tests_for.result _ _
-    (λ tests h. rw h (c.tests_law.ensures.complete c.args.net.now (g.S.FnStore.functions c.args.store.now).polarity c.inputs.ensures.valid c.requires)) (returns-clause-tests g c)
+    (λ tests h. rw h (c.tests_law.ensures.complete c.args.net.now (g.S.FnStore.functions c.args.store.now).polarity c.valid_law.ensures c.requires)) (returns-clause-tests g c)
 
 pub returns-clause-each_new : goal.returns-clause-each_new
 returns-clause-each_new g c =
     IfOk-weaker c.tests_for.result _ _
-    (λ tests h. rw h (c.tests_law.ensures.each_new c.args.net.now (g.S.FnStore.functions c.args.store.now).polarity c.inputs.ensures.valid c.requires)) (returns-clause-tests g c)
+    (λ tests h. rw h (c.tests_law.ensures.each_new c.args.net.now (g.S.FnStore.functions c.args.store.now).polarity c.valid_law.ensures c.requires)) (returns-clause-tests g c)

@@ -1,14 +1,13 @@
 use Rattle.std.proofs.Common.{not, rules}
 use Rattle.std.specs.Prelude.{None}
 use Rattle.ae_net.specs.Network.{signals}
-use Rattle.test_gen.proofs.Pairs.{ShowSignals-kept}
 use Rattle.test_gen.specs.Tests.{detects}
 use Rattle.test_gen.proofs.Searched.{Searching-next_some, shorter}
 use Rattle.test_gen.proofs.generator.tests_for.Goals as goal
 
 pub add_test-requires : goal.add_test-requires
 add_test-requires g c =
-    ShowSignals-kept (g.S.FnStore.functions c.args.store.now) (g.S.FnStore.functions c.loop-next.store) c.args.net.now None (signals c.args.net.now) c.args.good.now c.loop-next.invariant.keeps c.requires
+    c.kept_law.ensures.signals (g.S.FnStore.functions c.args.store.now) (g.S.FnStore.functions c.loop-next.store) c.args.net.now None (signals c.args.net.now) c.args.good.now c.loop-next.invariant.keeps c.requires
 
 pub loop-next-smaller-in-Some : goal.loop-next-smaller-in-Some
 loop-next-smaller-in-Some g c =

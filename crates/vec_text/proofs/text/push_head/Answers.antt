@@ -1,6 +1,7 @@
 use Rattle.std.proofs.Common.{◌≡◌, ◌∷◌, [], ◌++◌, ◌∙◌, ap, ap₂, List, ℕ}
 use Rattle.ae_base.specs.Text.{text_of}
-use Rattle.vec_text.specs.VectorFile.{title_lines, list_lines, polarity_line}
+use Rattle.vec_text.specs.Lines.{title_lines, list_lines}
+use Rattle.vec_text.specs.VectorFile.{polarity_line}
 use Rattle.vec_text.proofs.Written.{lines_more}
 use Rattle.vec_text.proofs.text.push_head.Goals as goal
 

@@ -1,0 +1,13 @@
+use Rattle.std.proofs.Common.{ap, ap₂, ◌∙◌, ◌||◌}
+use Rattle.std.specs.Prelude.{slice_index}
+use Rattle.ae_base.specs.Mask.{differ, has}
+use Rattle.fault_sim.specs.Lanes.{port_differs}
+use Rattle.fault_sim.proofs.Cones.{more-apart}
+use Rattle.fault_sim.proofs.cone.ports_apart.Goals as goal
+
+pub loop-o-preserved : goal.loop-o-preserved
+loop-o-preserved c lane lt =
+    c.either-word.ensures lane
+    ∙ ap₂ (λ a b. a || b) (c.loop-o.invariant lane lt)
+    (c.apart.ensures lane ∙ ap (λ b. differ b (has (slice_index c.args.good.now (slice_index c.args.outputs.now c.loop-o.o)) lane)) (c.held-with.ensures lane lt))
+    ∙ more-apart (port_differs c.args.outputs.now c.args.fault c.args.good.now c.args.words.now lane) c.loop-o.o

@@ -1,0 +1,15 @@
+use Rattle.std.proofs.Common.{◌≡◌, ◌-◌, ◌≤◌, length}
+use Rattle.fault_sim.specs.Bench.{IsBench}
+use Rattle.fault_sim.specs.Lanes.{AreFirstBelow}
+use Rattle.fault_sim.proofs.search.try_points.Given as goal
+
+abbrev pub invariant-loop-base : goal.invariant-loop-base
+invariant-loop-base l = record {
+  bench : IsBench l.net l.bench;
+  within : l.base ≤ length l.points;
+  len : length l.found ≡ length l.fn.found;
+  first : AreFirstBelow l.net l.points l.base l.list l.found 0 (length l.list);
+}
+
+abbrev pub decreases-loop-base : goal.decreases-loop-base
+decreases-loop-base l = length l.points - l.base

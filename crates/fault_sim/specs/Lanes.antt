@@ -1,0 +1,81 @@
+-- Words of 64 lanes, each with the values of a run of its own: a word is the set of the lanes that show 1. For private contracts alone.
+use Rattle.std.specs.Prelude.{◌≡◌, ◌↔◌, ℕ, zero, suc, ◌+◌, ◌<◌, ◌≤◌, Bool, true, false, not, ◌&&◌, ◌||◌, Option, Some, None, List, length, slice_get, slice_index}
+use Rattle.std.specs.Option.{MatchOption}
+use Rattle.ae_base.specs.Cube.{Product}
+use Rattle.ae_base.specs.Mask.{Set, differ, has}
+use Rattle.ae_net.specs.declared.net.Gate.{Gate}
+use Rattle.ae_net.specs.declared.net.Place.TheVariants.{Stem, Pin, Port}
+use Rattle.ae_net.specs.declared.net.Fault.{Fault}
+use Rattle.ae_net.specs.Network.{Network, signals}
+use Rattle.ae_net.specs.Out.{Differs}
+use Rattle.ae_net.specs.Run.{IsRun, same_place, seen, value_of}
+
+-- all numbers below n pass the test
+abbrev pub each_below : ℕ → (ℕ → Bool) → Bool
+each_below zero p = true
+each_below (suc n) p = each_below n p && p n
+
+-- the literals of a row at position k hold where the pin there sees v
+abbrev pub allows : Product → ℕ → Bool → Bool
+allows row k v = (not (has row.pos k) || v) && (not (has row.neg k) || not v)
+
+-- lane l of what pin k of the gate in place i sees where the signals have these words
+abbrev pub pin_lane : Option Fault → List ℕ → ℕ → Gate → ℕ → ℕ → Bool
+pin_lane fault words i gate l k = seen fault (Pin i k) (has (slice_index words (slice_index gate.pins k)) l)
+
+-- what port o shows with the fault and without differs in lane l
+abbrev pub port_differs : List ℕ → Fault → List ℕ → List ℕ → ℕ → ℕ → Bool
+port_differs outputs fault good words l o = differ (seen (Some fault) (Port o) (has (slice_index words (slice_index outputs o)) l)) (has (slice_index good (slice_index outputs o)) l)
+
+-- lane l of the words of the first m signals has their values in the run
+abbrev pub HasRun : List Bool → ℕ → ℕ → List ℕ → Type 0
+HasRun w l m words = (s : ℕ) → s < m → has (slice_index words s) l ≡ value_of w s
+
+-- lane l has the run without a fault at the point
+abbrev pub IsGood : Network → Set → ℕ → List ℕ → Type 0
+IsGood n x l good = (w : List Bool) → IsRun n None x w → HasRun w l (signals n) good
+
+-- lane l has the run with the fault wherever it has one without it among the good words, of the first m signals
+abbrev pub IsFaulty : Network → Fault → List ℕ → ℕ → List ℕ → Type 0
+IsFaulty n fault good m words = (l : ℕ) (x : Set) (w v : List Bool) → l < 64 → IsRun n None x w → IsRun n (Some fault) x v → HasRun w l (signals n) good → HasRun v l m words
+
+-- The fault is not at the gate in place i, and no signal that the gate reads differs.
+pub record IsUntouched (n : Network) (fault : Fault) (good words : List ℕ) (i : ℕ) (gate : Gate) : Type 0 where
+  pub stem : same_place fault.place (Stem (length n.inputs + i)) ≡ false
+  pub pins : (k : ℕ) → k < length gate.pins → (same_place fault.place (Pin i k) ≡ false) × (slice_index words (slice_index gate.pins k) ≡ slice_index good (slice_index gate.pins k))
+
+-- no gate from this place on is touched
+abbrev pub IsQuietFrom : Network → Fault → List ℕ → List ℕ → ℕ → Type 0
+IsQuietFrom n fault good words end = (i : ℕ) (gate : Gate) → slice_get n.gates i ≡ Some gate → end ≤ i → IsUntouched n fault good words i gate
+
+-- each gate that reads a signal stands before the place of the signal
+abbrev pub AreReadBefore : Network → List ℕ → Type 0
+AreReadBefore n past = (i : ℕ) (gate : Gate) (k : ℕ) → slice_get n.gates i ≡ Some gate → k < length gate.pins → i < slice_index past (slice_index gate.pins k)
+
+-- lane l of a word tells whether the point in that lane detects the fault
+abbrev pub Tells : Network → Fault → List ℕ → ℕ → Type 0
+Tells n fault good word = (l : ℕ) (x : Set) → l < 64 → IsGood n x l good → (has word l ≡ true) ↔ Differs n fault x
+
+-- the first of so many lanes that is set
+abbrev pub IsFirstLane : ℕ → ℕ → Option ℕ → Type 0
+IsFirstLane word count found = MatchOption found ((l : ℕ) → l < count → has word l ≡ false) (λ l. (l < count) × (has word l ≡ true) × ((k : ℕ) → k < l → has word k ≡ false))
+
+-- ---- the search for the first point that detects each fault
+
+-- vector i of the first b detects the fault, and no earlier one does; or none of them does
+abbrev pub IsFirstBelow : Network → List Set → ℕ → Fault → Option ℕ → Type 0
+IsFirstBelow n points b fault found = MatchOption found
+    ((k : ℕ) → k < b → ¬ Differs n fault (slice_index points k))
+    (λ i. (i < b) × Differs n fault (slice_index points i) × ((k : ℕ) → k < i → ¬ Differs n fault (slice_index points k)))
+
+-- what is found of each fault of the list from place i on, and before place j, is its first point of the first b
+abbrev pub AreFirstBelow : Network → List Set → ℕ → List Fault → List (Option ℕ) → ℕ → ℕ → Type 0
+AreFirstBelow n points b list found i j = (k : ℕ) (fault : Fault) (first : Option ℕ) → i ≤ k → k < j → slice_get list k ≡ Some fault → slice_get found k ≡ Some first → IsFirstBelow n points b fault first
+
+-- nothing is found of any fault
+abbrev pub AreNone : List (Option ℕ) → Type 0
+AreNone found = (k : ℕ) (first : Option ℕ) → slice_get found k ≡ Some first → first ≡ None
+
+-- lane l has the run at point base + l
+abbrev pub IsPass : Network → List Set → ℕ → ℕ → List ℕ → Type 0
+IsPass n points base count good = (l : ℕ) → l < count → IsGood n (slice_index points (base + l)) l good

@@ -1,5 +1,0 @@
-use Rattle.function_rows.proofs.Ops.{results_live}
-use Rattle.function_rows.proofs.replays.replayed.Goals as goal
-
-pub terms_of_each-requires : goal.terms_of_each-requires
-terms_of_each-requires g c = rw c.deref.ensures.value (results_live (g.S.FnStore.functions c.replay.new.store) c.args.list.now c.in_ok-refs.refs.items c.in_ok-refs.ensures.results)

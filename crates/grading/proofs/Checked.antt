@@ -1,0 +1,138 @@
+-- How a check parts the missed faults.
+use Rattle.std.proofs.Common.{◌≡◌, ◌<◌, ◌≤◌, ◌+◌, ◌-◌, ℕ, suc, Bool, true, false, not, List, [], ◌∷◌, ◌++◌, length, map, take, get_or, cond, inl, inr, refl, sym, ap, ap₂, ◌∙◌, subst, arith}
+use Rattle.std.specs.Prelude.{◌↔◌, Contains, IsTrue, None, Option, Some, filter, is_none}
+use Rattle.std.specs.Option.{is_some}
+use Rattle.std.proofs.lemmas.List.{append-nil, length-append, length-map, map-append, take_all}
+use Rattle.std.proofs.lemmas.List.Elements.{Contains-push_cases, filter_more}
+use Rattle.std.proofs.lemmas.Bool.{false≢true}
+use Rattle.std.proofs.Math.Bool.{beq}
+use Rattle.std.proofs.Math.Seq.{take-suc}
+use Rattle.ae_base.proofs.Elements.{length_filter_le}
+use Rattle.ae_net.specs.declared.net.Fault.{Fault}
+use Rattle.ae_net.specs.Network.{Network}
+use Rattle.ae_base.specs.Mask.{Set}
+use Rattle.redundancy.specs.Evidence.{WordHolds}
+use Rattle.grading.specs.Counts.{is_detected}
+use Rattle.grading.specs.Grade.{IsEvidence, IsProofOf, IsProved}
+use Rattle.grading.specs.Parts.AreParted.{none, one, other}
+use Rattle.named_faults.specs.Names.{named}
+use Rattle.grading.specs.Parts.{AreParted, ArePartedSoFar, IsSorted}
+use Rattle.grading.specs.declared.missed.Parts.{Parts}
+use Rattle.named_faults.specs.declared.names.NamedFault.{NamedFault}
+use Rattle.vec_text.specs.declared.file.Idle.{Idle}
+use Rattle.vec_text.specs.declared.file.Shown.TheVariants.{Tree}
+use Rattle.ae_base.specs.declared.step.Step.{Step}
+
+-- ---- words
+
+trees_one : (a b : List Step) → Tree a ≡ Tree b → a ≡ b
+trees_one a b e = cc e
+
+-- what is shown is the word
+pub evidence_is : (n : Network) (fault : Fault) (word : List Step) → (WordHolds n fault word → IsEvidence n fault (Tree word)) × (IsEvidence n fault (Tree word) → WordHolds n fault word)
+evidence_is n fault word = (
+  λ holds. record { word = word; is_shown = refl; holds = holds },
+  λ e. subst (WordHolds n fault) (sym (trees_one word e.word e.is_shown)) e.holds,
+)
+
+-- a line of the same name and value is a proof where it shows evidence, and any other is none
+module _ (n : Network) (fault : Fault) (name : NamedFault) (is : name ≡ named n fault) (line : Idle) where
+  pub proof_is : line.value ≡ name.value → line.place ≡ name.place → (holds : Bool) → (IsTrue holds ↔ IsEvidence n fault line.shown) → IsTrue holds ↔ IsProofOf n fault line
+  unfolding named
+  proof_is value place holds both = (
+    λ t. record { place = place ∙ ap (λ f. f.place) is; value = value ∙ ap (λ f. f.value) is; evidence = both.0 t },
+    λ proof. both.1 proof.evidence,
+  )
+
+  pub same_name : IsProofOf n fault line → (line.value ≡ name.value) × (line.place ≡ name.place)
+  unfolding named
+  same_name proof = (proof.value ∙ sym (ap (λ f. f.value) is), proof.place ∙ sym (ap (λ f. f.place) is))
+
+-- ---- lines
+
+pub same_value : (a b : Bool) → beq a b ≡ true → a ≡ b
+same_value true true e = refl
+same_value false false e = refl
+same_value true false e = absurd (false≢true e)
+same_value false true e = absurd (false≢true e)
+
+pub value_same : (a b : Bool) → a ≡ b → beq a b ≡ true
+value_same true true e = refl
+value_same false false e = refl
+value_same true false e = absurd (false≢true (sym e))
+value_same false true e = absurd (false≢true e)
+
+module _ (n : Network) (fault : Fault) (lines : List Idle) (i : ℕ) (d : Idle) (lt : i < length lines) where
+  -- no line so far is a proof, nor is this one
+  pub none_more : ((line : Idle) → Contains (take i lines) line → ¬ IsProofOf n fault line) → ¬ IsProofOf n fault (get_or lines i d) → (line : Idle) → Contains (take (i + 1) lines) line → ¬ IsProofOf n fault line
+  none_more before this line there proof =
+      let next : i + 1 ≡ suc i = omega arith in
+      elim (Contains-push_cases (take i lines) (get_or lines i d) line (subst (λ t. Contains t line) (ap (λ m. take m lines) next ∙ take-suc lines i d lt) there)) [
+        | inl earlier ↦ before line earlier proof
+        | inr here ↦ this (subst (IsProofOf n fault) (sym here) proof)
+      ]
+
+-- no line at all is one where none of those read so far is, and all are read
+pub none_at_all : (n : Network) (fault : Fault) (lines : List Idle) (i : ℕ) → length lines ≤ i → ((line : Idle) → Contains (take i lines) line → ¬ IsProofOf n fault line) → ¬ IsProved n lines fault
+none_at_all n fault lines i end before proved = before proved.0 (subst (λ t. Contains t proved.0) (sym (take_all i lines end)) proved.1) proved.2
+
+-- ---- parts
+
+pub none_is : (o : Option ℕ) (r : Bool) → is_some o ≡ not r → is_none o ≡ r
+none_is None true e = refl
+none_is None false e = absurd (false≢true e)
+none_is (Some x) true e = absurd (false≢true (sym e))
+none_is (Some x) false e = refl
+
+parted_one : {X : Type 0} (P : X → Type 0) (xs ones others : List X) (x : X) → P x → AreParted P xs ones others → AreParted P (xs ++ x ∷ []) (ones ++ x ∷ []) others
+parted_one P xs ones others x holds none = one holds none
+parted_one P xs ones others x holds (one h rest) = one h (parted_one P _ _ _ x holds rest)
+parted_one P xs ones others x holds (other h rest) = other h (parted_one P _ _ _ x holds rest)
+
+parted_other : {X : Type 0} (P : X → Type 0) (xs ones others : List X) (x : X) → ¬ P x → AreParted P xs ones others → AreParted P (xs ++ x ∷ []) ones (others ++ x ∷ [])
+parted_other P xs ones others x fails none = other fails none
+parted_other P xs ones others x fails (one h rest) = one h (parted_other P _ _ _ x fails rest)
+parted_other P xs ones others x fails (other h rest) = other h (parted_other P _ _ _ x fails rest)
+
+parted_few : {X : Type 0} (P : X → Type 0) (xs ones others : List X) → AreParted P xs ones others → length ones + length others ≡ length xs
+parted_few P xs ones others none = refl
+parted_few P xs ones others (one h rest) = let r = parted_few P _ _ _ rest in omega (arith, r)
+parted_few P xs ones others (other h rest) = let r = parted_few P _ _ _ rest in omega (arith, r)
+
+-- a fault that is missed is sorted into its part, and one that is not stays out
+module _ (n : Network) (lines : List Idle) (points : List Set) (list : List Fault) (i : ℕ) (d : Fault) (lt : i < length list) (old : Parts) (so : ArePartedSoFar n lines points (take i list) old) where
+  pub one_sorted : (new : Parts) → is_detected n points (get_or list i d) ≡ false → IsSorted n lines (get_or list i d) old new → ArePartedSoFar n lines points (take (i + 1) list) new
+  one_sorted new missed sorted =
+      let p : Fault → Bool = λ fault. not (is_detected n points fault) in
+      let fault = get_or list i d in
+      let more : filter p (take (i + 1) list) ≡ filter p (take i list) ++ fault ∷ [] = filter_more p list i d lt ∙ ap (λ b. filter p (take i list) ++ cond b (fault ∷ []) []) (ap not missed) in
+      elim sorted [
+        | inl (proved, count, names) ↦ record {
+          proved = so.proved ++ fault ∷ [];
+          unproved = so.unproved;
+          parted = subst (λ xs. AreParted (IsProved n lines) xs (so.proved ++ fault ∷ []) so.unproved) (sym more) (parted_one (IsProved n lines) (filter p (take i list)) so.proved so.unproved fault proved so.parted);
+          count = count ∙ ap (λ k. k + 1) so.count ∙ sym (length-append so.proved (fault ∷ []));
+          names = names ∙ so.names;
+        }
+        | inr (not_proved, count, names) ↦ record {
+          proved = so.proved;
+          unproved = so.unproved ++ fault ∷ [];
+          parted = subst (λ xs. AreParted (IsProved n lines) xs so.proved (so.unproved ++ fault ∷ [])) (sym more) (parted_other (IsProved n lines) (filter p (take i list)) so.proved so.unproved fault not_proved so.parted);
+          count = count ∙ so.count;
+          names = names ∙ ap (λ xs. xs ++ named n fault ∷ []) so.names ∙ sym (map-append (named n) so.unproved (fault ∷ []));
+        }
+      ]
+
+  pub none_sorted : is_detected n points (get_or list i d) ≡ true → ArePartedSoFar n lines points (take (i + 1) list) old
+  none_sorted detected =
+      let p : Fault → Bool = λ fault. not (is_detected n points fault) in
+      let fault = get_or list i d in
+      let same : filter p (take (i + 1) list) ≡ filter p (take i list) =
+      filter_more p list i d lt ∙ ap (λ b. filter p (take i list) ++ cond b (fault ∷ []) []) (ap not detected) ∙ append-nil (filter p (take i list)) in
+      record { proved = so.proved; unproved = so.unproved; parted = subst (λ xs. AreParted (IsProved n lines) xs so.proved so.unproved) (sym same) so.parted; count = so.count; names = so.names }
+
+-- so far no more are proved than there are faults
+pub few_proved : (n : Network) (lines : List Idle) (points : List Set) (list : List Fault) (parts : Parts) → ArePartedSoFar n lines points list parts → parts.proved ≤ length list
+few_proved n lines points list parts so =
+    let p : Fault → Bool = λ fault. not (is_detected n points fault) in
+    omega (arith, so.count, parted_few (IsProved n lines) (filter p list) so.proved so.unproved so.parted, length_filter_le p list)

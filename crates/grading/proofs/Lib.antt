@@ -1,0 +1,7 @@
+pub mod Checked
+pub mod Detected
+pub mod Paired
+pub mod Reported
+pub mod Selections
+pub mod Sound
+pub mod VectorsFew

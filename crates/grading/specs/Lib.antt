@@ -1,0 +1,5 @@
+pub mod Counts
+pub mod Grade
+pub mod Pair
+pub mod PairErrors
+pub mod Parts

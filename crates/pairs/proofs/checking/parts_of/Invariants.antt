@@ -1,7 +1,0 @@
-use Rattle.std.proofs.Common.{◌≤◌, take}
-use Rattle.ae_net.specs.Network.{signals}
-use Rattle.pairs.specs.Parts.{ArePartedSoFar}
-use Rattle.pairs.proofs.checking.parts_of.Given as goal
-
-abbrev pub invariant-loop-i : goal.invariant-loop-i
-invariant-loop-i l = (signals l.net ≤ l.scratch) × ArePartedSoFar l.net l.lines l.points (take l.i l.list) l.parts × (l.parts.proved ≤ l.i)

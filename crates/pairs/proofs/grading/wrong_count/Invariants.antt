@@ -1,7 +1,0 @@
-use Rattle.std.proofs.Common.{◌≡◌, ◌≤◌, take}
-use Rattle.std.specs.List.{count_by}
-use Rattle.pairs.specs.Grade.{is_wrong}
-use Rattle.pairs.proofs.grading.wrong_count.Given as goal
-
-abbrev pub invariant-loop-i : goal.invariant-loop-i
-invariant-loop-i l = (l.wrong ≡ count_by (is_wrong l.net) (take l.i l.vectors)) × (l.wrong ≤ l.i)

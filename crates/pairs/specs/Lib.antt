@@ -1,6 +1,0 @@
-pub mod Check
-pub mod Grade
-pub mod Listed
-pub mod PairErrors
-pub mod Parts
-pub mod Sites

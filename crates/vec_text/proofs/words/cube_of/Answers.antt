@@ -1,7 +1,0 @@
-use Rattle.std.proofs.Common.{ap, sym, ◌∙◌}
-use Rattle.ae_base.specs.Mask.{has}
-use Rattle.vec_text.proofs.Places.{apart}
-use Rattle.vec_text.proofs.words.cube_of.Goals as goal
-
-pub invariant_of-result : goal.invariant_of-result
-invariant_of-result c = λ j h. ap (λ s. has s j) c.places_of-2.ensures ∙ apart c.args.word.now j (sym (ap (λ s. has s j) c.places_of.ensures) ∙ h)

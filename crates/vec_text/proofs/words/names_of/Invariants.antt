@@ -1,6 +1,0 @@
-use Rattle.std.proofs.Common.{◌≡◌, take}
-use Rattle.ae_lex.specs.Slices.{texts}
-use Rattle.vec_text.proofs.words.names_of.Given as goal
-
-abbrev pub invariant-loop-word : goal.invariant-loop-word
-invariant-loop-word l = l.names ≡ texts (take l.word-index l.words)
