@@ -1,8 +1,7 @@
 -- What writes and pieces one after another leave.
-use Rattle.std.proofs.Common.{◌≡◌, ◌≢◌, ℕ, List, [], ◌++◌, Option, Some, None, IfSome, refl, ◌∙◌, ap, append_assoc, arith}
+use Rattle.std.proofs.Common.{◌≡◌, ◌≢◌, ℕ, List, [], ◌++◌, Option, Some, None, IfSome, refl, ◌∙◌, ap, append_assoc}
 use Rattle.std.proofs.lemmas.List.{append-nil}
 use Rattle.std.specs.FinMap.{get}
-use Rattle.ae_outside.specs.Counts.{Tally, CountsAt}
 use Rattle.ae_outside.specs.Files.{Shelf, written, added}
 use Rattle.ae_outside.proofs.Shelves.{get_same, get_other}
 
@@ -26,6 +25,3 @@ pub added-nil : (taken : Option (List ℕ)) → added taken [] ≡ taken
 unfolding added
 added-nil None = refl
 added-nil (Some old) = ap Some (append-nil old)
-
-pub counts_more : (name : List ℕ) (a b c : Tally) → CountsAt name a b → CountsAt name b c → CountsAt name a c
-counts_more name a b c x y = record { later = λ q. omega (arith, x.later q, y.later q); others = λ q apart. y.others q apart ∙ x.others q apart }

@@ -231,8 +231,8 @@ module _ {T : Type 0} (product : T → Product) (t : T) (asked : Asked) (old mid
   abbrev pairs : List (List ℕ × List ℕ)
   pairs = zip (names_written asked) (product t).texts
 
-  pub comes_written : new.held ≡ all_written mid.held pairs → Comes product asked old new (Ok t)
-  comes_written whole = (moved asked old mid new (product t) same made, whole ∙ ap (λ h. all_written h pairs) stays)
+  pub comes_written : new.held ≡ all_written mid.held pairs → new.reads ≡ old.reads → new.writes ≡ old.writes → Comes product asked old new (Ok t)
+  comes_written whole reads writes = (moved asked old mid new (product t) same made, whole ∙ ap (λ h. all_written h pairs) stays, reads, writes)
 
   pub comes_stopped : (s : Stop) → mid.writes ≡ old.writes → WritesTexts (names_written asked) (product t).texts mid.writes new.writes mid.held new.held (Err s) → Comes product asked old new (Err s)
   comes_stopped (stop.Refused r) tally writes = absurd writes

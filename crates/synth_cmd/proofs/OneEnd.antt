@@ -37,18 +37,19 @@ no_refusal (NamesDiffer file) = omega arith
 no_refusal (BitCount given wanted) = omega arith
 no_refusal (TooManyTerms output) = omega arith
 
--- what is done: something was made and written, and the report took its lines
+-- what is done: something was made and written, the report took its lines, and no write of it failed
 pub record IsDone (asked : Asked) (old new : Outside) (s : ℕ) : Type 0 where
   pub product : Product
   pub stands : Stands asked old.world new.world (Finishes product)
   pub status : s ≡ product.status
   pub taken : new.taken ≡ added old.taken product.lines
+  pub faults : new.faults ≡ old.faults
 
 module _ (asked : Asked) (old new : Outside) (s : ℕ) (reported : IsReported s) where
   stage_done : (stage : Stage) → Stands asked old.world new.world stage → Answers stage old new s → IsDone asked old new s
   stage_done (Refuses r) stands answers = absurd (other_status s (status_of r) reported answers.0 (no_refusal r))
   stage_done (Fails name product) stands answers = absurd (other_status s WRITE_FAULT reported answers.0 (omega arith))
-  stage_done (Finishes product) stands (inl done) = record { product = product; stands = stands; status = done.0; taken = done.1 }
+  stage_done (Finishes product) stands (inl done) = record { product = product; stands = stands; status = done.0; taken = done.1; faults = done.2 }
   stage_done (Finishes product) stands (inr fault) = absurd (other_status s WRITE_FAULT reported fault.0 (omega arith))
 
   pub is_done : Ending asked old new s → IsDone asked old new s
@@ -56,6 +57,9 @@ module _ (asked : Asked) (old new : Outside) (s : ℕ) (reported : IsReported s)
   is_done (untouched is stays front) = absurd (other_status s MEMORY reported is (omega arith))
   is_done (in_part name product is made stops front) = absurd (other_status s MEMORY reported is (omega arith))
   is_done (half_told stage is stands front) = absurd (other_status s MEMORY reported is (omega arith))
+
+  pub no_count : Ending asked old new s → (new.world.reads ≡ old.world.reads) × (new.world.writes ≡ old.world.writes) × (new.faults ≡ old.faults)
+  no_count ending = let end = is_done ending in (end.stands.2, end.stands.3, end.faults)
 
 module _ (one : (settings : Settings) (bytes : List ℕ) (before after : List Advised) (a b : Texts) → IsMade settings bytes before after a → IsMade settings bytes before after b → a ≡ b)
     (one_grade : (mode : Mode) (net_bytes vec_bytes : List ℕ) (a b : GradeReport) → IsGraded mode net_bytes vec_bytes a → IsGraded mode net_bytes vec_bytes b → a ≡ b) where

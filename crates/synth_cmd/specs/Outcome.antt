@@ -114,12 +114,13 @@ pub data Stage : Type 0 where
   Fails : (name : List ℕ) → Product → Stage
   Finishes : Product → Stage
 
--- what stands at a stage
+-- what stands at a stage; where all is written, no read and no write failed
 abbrev pub Stands : Asked → (old new : World) → Stage → Type 0
 Stands asked old new (Refuses refusal) = IsRefused asked old new refusal
 Stands asked old new (Fails name product) =
     Contains (names_written asked) name × RoseAt name old.writes new.writes × IsMadeOf asked old new product × StopsAt name (zip (names_written asked) product.texts) old.held new.held
-Stands asked old new (Finishes product) = IsMadeOf asked old new product × (new.held ≡ all_written old.held (zip (names_written asked) product.texts))
+Stands asked old new (Finishes product) =
+    IsMadeOf asked old new product × (new.held ≡ all_written old.held (zip (names_written asked) product.texts)) × (new.reads ≡ old.reads) × (new.writes ≡ old.writes)
 
 -- what is told at a stage
 abbrev pub text_at : Stage → List ℕ
@@ -132,7 +133,7 @@ abbrev pub Answers : Stage → (old new : Outside) → (status : ℕ) → Type 0
 Answers (Refuses refusal) old new status = (status ≡ status_of refusal) × Told (line_of refusal) old.taken new.taken old.faults new.faults
 Answers (Fails name product) old new status = (status ≡ WRITE_FAULT) × Told (write_fault_line name) old.taken new.taken old.faults new.faults
 Answers (Finishes product) old new status =
-    ((status ≡ product.status) × (new.taken ≡ added old.taken product.lines))
+    ((status ≡ product.status) × (new.taken ≡ added old.taken product.lines) × (new.faults ≡ old.faults))
     ⊎ ((status ≡ WRITE_FAULT) × Rose old.faults new.faults × TookFront product.lines old.taken new.taken)
 
 -- A command ends with the status of a stage; or memory is wanting, before anything is told, or where a stage is told.

@@ -27,7 +27,7 @@ Tells line status old new before now answer = ((answer ≡ status) × Told line 
 -- The lines of the report are written whole and the status answered, or a write of them failed, or memory is wanting.
 abbrev pub Reports : (lines : List ℕ) (status : ℕ) → (old new : Option (List ℕ)) → (before now answer : ℕ) → Type 0
 Reports lines status old new before now answer =
-    ((answer ≡ status) × (new ≡ added old lines))
+    ((answer ≡ status) × (new ≡ added old lines) × (now ≡ before))
     ⊎ (((answer ≡ WRITE_FAULT) × Rose before now × TookFront lines old new) ⊎ ((answer ≡ MEMORY) × TellsMemory lines old new))
 
 -- what is told where a command stops

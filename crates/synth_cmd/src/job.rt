@@ -1,5 +1,5 @@
 //! What a command makes of the texts that it reads, and the texts that it writes.
-ghost use Rattle.std.specs.Prelude.{◌≡◌, ◌≤◌, [], ◌∷◌, List, IfOk, length, map};
+ghost use Rattle.std.specs.Prelude.{◌≡◌, ◌≤◌, [], ◌∷◌, List, IfOk, OnOk, length, map};
 ghost use Rattle.polarity.specs.Search.{Advised, advised};
 ghost use Rattle.synth_core.specs.Made.{texts_of};
 ghost use Rattle.synth_core.specs.Searched.{AdvisorsStand};
@@ -43,6 +43,7 @@ fn source_text<'a, F: Files>(
     ensures short { IfOk result (λ bytes. length bytes.items ≤ TEXT_BYTES) }
     ensures drawn { IfOk result (λ _. IsAcceptedDemo settings.now.form (source_of names.now.source)) }
     ensures stays { F.held files.new ≡ F.held files.old }
+    ensures quiet { OnOk result (F.read_faults files.new ≡ F.read_faults files.old) }
     ensures reads { CountsAmong (names_read (synth_asked settings.now names.now)) (F.read_faults files.old) (F.read_faults files.new) }
     ensures writes { F.write_faults files.new ≡ F.write_faults files.old }
 {
@@ -69,6 +70,7 @@ fn make<'a, F: Files>(
         (world_of F.held F.read_faults F.write_faults files.new (map (λ b. advised (left b) (log b)) advisors.new.items))
         result }
     ensures stays { F.held files.new ≡ F.held files.old }
+    ensures quiet { OnOk result (F.read_faults files.new ≡ F.read_faults files.old) }
     ensures reads { CountsAmong (names_read (synth_asked settings.now names.now)) (F.read_faults files.old) (F.read_faults files.new) }
     ensures writes { F.write_faults files.new ≡ F.write_faults files.old }
     ensures advisors { AdvisorsStand settings.now (WasText settings.now (F.held files.old) (source_of names.now.source)) (map (λ b. advised (left b) (log b)) advisors.old.items) (map (λ b. advised (left b) (log b)) advisors.new.items) }
@@ -93,6 +95,7 @@ fn write_texts<'a, F: Files>(
 ) -> Result<(), Stop<'a>>
     ensures writes { WritesTexts (net.now ∷ vectors.now ∷ []) (made.now.net_text.items ∷ made.now.vec_text.items ∷ []) (F.write_faults files.old) (F.write_faults files.new) (F.held files.old) (F.held files.new) result }
     ensures reads { F.read_faults files.new ≡ F.read_faults files.old }
+    ensures quiet { OnOk result (F.write_faults files.new ≡ F.write_faults files.old) }
     ensures counts { CountsAmong (net.now ∷ vectors.now ∷ []) (F.write_faults files.old) (F.write_faults files.new) }
 {
     match write_whole(files, net, &made.net_text) {
@@ -141,6 +144,7 @@ pub fn grade_files<'a, F: Files>(
     ensures gives { (advisors : List Advised) → Gives (grading_of mode) (Grade mode names.now.net.now names.now.vectors.now)
         (world_of F.held F.read_faults F.write_faults files.old advisors) (world_of F.held F.read_faults F.write_faults files.new advisors) result }
     ensures stays { F.held files.new ≡ F.held files.old }
+    ensures quiet { OnOk result (F.read_faults files.new ≡ F.read_faults files.old) }
     ensures reads { CountsAmong (names.now.net.now ∷ names.now.vectors.now ∷ []) (F.read_faults files.old) (F.read_faults files.new) }
     ensures writes { F.write_faults files.new ≡ F.write_faults files.old }
 {

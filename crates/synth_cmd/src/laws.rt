@@ -28,9 +28,10 @@ pub fn one_end_law()
 
 /// Statuses that a command never ends with: a synthesis with that of a shortfall; a demo, whose text is its own, with any but that it is
 /// done, that of words for a polarity of another number of inputs, that of a write fault and that of memory; a command on a pair with that
-/// of too many terms, and with that of a write fault only where a write of the report failed.
+/// of too many terms, and with that of a write fault only where a write of the report failed. Where the report is written, no count rose.
 pub fn status_law()
     ensures synth { (settings : Settings) (source : Origin) (net vectors : List ℕ) (old new : Outside) (s : ℕ) → Ends (Synth settings source net vectors) old new s → s ≢ SHORTFALL }
     ensures demo { (settings : Settings) (number : ℕ) (net vectors : List ℕ) (old new : Outside) (s : ℕ) → Ends (Synth settings (Demo number) net vectors) old new s → Contains (DONE ∷ WORDS ∷ WRITE_FAULT ∷ MEMORY ∷ []) s }
     ensures grade { (mode : Mode) (net vectors : List ℕ) (old new : Outside) (s : ℕ) → Ends (Grade mode net vectors) old new s → (s ≢ TOO_MANY_TERMS) × (s ≡ WRITE_FAULT → Rose old.faults new.faults) }
+    ensures quiet { (words : Asked) (old new : Outside) (s : ℕ) → IsReported s → Ends words old new s → (new.world.reads ≡ old.world.reads) × (new.world.writes ≡ old.world.writes) × (new.faults ≡ old.faults) }
 {}

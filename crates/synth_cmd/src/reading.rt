@@ -1,5 +1,5 @@
 //! The files that a command reads, each whole.
-ghost use Rattle.std.specs.Prelude.{◌≡◌, ◌≤◌, [], ◌∷◌, IfOk, length};
+ghost use Rattle.std.specs.Prelude.{◌≡◌, ◌≤◌, [], ◌∷◌, IfOk, OnOk, length};
 ghost use Rattle.ae_outside.specs.Counts.{CountsAt};
 ghost use Rattle.synth_cmd.specs.Outside.{CountsAmong};
 ghost use Rattle.synth_cmd.specs.Telling.{ReadsTexts};
@@ -26,6 +26,7 @@ pub fn read_text<'a, F: Files>(
     ensures texts { ReadsTexts (λ bytes. bytes.items ∷ []) (F.held files.old) (F.read_faults files.old) (F.read_faults files.new) (file.now ∷ []) result }
     ensures short { IfOk result (λ bytes. length bytes.items ≤ TEXT_BYTES) }
     ensures stays { F.held files.new ≡ F.held files.old }
+    ensures quiet { OnOk result (F.read_faults files.new ≡ F.read_faults files.old) }
     ensures reads { CountsAt file.now (F.read_faults files.old) (F.read_faults files.new) }
     ensures writes { F.write_faults files.new ≡ F.write_faults files.old }
 {
@@ -47,6 +48,7 @@ pub fn read_pair<'a, F: Files>(
     ensures net_short { IfOk result (λ texts. length texts.net.items ≤ TEXT_BYTES) }
     ensures vectors_short { IfOk result (λ texts. length texts.vectors.items ≤ TEXT_BYTES) }
     ensures stays { F.held files.new ≡ F.held files.old }
+    ensures quiet { OnOk result (F.read_faults files.new ≡ F.read_faults files.old) }
     ensures reads { CountsAmong (names.now.net.now ∷ names.now.vectors.now ∷ []) (F.read_faults files.old) (F.read_faults files.new) }
     ensures writes { F.write_faults files.new ≡ F.write_faults files.old }
 {

@@ -1,4 +1,4 @@
-use Rattle.std.proofs.Common.{◌∷◌, [], refl, subst}
+use Rattle.std.proofs.Common.{◌∷◌, ◌∙◌, [], refl, subst}
 use Rattle.synth_core.specs.Made.{texts_of}
 use Rattle.synth_cmd.specs.Outcome.{synthesis_of}
 use Rattle.synth_cmd.specs.Outside.{CountsAmong}
@@ -25,7 +25,7 @@ returns-in-Ok-write_texts g c =
     let w = c.in-Ok-write_texts.ensures in
     let asked = synth_asked c.args.settings.now c.args.names.now in
     record {
-      comes = comes_written (λ made. synthesis_of (texts_of made)) c.in-Ok.made asked _ _ _ refl e.stays e.gives w.writes;
+      comes = comes_written (λ made. synthesis_of (texts_of made)) c.in-Ok.made asked _ _ _ refl e.stays e.gives w.writes (w.reads ∙ e.quiet) (w.quiet ∙ e.writes);
       reads = rw w.reads e.reads;
       writes = subst (λ b. CountsAmong (names_written asked) b (g.F.Files.write_faults c.write_texts.new.files)) e.writes w.counts;
       advisors = e.advisors;

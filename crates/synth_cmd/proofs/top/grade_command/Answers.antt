@@ -8,7 +8,7 @@ pub returns-in-Ok : goal.returns-in-Ok
 returns-in-Ok g c advisors =
     let e = c.in-Ok.ensures in
     record {
-      ending = ends_finished _ _ _ _ (grading_of c.args.mode c.in-Ok.found) (e.gives advisors, e.stays) c.finish_grade.ensures.told;
+      ending = ends_finished _ _ _ _ (grading_of c.args.mode c.in-Ok.found) (e.gives advisors, e.stays, e.quiet, e.writes) c.finish_grade.ensures.told;
       reads = e.reads;
       writes = among_none _ _ _ e.writes;
       faults = c.finish_grade.ensures.counts;
