@@ -1,6 +1,6 @@
 //! Carries out the cases of files over `run`, and tells which of them end otherwise than they say.
 //!
-//! The program's words are names of case files. A case says what stands before, the words of a run, and what is wanted of it:
+//! The words of a program that does so are names of case files. A case says what stands before, the words of a run, and what is wanted of it:
 //!
 //! ```text
 //! # Names keep their order.
@@ -64,26 +64,45 @@ mod advisors;
 mod case;
 mod compare;
 mod line;
+mod numbers;
 mod script;
 mod text;
 mod wanted;
 
+use crate::numbers::Numbers;
 use crate::script::carry_out;
 use anyhow::{Result, ensure};
 use std::{env, fs};
 
-fn main(rt: HostRuntime) -> Result<()> {
-    let alloc = rt.alloc();
-    let (mut cases, mut runs, mut differing) = (0u64, 0u64, 0u64);
-    for file in env::args(&rt)?.skip(1) {
-        let text = fs::read_to_string(&rt, &file)?;
-        let outcome = carry_out(alloc, &file, &text)?;
-        print!(rt; "{}", outcome.differences)?;
-        cases = cases.saturating_add(outcome.cases);
-        runs = runs.saturating_add(outcome.runs);
-        differing = differing.saturating_add(outcome.differing);
+/// Carries out the cases of a file, and prints a line for each difference.
+fn carry_out_file(rt: HostRuntime, file: &str) -> Result<Numbers> {
+    let text = fs::read_to_string(&rt, file)?;
+    let outcome = carry_out(rt.alloc(), file, &text)?;
+    print!(rt; "{}", outcome.differences)?;
+    Ok(outcome.numbers)
+}
+
+/// Carries out the cases of the files of these names.
+fn carry_out_all(rt: HostRuntime, names: env::Args) -> Result<Numbers> {
+    let mut numbers = Numbers::NONE;
+    for file in names.skip(1) {
+        numbers = numbers.with(carry_out_file(rt, &file)?);
     }
-    println!(rt; "cases {cases}, runs {runs}, differing {differing}")?;
-    ensure!(differing == 0, "some cases differ");
+    Ok(numbers)
+}
+
+/// Carries out the cases of the files that the program's words name, and prints a line for each difference and then the numbers of cases, of
+/// runs, and of cases that differ. It answers an error where a case differs, a file is not read, the host does not take what is printed, or
+/// memory is wanting.
+pub fn carry_out_files(rt: HostRuntime) -> Result<()> {
+    let numbers = carry_out_all(rt, env::args(&rt)?)?;
+    println!(
+        rt;
+        "cases {}, runs {}, differing {}",
+        numbers.cases,
+        numbers.runs,
+        numbers.differing
+    )?;
+    ensure!(numbers.differing == 0, "some cases differ");
     Ok(())
 }

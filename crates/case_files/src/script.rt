@@ -1,6 +1,7 @@
 //! A case file: its definitions and its cases, line by line.
 
 use crate::case::Case;
+use crate::numbers::Numbers;
 use crate::text::Count;
 use ae_base::Memory;
 use std::alloc::Global;
@@ -9,10 +10,7 @@ use std::collections::BTreeMap;
 /// What the cases of a file came to.
 #[derive(Drop)]
 pub struct Outcome {
-    pub cases: u64,
-    pub runs: u64,
-    /// How many cases differ, or are lines that are not understood.
-    pub differing: u64,
+    pub numbers: Numbers,
     /// A line for each difference.
     pub differences: String,
 }
@@ -94,29 +92,36 @@ impl<'a> Script<'a> {
             definition: None,
             case: None,
             outcome: Outcome {
-                cases: 0,
-                runs: 0,
-                differing: 0,
+                numbers: Numbers::NONE,
                 differences: String::new(alloc),
             },
         }
     }
 
-    /// Ends the definition or the case that is not at its end.
-    fn end(&mut self) -> Result<(), Memory> {
+    /// Ends the definition that is not at its end.
+    fn end_definition(&mut self) -> Result<(), Memory> {
         if let Some(definition) = self.definition.take() {
             self.definitions.insert(definition.name, definition.lines)?;
         }
-        if let Some(case) = self.case.take() {
-            let (runs, differences) = case.end()?;
-            self.outcome.cases = self.outcome.cases.saturating_add(1);
-            self.outcome.runs = self.outcome.runs.saturating_add(runs);
-            if !differences.is_empty() {
-                self.outcome.differing = self.outcome.differing.saturating_add(1);
-                self.outcome.differences.push_str(&differences)?;
-            }
-        }
         Ok(())
+    }
+
+    /// Ends the case that is not at its end.
+    fn end_case(&mut self) -> Result<(), Memory> {
+        let Some(case) = self.case.take() else {
+            return Ok(());
+        };
+        let (runs, differences) = case.end()?;
+        let ended = Numbers::of_case(runs, !differences.is_empty());
+        self.outcome.numbers = self.outcome.numbers.with(ended);
+        self.outcome.differences.push_str(&differences)?;
+        Ok(())
+    }
+
+    /// Ends the definition or the case that is not at its end.
+    fn end(&mut self) -> Result<(), Memory> {
+        self.end_definition()?;
+        self.end_case()
     }
 
     fn begin_definition(&mut self, name: &str) -> Result<(), Memory> {
@@ -170,7 +175,7 @@ impl<'a> Script<'a> {
 
     /// A line is not understood.
     fn refuse(&mut self, number: u64, line: &str) -> Result<(), Memory> {
-        self.outcome.differing = self.outcome.differing.saturating_add(1);
+        self.outcome.numbers = self.outcome.numbers.with(Numbers::LINE);
         writeln!(
             &mut self.outcome.differences,
             "{}: line {number} is not understood: {line}",
