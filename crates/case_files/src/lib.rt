@@ -96,12 +96,9 @@ fn carry_out_all(rt: HostRuntime, names: env::Args) -> Result<Numbers> {
 /// memory is wanting.
 pub fn carry_out_files(rt: HostRuntime) -> Result<()> {
     let numbers = carry_out_all(rt, env::args(&rt)?)?;
-    println!(
-        rt;
+    println!(rt;
         "cases {}, runs {}, differing {}",
-        numbers.cases,
-        numbers.runs,
-        numbers.differing
+        numbers.cases, numbers.runs, numbers.differing
     )?;
     ensure!(numbers.differing == 0, "some cases differ");
     Ok(())

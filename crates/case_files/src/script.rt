@@ -30,8 +30,7 @@ impl Outcome {
         writeln!(
             &mut self.differences,
             "{file}: line {} is not understood: {}",
-            line.number,
-            line.text
+            line.number, line.text
         )?;
         Ok(())
     }
