@@ -7,7 +7,8 @@ use Rattle.std.specs.Str.Parse.{AllDigits, ParsesUnsigned, digits_value, without
 use Rattle.std.proofs.lemmas.Bool.{and_parts, cases_Bool, eqb-true, leb-true, ltb-true, lt-ltb}
 use Rattle.std.proofs.lemmas.Result.{OkIff-at_ok, OkIff-at_err}
 use Rattle.std.proofs.lemmas.Str.{digit_value_digit}
-use Rattle.synth_cmd.specs.Asked.{has_digits, is_digit, number_of}
+use Rattle.ae_base.specs.Digits.{is_digit}
+use Rattle.synth_cmd.specs.Asked.{has_digits, number_of}
 
 digit_below : (c : ℕ) → is_digit c ≡ true → digit_value c < 10
 digit_below c h =

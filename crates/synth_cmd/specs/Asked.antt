@@ -1,12 +1,12 @@
 -- What the words of the command line ask for.
-use Rattle.std.specs.Prelude.{ℕ, ◌^◌, Bool, not, ◌&&◌, ◌||◌, ◌==◌, nat_le, nat_lt, Option, Some, None, option_map, is_some, List, [], ◌∷◌, length, slice_index, codes, map, string_bytes, String, if◌then◌else◌, bytes_eq}
+use Rattle.std.specs.Prelude.{ℕ, ◌^◌, Bool, ◌&&◌, ◌||◌, nat_le, nat_lt, Option, Some, None, option_map, is_some, List, [], ◌∷◌, length, codes, map, string_bytes, String, if◌then◌else◌, bytes_eq}
 use Rattle.std.specs.List.{list_all}
 use Rattle.std.specs.Option.{option_and_then, option_map_or}
 use Rattle.std.specs.Str.Parse.{digits_value}
 use Rattle.std.specs.declared.alloc.Global.{Global}
 use Rattle.ae_base.specs.Cube.{Signs}
 use Rattle.ae_base.specs.Form.{form_of}
-use Rattle.ae_base.specs.Mask.{where_below}
+use Rattle.ae_base.specs.Digits.{are_bits, is_digit, ones}
 use Rattle.ae_base.specs.declared.limits.TheConstants.{SOURCE_LINES}
 use Rattle.synth_core.specs.declared.settings.Choice.{Choice}
 use Rattle.synth_core.specs.declared.settings.SourceKind.{SourceKind}
@@ -34,24 +34,15 @@ pub data Asked : Type 0 where
 abbrev pub kind_of : List ℕ → Option SourceKind
 kind_of word = if bytes_eq word (codes "pla") then Some Pla else if bytes_eq word (codes "blif") then Some Blif else None
 
--- a digit 0 or 1
-abbrev pub is_bit : ℕ → Bool
-is_bit b = (b == 48) || (b == 49)
-
 -- the polarity that a word tells: 1 to SOURCE_LINES digits, of which the k-th is 1 where the literal of input k is plain
 abbrev pub bits_of : List ℕ → Option Signs
 bits_of word =
-    if nat_lt 0 (length word) && (nat_le (length word) SOURCE_LINES && list_all is_bit word)
-    then Some (record { n = length word; plain = where_below (length word) (λ j. slice_index word j == 49) })
-    else None
+    if nat_lt 0 (length word) && (nat_le (length word) SOURCE_LINES && are_bits (length word) word) then Some (record { n = length word; plain = ones word }) else None
 
 -- the choice of a polarity that a word names
 abbrev pub choice_of : List ℕ → Option Choice
 choice_of word =
     if bytes_eq word (codes "positive") then Some Positive else if bytes_eq word (codes "search") then Some Search else option_map (λ p. Given p) (bits_of word)
-
-abbrev pub is_digit : ℕ → Bool
-is_digit b = nat_le 48 b && nat_lt b 58
 
 -- 1 to 10 digits
 abbrev pub has_digits : List ℕ → Bool

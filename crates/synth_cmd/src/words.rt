@@ -1,8 +1,5 @@
 //! The words of the command line.
-ghost use Rattle.std.specs.Prelude.{◌≡◌, ◌≤◌, ◌==◌, ◌&&◌, nat_le, nat_lt, [], ◌∷◌, IfOk, length, map, option_map, slice_index};
-ghost use Rattle.std.specs.List.{list_all};
-ghost use Rattle.ae_base.specs.Mask.{where_below};
-ghost use Rattle.ae_base.specs.declared.limits.TheConstants.{SOURCE_LINES};
+ghost use Rattle.std.specs.Prelude.{◌≡◌, [], ◌∷◌, IfOk, map, option_map};
 ghost use Rattle.synth_core.specs.declared.settings.Choice.TheVariants.{Positive as positive};
 ghost use Rattle.synth_core.specs.declared.settings.SourceKind.TheVariants.{Pla as pla};
 ghost use Rattle.ae_base.specs.Form.{form_of};
@@ -12,7 +9,7 @@ ghost use Rattle.synth_cmd.specs.Asked.{asked};
 ghost use Rattle.synth_cmd.specs.Words.{IsFit, command_of, said_of, source_of};
 
 use crate::command_line::{Said, parse, said_by};
-use ae_base::{Form, Mask, Memory, Polarity, SOURCE_LINES};
+use ae_base::{Form, Memory, Polarity, SOURCE_LINES, are_digits, read_bits};
 use grading::Mode;
 use std::alloc::Global;
 use synth_core::{Choice, Settings, SourceKind};
@@ -69,46 +66,18 @@ fn kind_of(word: &str) -> Option<SourceKind>
     }
 }
 
-/// Whether all characters are digits 0 and 1.
-fn are_bits(word: &[u8]) -> bool
-    ensures { result ≡ list_all spec.is_bit word.now }
-{
-    word.iter().all(|b| *b == b'0' || *b == b'1')
-}
-
-/// Whether the word has a digit 0 or 1 for each of some inputs of a source.
-fn is_bit_word(word: &[u8]) -> bool
-    ensures { result ≡ (nat_lt 0 (length word.now) && (nat_le (length word.now) SOURCE_LINES && list_all spec.is_bit word.now)) }
-{
-    let count = word.len();
-    0 < count && count <= SOURCE_LINES as usize && are_bits(word)
-}
-
-/// The places of the digits 1.
-fn ones(word: &[u8]) -> Mask
-    requires { length word.now ≤ SOURCE_LINES }
-    ensures { result ≡ where_below (length word.now) (λ j. slice_index word.now j == 49) }
-{
-    let mut plain = Mask::empty();
-    for j in 0..word.len() {
-        if word[j] == b'1' {
-            plain = plain.with(j as u32);
-        }
-    }
-    plain
-}
-
 /// The polarity that a word of digits tells: 1 where the literal of the input is plain.
 fn bits_of(word: &[u8]) -> Option<Polarity>
     ensures { result ≡ spec.bits_of word.now }
 {
-    if is_bit_word(word) {
-        Some(Polarity {
-            n: word.len() as u32,
-            plain: ones(word),
-        })
-    } else {
-        None
+    let count = word.len();
+    if count == 0 || count > SOURCE_LINES as usize {
+        return None;
+    }
+    let n = count as u32;
+    match read_bits(n, word) {
+        Some(plain) => Some(Polarity { n, plain }),
+        None => None,
     }
 }
 
@@ -121,19 +90,6 @@ fn choice_of(word: &str) -> Option<Choice>
         "search" => Some(Choice::Search),
         _ => bits_of(word.as_bytes()).map(Choice::Given),
     }
-}
-
-fn is_digit(b: u8) -> bool
-    ensures { result ≡ spec.is_digit b }
-{
-    48 <= b && b < 58
-}
-
-/// Whether all characters are digits.
-fn are_digits(word: &[u8]) -> bool
-    ensures { result ≡ list_all spec.is_digit word.now }
-{
-    word.iter().all(|b| is_digit(*b))
 }
 
 /// Whether a word has 1 to `NUMBER_DIGITS` digits, and nothing else.
