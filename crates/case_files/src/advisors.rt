@@ -1,10 +1,12 @@
-//! The advisors of a case, and what they were told.
+//! The advisors of a case, a run with them, and what they were told.
 
 use ae_base::{Mask, Memory, SOURCE_LINES};
+use ae_outside::{MemFiles, MemSink};
 use polarity::{Advisor, Listed, Negative, Told, Walker};
 use std::alloc::Global;
+use synth_cmd::run;
 
-/// An advisor that a case brings.
+/// An advisor as a line of a case names it.
 #[derive(Clone, Copy)]
 pub enum Brought<'a> {
     /// The one that complements all literals.
@@ -60,15 +62,20 @@ fn masks(alloc: Global, polarities: &str) -> Result<Vec<Mask>, Memory> {
     Ok(masks)
 }
 
-/// Makes an advisor.
-pub fn bring(alloc: Global, brought: Brought<'_>) -> Result<Box<dyn Advisor>, Memory> {
+/// An advisor of a case, which each run has anew.
+#[derive(Drop)]
+pub enum Companion {
+    Negative,
+    Walker { seed: u32, count: u32 },
+    Listed(Vec<Mask>),
+}
+
+/// The advisor that is brought.
+pub fn bring(alloc: Global, brought: Brought<'_>) -> Result<Companion, Memory> {
     match brought {
-        Brought::Negative => Ok(Box::new(alloc, Negative::new(alloc))?),
-        Brought::Walker { seed, count } => { Ok(Box::new(alloc, Walker::new(alloc, seed, count))?) }
-        Brought::Listed(polarities) => {
-            let masks = masks(alloc, polarities)?;
-            Ok(Box::new(alloc, Listed::new(alloc, masks))?)
-        }
+        Brought::Negative => Ok(Companion::Negative),
+        Brought::Walker { seed, count } => Ok(Companion::Walker { seed, count }),
+        Brought::Listed(polarities) => Ok(Companion::Listed(masks(alloc, polarities)?)),
     }
 }
 
@@ -94,10 +101,50 @@ fn push_advisor(text: &mut String, advisor: &Box<dyn Advisor>) -> Result<(), Mem
 }
 
 /// A line for each advisor: how many proposals are left, and what it was told of those that were made.
-pub fn told(alloc: Global, advisors: &[Box<dyn Advisor>]) -> Result<String, Memory> {
+fn told(alloc: Global, advisors: &[Box<dyn Advisor>]) -> Result<String, Memory> {
     let mut text = String::new(alloc);
     for advisor in advisors {
         push_advisor(&mut text, advisor)?;
     }
     Ok(text)
+}
+
+/// How a run ended.
+#[derive(Drop)]
+pub struct Ended {
+    pub status: u8,
+    /// What was told of the advisors before the run.
+    pub before: String,
+    /// What is told of them after it.
+    pub told: String,
+}
+
+/// Carries out words with these advisors.
+pub fn run_advised(
+    alloc: Global,
+    words: &[String],
+    files: &mut MemFiles,
+    report: &mut MemSink,
+    companions: &[Companion],
+) -> Result<Ended, Memory> {
+    let mut advisors: Vec<Box<dyn Advisor>> = Vec::new(alloc);
+    for companion in companions {
+        match companion {
+            Companion::Negative => advisors.push(Box::new(alloc, Negative::new(alloc))?)?,
+            Companion::Walker { seed, count } => {
+                advisors.push(Box::new(alloc, Walker::new(alloc, *seed, *count))?)?;
+            }
+            Companion::Listed(masks) => {
+                let masks = masks.to_vec(alloc)?;
+                advisors.push(Box::new(alloc, Listed::new(alloc, masks))?)?;
+            }
+        }
+    }
+    let before = told(alloc, &advisors)?;
+    let status = run(alloc, words, files, report, &mut advisors);
+    Ok(Ended {
+        status,
+        before,
+        told: told(alloc, &advisors)?,
+    })
 }

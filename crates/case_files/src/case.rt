@@ -1,16 +1,14 @@
 //! A case: what stands before its runs, the runs, and what is wanted of each.
 
-use crate::advisors::{bring, told};
+use crate::advisors::{Companion, Ended, bring, run_advised};
 use crate::compare::{compare, compare_status};
 use crate::line::{Before, Call, Line, Want};
 use crate::text::{Count, push_line};
 use crate::wanted::Wanted;
 use ae_base::Memory;
 use ae_outside::{MemFiles, MemSink};
-use polarity::Advisor;
 use std::alloc::Global;
 use std::mem;
-use synth_cmd::run;
 
 /// What a text is of.
 #[derive(Drop)]
@@ -35,12 +33,12 @@ pub struct Case {
     name: String,
     files: MemFiles,
     report: MemSink,
-    advisors: Vec<Box<dyn Advisor>>,
+    companions: Vec<Companion>,
     /// The text that is not at its end.
     place: Place,
     text: Vec<u8>,
-    /// The status of the run whose end is not compared yet.
-    status: Option<u8>,
+    /// The end of the last run, where it is not compared yet.
+    ended: Option<Ended>,
     wanted: Wanted,
     runs: u64,
     /// A line for each difference.
@@ -68,10 +66,10 @@ impl Case {
             name,
             files: MemFiles::new(alloc),
             report: MemSink::new(alloc),
-            advisors: Vec::new(alloc),
+            companions: Vec::new(alloc),
             place: Place::Nothing,
             text: Vec::new(alloc),
-            status: None,
+            ended: None,
             wanted: Wanted::new(alloc),
             runs: 0,
             differences: String::new(alloc),
@@ -89,21 +87,40 @@ impl Case {
             }
             Place::FileAfter(name) => self.wanted.hold(name, &text)?,
             Place::Report => self.wanted.report = Some(text),
-            Place::Told => self.wanted.told = text,
+            Place::Told => self.wanted.told = Some(text),
         }
         Ok(())
     }
 
-    /// Compares the report, and what the advisors were told, with what is wanted.
+    /// Compares a status with the one that is wanted.
+    fn compare_status(&mut self, came: u8) -> Result<(), Memory> {
+        compare_status(&mut self.differences, &self.name, self.wanted.status, came)
+    }
+
+    /// Compares the report with the one that is wanted.
     fn compare_report(&mut self) -> Result<(), Memory> {
-        let out = &mut self.differences;
-        if !self.wanted.any_report {
-            let wanted = self.wanted.report.as_deref();
-            compare(out, &self.name, "report", wanted, Some(self.report.bytes()))?;
+        if self.wanted.any_report {
+            return Ok(());
         }
-        let told = told(self.alloc, &self.advisors)?;
-        let wanted = Some(self.wanted.told.as_slice());
-        compare(out, &self.name, "told", wanted, Some(told.as_bytes()))
+        let wanted = self.wanted.report.as_deref();
+        let came = Some(self.report.bytes());
+        compare(&mut self.differences, &self.name, "report", wanted, came)
+    }
+
+    /// Compares what the advisors were told with what is wanted: where nothing is said of it, that they are as before the run.
+    fn compare_told(&mut self, ended: &Ended) -> Result<(), Memory> {
+        let wanted = match &self.wanted.told {
+            Some(told) => told.as_slice(),
+            None => ended.before.as_bytes(),
+        };
+        let came = Some(ended.told.as_bytes());
+        compare(
+            &mut self.differences,
+            &self.name,
+            "told",
+            Some(wanted),
+            came,
+        )
     }
 
     /// Compares the files with those that are wanted.
@@ -128,15 +145,11 @@ impl Case {
 
     /// Compares the end of the last run, where it is not compared yet, with what is wanted of it.
     fn end_run(&mut self) -> Result<(), Memory> {
-        let Some(status) = self.status.take() else {
+        let Some(ended) = self.ended.take() else {
             return Ok(());
         };
-        compare_status(
-            &mut self.differences,
-            &self.name,
-            self.wanted.status,
-            status,
-        )?;
+        self.compare_status(ended.status)?;
+        self.compare_told(&ended)?;
         self.compare_report()?;
         if self.wanted.any_file {
             self.take_files()?;
@@ -151,14 +164,14 @@ impl Case {
     /// Carries out words.
     fn run(&mut self, words: &str) -> Result<(), Memory> {
         let words = words_of(self.alloc, words)?;
-        let status = run(
+        let ended = run_advised(
             self.alloc,
             &words,
             &mut self.files,
             &mut self.report,
-            &mut self.advisors,
-        );
-        self.status = Some(status);
+            &self.companions,
+        )?;
+        self.ended = Some(ended);
         self.runs = self.runs.saturating_add(1);
         for word in words {
             self.wanted.look_at(word)?;
@@ -170,16 +183,10 @@ impl Case {
     fn want_as(&mut self, words: &str) -> Result<(), Memory> {
         let words = words_of(self.alloc, words)?;
         let mut report = MemSink::new(self.alloc);
-        let mut advisors = Vec::new(self.alloc);
         let files = &mut self.wanted.files;
-        let status = run(self.alloc, &words, files, &mut report, &mut advisors);
+        let ended = run_advised(self.alloc, &words, files, &mut report, &[])?;
         self.wanted.report = Some(report.bytes().to_vec(self.alloc)?);
-        compare_status(
-            &mut self.differences,
-            &self.name,
-            self.wanted.status,
-            status,
-        )
+        self.compare_status(ended.status)
     }
 
     /// The call of this number is to fail.
@@ -199,7 +206,7 @@ impl Case {
             }
             Before::Fails(call, number) => self.fail(call, number)?,
             Before::Piece(limit) => self.files.piece(limit.get()),
-            Before::Advisor(brought) => self.advisors.push(bring(self.alloc, brought)?)?,
+            Before::Advisor(brought) => self.companions.push(bring(self.alloc, brought)?)?,
         }
         Ok(())
     }

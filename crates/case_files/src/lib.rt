@@ -33,7 +33,7 @@
 //! | `fail_read K`, `fail_create K`, `fail_append K` | The K-th such call of the files fails, counted from 1. |
 //! | `fail_write K` | The K-th write of the next run's report fails. |
 //! | `piece K` | An append takes at most K bytes. |
-//! | `advisor negative`, `advisor walker SEED COUNT`, `advisor listed BITS ..` | There is one advisor more: the one that complements all literals, the walk, or one that proposes these polarities. |
+//! | `advisor negative`, `advisor walker SEED COUNT`, `advisor listed BITS ..` | There is one advisor more, which each run has anew: the one that complements all literals, the walk, or one that proposes these polarities. |
 //! | `run WORDS` | The words are carried out. They are parted by single blanks, and `""` is the empty word. |
 //! | `status N` | The status that is wanted. |
 //! | `report` | The text of the report follows. `report any`: it is not looked at. |

@@ -10,7 +10,7 @@ pub struct Wanted {
     pub status: Option<u8>,
     pub report: Option<Vec<u8>>,
     pub any_report: bool,
-    pub told: Vec<u8>,
+    pub told: Option<Vec<u8>>,
     pub files: MemFiles,
     pub any_file: bool,
     /// The names of the files that are looked at.
@@ -24,17 +24,18 @@ impl Wanted {
             status: None,
             report: None,
             any_report: false,
-            told: Vec::new(alloc),
+            told: None,
             files: MemFiles::new(alloc),
             any_file: false,
             names: Vec::new(alloc),
         }
     }
 
-    /// Nothing is said yet of a further run. Files and advisors are to stay as they are.
+    /// Nothing is said yet of a further run. The files are to stay as they are.
     pub fn renew(&mut self) {
         self.status = None;
         self.report = None;
+        self.told = None;
         self.any_report = false;
         self.any_file = false;
     }
