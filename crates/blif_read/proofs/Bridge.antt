@@ -10,8 +10,9 @@ use Rattle.ae_base.proofs.Heads.{by_heads}
 use Rattle.ae_base.specs.Twins.{is_among}
 use Rattle.ae_base.specs.Digits.{cube_said}
 use Rattle.ae_base.specs.Cube.{Product}
-use Rattle.ae_lex.specs.First.{first_of, first_fault as first_faulty, at_line, judged}
+use Rattle.ae_lex.specs.First.{first_of, first_fault, at_line, judged}
 use Rattle.ae_lex.specs.Heads.{Word, word, heads, is_row}
+use Rattle.ae_lex.specs.Reads.{words_of}
 use Rattle.ae_lex.specs.Words.{WordLine, word_lines, last_line}
 use Rattle.ae_lex.specs.declared.text.Style.TheVariants.{Blif}
 use Rattle.ae_net.specs.Named.{NamedGate, net_of}
@@ -25,9 +26,7 @@ use Rattle.blif_read.specs.Says.{faults, whole_fault, gates_of, blif_says, some_
 use Rattle.blif_read.specs.Words.{is_name_under, unsupported, gate_name, pin_names, row_end}
 use Rattle.blif_read.specs.Statement.{Said, said, said_by, head_of}
 use Rattle.blif_read.specs.Statement.Said.{Model, Inputs, Outputs, Names, End, Unsupported, Unknown, Row}
-use Rattle.blif_read.specs.Earlier.{inputs_of, outputs_of, driven_of, input_words, output_words, driven_words, model_words, is_model, is_end, Cover, cover_after}
-use Rattle.blif_read.specs.Faults.{declared_fault, word_fault, fault_after_end}
-use Rattle.blif_read.specs.Step.{summary, seen_by, ends_otherwise, is_model_name, row_fault_in, fault_in, line_fault_in, line_fault, first_fault}
+use Rattle.blif_read.specs.Earlier.{inputs_of, outputs_of, driven_of, input_words, output_words, driven_words, model_words}
 use Rattle.blif_read.specs.Placing.{Unplaced, outs, can_go, place, placed}
 use Rattle.blif_read.specs.Lines.{rows_at, cover_of, covers, is_on, named, model_of, unless_faulty, lines_say}
 
@@ -35,18 +34,16 @@ abbrev headers : List Word
 headers = codes ".model" ∷ codes ".inputs" ∷ codes ".outputs" ∷ codes ".names" ∷ codes ".end" ∷ []
 
 -- a line of these words and this statement
-abbrev made : ℕ → List Word → List (List ℕ) → Unplaced
+abbrev pub made : ℕ → List Word → List (List ℕ) → Unplaced
 made n ws rows = record { number = n; pins = pin_names ws; out = gate_name ws; rows = rows }
 
-record IsLine (line : List Word) (s : Said) : Type 0 where
-  inputs : input_words s ≡ cond (heads (codes ".inputs") line) (drop 1 line) []
-  outputs : output_words s ≡ cond (heads (codes ".outputs") line) (drop 1 line) []
-  models : model_words s ≡ cond (heads (codes ".model") line) (drop 1 line) []
-  driven : driven_words s ≡ cond (heads (codes ".names") line) (gate_name (drop 1 line) ∷ []) []
-  model : is_model s ≡ heads (codes ".model") line
-  ended : is_end s ≡ heads (codes ".end") line
-  cover : (n : ℕ) (rows : List (List ℕ)) → cover_of n s rows ≡ cond (heads (codes ".names") line) (made n (drop 1 line) rows ∷ []) []
-  rows : (ss : List Said) → rows_at (s ∷ ss) ≡ cond (is_row line) (concat line ∷ rows_at ss) []
+pub record IsLine (line : List Word) (s : Said) : Type 0 where
+  pub inputs : input_words s ≡ cond (heads (codes ".inputs") line) (drop 1 line) []
+  pub outputs : output_words s ≡ cond (heads (codes ".outputs") line) (drop 1 line) []
+  pub models : model_words s ≡ cond (heads (codes ".model") line) (drop 1 line) []
+  pub driven : driven_words s ≡ cond (heads (codes ".names") line) (gate_name (drop 1 line) ∷ []) []
+  pub cover : (n : ℕ) (rows : List (List ℕ)) → cover_of n s rows ≡ cond (heads (codes ".names") line) (made n (drop 1 line) rows ∷ []) []
+  pub rows : (ss : List Said) → rows_at (s ∷ ss) ≡ cond (is_row line) (concat line ∷ rows_at ss) []
 
 -- a line with none of the read first words is a row, or a statement that is not read
 abbrev other : Bool → Bool → List Word → Said
@@ -66,22 +63,22 @@ line_other : (line : List Word) → AllByRecursion (λ h. heads h line ≡ false
 line_other line h = rw (said_other line h) (at (is_row line) (is_among (word line 0) unsupported) refl h)
   where
     at : (r k : Bool) → is_row line ≡ r → AllByRecursion (λ h. heads h line ≡ false) headers → IsLine line (other r k line)
-    at true k e (m, (i, (o, (n, (d, u))))) = record { inputs = rw i refl; outputs = rw o refl; models = rw m refl; driven = rw n refl; model = sym m; ended = sym d; cover = λ j rows. rw n refl; rows = λ ss. rw e refl }
-    at false true e (m, (i, (o, (n, (d, u))))) = record { inputs = rw i refl; outputs = rw o refl; models = rw m refl; driven = rw n refl; model = sym m; ended = sym d; cover = λ j rows. rw n refl; rows = λ ss. rw e refl }
-    at false false e (m, (i, (o, (n, (d, u))))) = record { inputs = rw i refl; outputs = rw o refl; models = rw m refl; driven = rw n refl; model = sym m; ended = sym d; cover = λ j rows. rw n refl; rows = λ ss. rw e refl }
+    at true k e (m, (i, (o, (n, (d, u))))) = record { inputs = rw i refl; outputs = rw o refl; models = rw m refl; driven = rw n refl; cover = λ j rows. rw n refl; rows = λ ss. rw e refl }
+    at false true e (m, (i, (o, (n, (d, u))))) = record { inputs = rw i refl; outputs = rw o refl; models = rw m refl; driven = rw n refl; cover = λ j rows. rw n refl; rows = λ ss. rw e refl }
+    at false false e (m, (i, (o, (n, (d, u))))) = record { inputs = rw i refl; outputs = rw o refl; models = rw m refl; driven = rw n refl; cover = λ j rows. rw n refl; rows = λ ss. rw e refl }
 
-is_line : (line : List Word) → IsLine line (said line)
+pub is_line : (line : List Word) → IsLine line (said line)
 unfolding head_of
 is_line line =
     by_heads (λ l. IsLine l (said l)) headers refl (
-      λ ws. record { inputs = refl; outputs = refl; models = refl; driven = refl; model = refl; ended = refl; cover = λ n rows. refl; rows = λ ss. refl },
+      λ ws. record { inputs = refl; outputs = refl; models = refl; driven = refl; cover = λ n rows. refl; rows = λ ss. refl },
       (
-        λ ws. record { inputs = refl; outputs = refl; models = refl; driven = refl; model = refl; ended = refl; cover = λ n rows. refl; rows = λ ss. refl },
+        λ ws. record { inputs = refl; outputs = refl; models = refl; driven = refl; cover = λ n rows. refl; rows = λ ss. refl },
         (
-          λ ws. record { inputs = refl; outputs = refl; models = refl; driven = refl; model = refl; ended = refl; cover = λ n rows. refl; rows = λ ss. refl },
+          λ ws. record { inputs = refl; outputs = refl; models = refl; driven = refl; cover = λ n rows. refl; rows = λ ss. refl },
           (
-            λ ws. record { inputs = refl; outputs = refl; models = refl; driven = refl; model = refl; ended = refl; cover = λ n rows. refl; rows = λ ss. refl },
-            (λ ws. record { inputs = refl; outputs = refl; models = refl; driven = refl; model = refl; ended = refl; cover = λ n rows. refl; rows = λ ss. refl }, tt),
+            λ ws. record { inputs = refl; outputs = refl; models = refl; driven = refl; cover = λ n rows. refl; rows = λ ss. refl },
+            (λ ws. record { inputs = refl; outputs = refl; models = refl; driven = refl; cover = λ n rows. refl; rows = λ ss. refl }, tt),
           ),
         ),
       ),
@@ -90,7 +87,7 @@ is_line line =
 
 -- ---- look-ups
 
-abbrev says : List (List Word) → List Said
+abbrev pub says : List (List Word) → List Said
 says lines = map said lines
 
 words_same : (h : Word) (f : Said → List Word) → ((line : List Word) → f (said line) ≡ cond (heads h line) (drop 1 line) []) → (lines : List (List Word)) → flat_map f (says lines) ≡ flat_map (drop 1) (filter (heads h) lines)
@@ -101,13 +98,13 @@ words_same h f same (line ∷ lines) = ap₂ (λ (a b : List Word). a ++ b) (sam
     pick true = refl
     pick false = refl
 
-inputs_same : (lines : List (List Word)) → inputs_of (says lines) ≡ new.inputs_of lines
+pub inputs_same : (lines : List (List Word)) → inputs_of (says lines) ≡ new.inputs_of lines
 inputs_same lines = words_same (codes ".inputs") input_words (λ line. (is_line line).inputs) lines
 
-outputs_same : (lines : List (List Word)) → outputs_of (says lines) ≡ new.outputs_of lines
+pub outputs_same : (lines : List (List Word)) → outputs_of (says lines) ≡ new.outputs_of lines
 outputs_same lines = words_same (codes ".outputs") output_words (λ line. (is_line line).outputs) lines
 
-driven_same : (lines : List (List Word)) → driven_of (says lines) ≡ new.outs (gates_of lines)
+pub driven_same : (lines : List (List Word)) → driven_of (says lines) ≡ new.outs (gates_of lines)
 unfolding gates_of
 driven_same [] = refl
 driven_same (line ∷ lines) = ap₂ (λ (a b : List Word). a ++ b) (is_line line).driven (driven_same lines) ∙ pick (heads (codes ".names") line) (map concat (before_first (λ l. not (is_row l)) lines))
@@ -116,140 +113,8 @@ driven_same (line ∷ lines) = ap₂ (λ (a b : List Word). a ++ b) (is_line lin
     pick true rows = refl
     pick false rows = refl
 
-model_same : (lines : List (List Word)) → model_of (says lines) ≡ new.model_of lines
+pub model_same : (lines : List (List Word)) → model_of (says lines) ≡ new.model_of lines
 model_same lines = ap (λ (ws : List Word). slice_index_or ws 0 (codes "unnamed")) (words_same (codes ".model") model_words (λ line. (is_line line).models) lines)
-
-any_same : (f : Said → Bool) (h : Word) → ((line : List Word) → f (said line) ≡ heads h line) → (lines : List (List Word)) → list_any f (says lines) ≡ list_any (heads h) lines
-any_same f h same [] = refl
-any_same f h same (line ∷ lines) = ap₂ (λ a b. a || b) (same line) (any_same f h same lines)
-
--- ---- the cover that is open
-
-abbrev onto : List (List Word) → List Word → List (List Word)
-onto cover line = cond (is_row line) (cover ++ line ∷ []) (line ∷ [])
-
-abbrev opened : List (List Word) → Option Cover
-opened cover = cond (heads (codes ".names") (get_or cover 0 [])) (Some (record { words = drop 1 (get_or cover 0 []); rows = map concat (drop 1 cover) })) None
-
-row_onto : (cover : List (List Word)) (line : List Word) → heads (codes ".names") line ≡ false → cover_after (opened cover) (Row (concat line)) ≡ opened (cover ++ line ∷ [])
-row_onto [] line h = rw h refl
-row_onto (names ∷ rows) line h = pick (heads (codes ".names") names) (map-append concat rows (line ∷ []))
-  where
-    pick : (b : Bool) → map concat (rows ++ line ∷ []) ≡ map concat rows ++ concat line ∷ []
-        → cover_after (cond b (Some (record { words = drop 1 names; rows = map concat rows })) None) (Row (concat line)) ≡ cond b (Some (record { words = drop 1 names; rows = map concat (rows ++ line ∷ []) })) None
-    pick true e = rw e refl
-    pick false e = refl
-
-onto_other : (line : List Word) → AllByRecursion (λ h. heads h line ≡ false) headers → (cover : List (List Word)) → cover_after (opened cover) (said line) ≡ opened (onto cover line)
-onto_other line h cover = rw (said_other line h) (pick (is_row line) (is_among (word line 0) unsupported) h.1.1.1.0)
-  where
-    pick : (r k : Bool) → heads (codes ".names") line ≡ false → cover_after (opened cover) (other r k line) ≡ opened (cond r (cover ++ line ∷ []) (line ∷ []))
-    pick true k n = row_onto cover line n
-    pick false true n = rw n refl
-    pick false false n = rw n refl
-
-onto_same : (line : List Word) (cover : List (List Word)) → cover_after (opened cover) (said line) ≡ opened (onto cover line)
-unfolding head_of
-onto_same line = by_heads (λ l. (cover : List (List Word)) → cover_after (opened cover) (said l) ≡ opened (onto cover l)) headers refl (λ ws cover. refl, (λ ws cover. refl, (λ ws cover. refl, (λ ws cover. refl, (λ ws cover. refl, tt))))) onto_other line
-
-open_same : (cover lines : List (List Word)) → fold cover_after (opened cover) (says lines) ≡ opened (fold onto cover lines)
-open_same cover [] = refl
-open_same cover (line ∷ lines) = ap (λ (c : Option Cover). fold cover_after c (says lines)) (onto_same line cover) ∙ open_same (onto cover line) lines
-
--- ---- the fault of a line
-
-first_onto : {F : Type 0} (cs ds : List (Bool × F)) → first_of (cs ++ ds) ≡ option_or (first_of cs) (first_of ds)
-first_onto [] ds = refl
-first_onto {F} (c ∷ cs) ds = pick c.0 (first_onto cs ds)
-  where
-    pick : (b : Bool) → first_of (cs ++ ds) ≡ option_or (first_of cs) (first_of ds) → cond b (Some c.1) (first_of (cs ++ ds)) ≡ option_or (cond b (Some c.1) (first_of cs)) (first_of ds)
-    pick true e = refl
-    pick false e = e
-
-declared_same : (limits : NetLimits) (many : BlifFault) (others gates before ws : List Word) → first_of (new.declared_faults limits many others gates before ws) ≡ word_fault (declared_fault limits many others gates) before ws
-declared_same limits many others gates before [] = refl
-declared_same limits many others gates before (w ∷ ws) =
-    first_onto (new.declared_faults limits many others gates before (w ∷ [])) (new.declared_faults limits many others gates (before ++ w ∷ []) ws)
-    ∙ ap (option_or (declared_fault limits many others gates before w)) (declared_same limits many others gates (before ++ w ∷ []) ws)
-
-ends_same : (rows : List (List ℕ)) (r : List ℕ) → not (eqb (row_end (get_or rows 0 r)) (row_end r)) ≡ ends_otherwise (option_map row_end (slice_get rows 0)) r
-ends_same [] r = ap not (eq-eqb (row_end r) (row_end r) refl)
-ends_same (q ∷ rows) r = refl
-
-row_same : (cover : List (List Word)) (r : List ℕ) → first_of (new.row_faults cover r) ≡ row_fault_in (option_map summary (opened cover)) r
-row_same cover r = pick (heads (codes ".names") (get_or cover 0 [])) (ends_same (map concat (drop 1 cover)) r)
-  where
-    pick : (b : Bool) → not (eqb (row_end (get_or (map concat (drop 1 cover)) 0 r)) (row_end r)) ≡ ends_otherwise (option_map row_end (slice_get (map concat (drop 1 cover)) 0)) r
-        → cond (not b) (Some fault.StrayRow) (first_of (drop 1 (new.row_faults cover r)))
-        ≡ row_fault_in (option_map summary (cond b (Some (record { words = drop 1 (get_or cover 0 []); rows = map concat (drop 1 cover) })) None)) r
-    pick true e = rw e refl
-    pick false e = refl
-
--- no word, or one name
-model_words_same : (limits : NetLimits) (ws : List Word) → (ltb 1 (length ws) || not (list_all (is_name_under limits) ws)) ≡ not (is_model_name limits ws)
-model_words_same limits [] = refl
-model_words_same limits (w ∷ []) = pick (is_name_under limits w)
-  where
-    pick : (b : Bool) → (ltb 1 1 || not (b && true)) ≡ not b
-    pick true = refl
-    pick false = refl
-model_words_same limits (w ∷ v ∷ ws) = rw (lt-ltb 1 (length (w ∷ v ∷ ws)) (omega arith)) refl
-
-abbrev Same : List Word → Type 0
-Same line = (limits : NetLimits) (before : List (List Word)) → first_of (faults limits before line) ≡ line_fault limits (says before) (said line)
-
-either_first : {X : Type 0} (a b : Bool) (x : X) (rest : Option X) → cond (a || b) (Some x) rest ≡ cond a (Some x) (cond b (Some x) rest)
-either_first true b x rest = refl
-either_first false b x rest = refl
-
-none_either : (a : Bool) → let none : Option BlifFault = None in none ≡ cond a none none
-none_either true = refl
-none_either false = refl
-
-ended_same : (before : List (List Word)) → list_any is_end (says before) ≡ list_any (heads (codes ".end")) before
-ended_same before = any_same is_end (codes ".end") (λ line. (is_line line).ended) before
-
-same_model : (ws : List Word) → Same (codes ".model" ∷ ws)
-unfolding faults line_fault line_fault_in seen_by head_of
-same_model ws limits before = rw (ended_same before, any_same is_model (codes ".model") (λ line. (is_line line).model) before, model_words_same limits ws) (either_first (list_any (heads (codes ".end")) before) (list_any (heads (codes ".model")) before) fault.TwoModels _)
-
-same_end : (ws : List Word) → Same (codes ".end" ∷ ws)
-unfolding faults line_fault line_fault_in seen_by head_of
-same_end ws limits before = none_either (list_any is_end (says before))
-
-same_inputs : (ws : List Word) → Same (codes ".inputs" ∷ ws)
-unfolding faults line_fault line_fault_in seen_by head_of
-same_inputs ws limits before = rw (ended_same before, inputs_same before, outputs_same before, driven_same before, declared_same limits fault.TooManyInputs (new.outputs_of before) (new.outs (gates_of before)) (new.inputs_of before) ws) refl
-
-same_outputs : (ws : List Word) → Same (codes ".outputs" ∷ ws)
-unfolding faults line_fault line_fault_in seen_by head_of
-same_outputs ws limits before = rw (ended_same before, inputs_same before, outputs_same before, declared_same limits fault.TooManyOutputs (new.inputs_of before) [] (new.outputs_of before) ws) refl
-
-same_names : (ws : List Word) → Same (codes ".names" ∷ ws)
-unfolding faults line_fault line_fault_in seen_by head_of
-same_names ws limits before = rw (ended_same before, inputs_same before, driven_same before, list_any-append (bytes_eq (gate_name ws)) (new.inputs_of before) (new.outs (gates_of before))) refl
-
-same_other : (line : List Word) → AllByRecursion (λ h. heads h line ≡ false) headers → Same line
-unfolding faults line_fault line_fault_in seen_by
-same_other line (m, (i, (o, (n, (e, u))))) limits before =
-    rw (m, i, o, n, e, said_other line (m, (i, (o, (n, (e, u))))), ended_same before) (pick (is_row line) (is_among (word line 0) unsupported) (open_same [] before))
-  where
-    pick : (r k : Bool) → fold cover_after None (says before) ≡ opened (new.last_cover before)
-        → cond (list_any (heads (codes ".end")) before) (Some fault.AfterEnd) (first_of (cond r (new.row_faults (new.last_cover before) (concat line)) ((k, fault.Unsupported) ∷ (true, fault.Unknown) ∷ [])))
-        ≡ cond (list_any (heads (codes ".end")) before) (fault_after_end (other r k line)) (fault_in limits (seen_by (says before)) (other r k line))
-    pick true k c = rw (c, row_same (new.last_cover before) (concat line)) refl
-    pick false true c = refl
-    pick false false c = refl
-
-fault_same : (line : List Word) → Same line
-fault_same line = by_heads Same headers refl (same_model, (same_inputs, (same_outputs, (same_names, (same_end, tt))))) same_other line
-
-first_same : (limits : NetLimits) (before : List (List Word)) (lines : List WordLine) → first_faulty (faults limits) before lines ≡ first_fault limits (says before) lines
-unfolding first_fault
-first_same limits before [] = refl
-first_same limits before (line ∷ lines) =
-    ap₂ (λ (a : Option BlifFault) (b : Option (ℕ × BlifFault)). option_or (option_map (λ f. (line.number, f)) a) b) (fault_same line.words limits before)
-    (first_same limits (before ++ line.words ∷ []) lines ∙ ap (λ (ss : List Said). first_fault limits ss lines) (map-append said before (line.words ∷ [])))
 
 -- ---- gates
 
@@ -268,10 +133,7 @@ rows_same (line ∷ lines) = (is_line line).rows (says lines) ∙ pick (is_row l
         ap (λ (rs : List (List ℕ)). concat line ∷ rs) e ∙ ap (λ j. map concat (take j (line ∷ lines))) more
     pick false e = refl
 
-abbrev words_of : List WordLine → List (List Word)
-words_of lines = map (λ line. line.words) lines
-
-says_words : (lines : List WordLine) → map (λ line. said line.words) lines ≡ says (words_of lines)
+pub says_words : (lines : List WordLine) → map (λ line. said line.words) lines ≡ says (words_of lines)
 says_words [] = refl
 says_words (line ∷ lines) = ap (λ (ss : List Said). said line.words ∷ ss) (says_words lines)
 
@@ -413,8 +275,8 @@ whole_same last lines =
     (net_of (new.model_of ws) (new.inputs_of ws) (new.outputs_of ws) (map named order)))
 
 -- a text says what its lines say, where none is faulty
-pub says_by_lines : (limits : NetLimits) (text : List ℕ) → blif_says limits text ≡ unless_faulty (first_fault limits [] (word_lines Blif text)) (lines_say (last_line text) (word_lines Blif text))
+pub says_by_lines : (limits : NetLimits) (text : List ℕ) → blif_says limits text ≡ unless_faulty (first_fault (faults limits) [] (word_lines Blif text)) (lines_say (last_line text) (word_lines Blif text))
 unfolding blif_says
 says_by_lines limits text =
     let lines = word_lines Blif text in
-    judge_first (first_faulty (faults limits) [] lines) _ _ ∙ ap₂ unless_faulty (first_same limits [] lines) (whole_same (last_line text) lines)
+    judge_first (first_fault (faults limits) [] lines) _ _ ∙ ap (unless_faulty (first_fault (faults limits) [] lines)) (whole_same (last_line text) lines)

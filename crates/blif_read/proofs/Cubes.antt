@@ -1,6 +1,6 @@
 -- Cubes of rows.
 use Rattle.std.proofs.Common.{◌≡◌, ℕ, ◌+◌, ◌<◌, true, false, eqb, ltb, List, [], ◌∷◌, ◌++◌, length, get_or, drop, map, Some, None, refl, sym, ap, ◌∙◌, arith}
-use Rattle.std.proofs.lemmas.List.{append-nil, append_assoc}
+use Rattle.std.proofs.lemmas.List.{append-nil, append_assoc, drop_more}
 use Rattle.std.proofs.lemmas.Bool.{and_parts, and_right, eqb-true, ne_eqb}
 use Rattle.ae_base.specs.Mask.{has, where_below}
 use Rattle.ae_base.specs.Cube.{Product}
@@ -9,11 +9,13 @@ use Rattle.ae_lex.specs.Words.{WordLine}
 use Rattle.blif_read.specs.Statement.{Said, said}
 use Rattle.blif_read.specs.Statement.Said.{Model, Inputs, Outputs, Names, End, Unsupported, Unknown, Row}
 use Rattle.blif_read.specs.Lines.{rows_at, row_cube}
-use Rattle.blif_read.specs.Step.{says_of}
+use Rattle.blif_read.specs.Lines.{says_of}
 use Rattle.blif_read.specs.Build.{row_chars, rows_of}
-use Rattle.blif_read.proofs.Reading.{rest_more}
 
 -- ---- rows at the front
+
+rest_more : (all : List WordLine) (k : ℕ) (line : WordLine) → k < length all → get_or all k line ≡ line → drop k all ≡ line ∷ drop (k + 1) all
+rest_more all k line lt e = drop_more all k line lt ∙ ap (λ (l : WordLine). l ∷ drop (k + 1) all) e
 
 onto_row : (s : Said) (r : List ℕ) (rest : List Said) → row_chars s ≡ Some r → rows_at (s ∷ rest) ≡ r ∷ rows_at rest
 onto_row (Row q) r rest h = (let e : q ≡ r = cc in ap (λ (x : List ℕ). x ∷ rows_at rest) e)

@@ -12,7 +12,7 @@ use Rattle.blif_read.specs.Statement.Said.{Model, Inputs, Outputs, Names, End, U
 use Rattle.blif_read.specs.Placing.{Unplaced}
 use Rattle.ae_net.specs.Named.{place_of}
 use Rattle.blif_read.specs.Lines.{cover_of, covers}
-use Rattle.blif_read.specs.Step.{IsFaultAt}
+use Rattle.blif_read.specs.Lines.{IsFaultAt}
 use Rattle.blif_read.specs.Build.{rows_of, drafted, drafts_of, undefined, undefined_if, cover_front, cover_at, draft_at, built, built_at, reads_unknown, first_line}
 
 -- ---- the first line that passes a test

@@ -12,7 +12,7 @@ use Rattle.blif_read.specs.Earlier.{outputs_of, output_words}
 use Rattle.blif_read.specs.Placing.{Unplaced}
 use Rattle.blif_read.specs.Lines.{cover_of, covers}
 use Rattle.blif_read.specs.Says.{some_unknown}
-use Rattle.blif_read.specs.Step.{says_of}
+use Rattle.blif_read.specs.Lines.{says_of}
 use Rattle.blif_read.specs.Build.{rows_of, shows_unknown, reads_unknown, first_line}
 use Rattle.blif_read.proofs.Link.{AreKnown}
 use Rattle.blif_read.proofs.Sound.{first_none}

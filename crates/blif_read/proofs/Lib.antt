@@ -13,7 +13,6 @@ pub mod Steps
 pub mod Tables
 pub mod Words
 pub mod Heads
-pub mod Reading
 pub mod Sound
 pub mod Covers
 pub mod Signals

@@ -25,10 +25,12 @@ use Rattle.blif_read.specs.declared.draft.Draft.{Draft}
 use Rattle.blif_read.specs.declared.seen.Seen.{Seen}
 use Rattle.blif_read.specs.Words.{is_name_under}
 use Rattle.blif_read.specs.Limits.{KeepsLimits}
-use Rattle.blif_read.specs.Step.{first_fault, seen_by, says_of}
+use Rattle.ae_lex.specs.First.{first_fault}
+use Rattle.ae_lex.specs.Reads.{words_of}
+use Rattle.blif_read.specs.Seen as spec
 use Rattle.blif_read.specs.Placing.{Unplaced, outs}
 use Rattle.blif_read.specs.Lines.{covers, lines_say, unless_faulty}
-use Rattle.blif_read.specs.Says.{blif_says}
+use Rattle.blif_read.specs.Says.{blif_says, faults}
 use Rattle.blif_read.specs.Build.{AreFaultless, AreDrafted, IsPlan, drafts_of, gates_among, rank_in, drawn, placed_net, undefined, shows_unknown, reads_unknown, first_line}
 use Rattle.blif_read.proofs.Bridge.{says_by_lines}
 use Rattle.blif_read.proofs.Ranks.{rank_cons}
@@ -38,7 +40,7 @@ use Rattle.blif_read.proofs.Nets.{net_in}
 use Rattle.blif_read.proofs.Placed.{order_below}
 use Rattle.blif_read.proofs.Network.{IsPlaced, in_order, out_of_gates, ordered_each}
 use Rattle.blif_read.proofs.Models.{model_named}
-use Rattle.blif_read.proofs.Whole.{model_is, lines_say_is, cycle_said, placed_are, drawn_is, drawn_valid, net_said, placed_said}
+use Rattle.blif_read.proofs.Whole.{model_seen, lines_say_is, cycle_said, placed_are, drawn_is, drawn_valid, net_said, placed_said}
 use Rattle.blif_order.specs.Order as by_place
 
 -- ---- a plan
@@ -82,8 +84,8 @@ no_fault : (b : Bool) (e : ℕ × BlifFault) (r : Result Network (ℕ × BlifFau
 no_fault true e r net h = absurd cc
 no_fault false e r net h = (refl, h)
 
-faultless : (limits : NetLimits) (text : List ℕ) (net : Network) → blif_says limits text ≡ Ok net → (first_fault limits [] (word_lines Blif text) ≡ None) × (lines_say (last_line text) (word_lines Blif text) ≡ Ok net)
-faultless limits text net h = not_faulty (first_fault limits [] (word_lines Blif text)) (lines_say (last_line text) (word_lines Blif text)) net (sym (says_by_lines limits text) ∙ h)
+faultless : (limits : NetLimits) (text : List ℕ) (net : Network) → blif_says limits text ≡ Ok net → (first_fault (faults limits) [] (word_lines Blif text) ≡ None) × (lines_say (last_line text) (word_lines Blif text) ≡ Ok net)
+faultless limits text net h = not_faulty (first_fault (faults limits) [] (word_lines Blif text)) (lines_say (last_line text) (word_lines Blif text)) net (sym (says_by_lines limits text) ∙ h)
 
 drafted : (last : ℕ) (lines : List WordLine) (seen : Seen) (net : Network) → AreFaultless lines seen → lines_say last lines ≡ Ok net → AreDrafted lines seen (drafts_of (seen.inputs ++ seen.driven) 0 lines)
 drafted last lines seen net f h =
@@ -116,17 +118,17 @@ within limits model i o cs order ranks h =
 
 -- ---- the network
 
-lines_fine : (limits : NetLimits) (last : ℕ) (lines : List WordLine) (net : Network) → first_fault limits [] lines ≡ None → lines_say last lines ≡ Ok net → IsValid net × KeepsLimits limits net
+lines_fine : (limits : NetLimits) (last : ℕ) (lines : List WordLine) (net : Network) → first_fault (faults limits) [] lines ≡ None → lines_say last lines ≡ Ok net → IsValid net × KeepsLimits limits net
 unfolding drafted
 lines_fine limits last lines net none h =
-    let seen = seen_by (says_of lines) in
+    let seen = spec.seen (words_of lines) in
     let f : AreFaultless lines seen = record { limits = limits; none = none; seen_is = refl } in
     let drafts = drafts_of (seen.inputs ++ seen.driven) 0 lines in
     let d = drafted last lines seen net f h in
     let p = plan (length seen.inputs) drafts in
     let said : placed_net lines seen ≡ Ok net = sym (placed_said last lines seen drafts d) ∙ h in
     let model = unwrap_or seen.model (codes "unnamed") in
-    let is : is_name model ≡ true = ap is_name (model_is lines seen f) ∙ model_named limits lines none in
+    let is : is_name model ≡ true = ap is_name (model_seen lines seen f) ∙ model_named limits lines none in
     elim (cases_Option (position (λ o. is_none o) p.1)) [
       | inl e ↦
           (let same : Ok (drawn lines seen drafts p.0 p.1 model) ≡ Ok net = sym (net_said lines seen drafts p.0 p.1 d p.2 e) ∙ said in

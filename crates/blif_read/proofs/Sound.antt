@@ -1,14 +1,19 @@
 -- What is true of what lines without a fault say.
-use Rattle.std.proofs.Common.{◌≡◌, ◌≢◌, ℕ, ◌-◌, ◌<◌, ◌≤◌, Bool, true, false, not, cond, eqb, ltb, leb, ◌||◌, List, [], ◌∷◌, ◌++◌, length, get_or, Option, Some, None, All, refl, sym, ap, subst, ◌∙◌, arith, length-append, append_assoc, append-nil}
-use Rattle.std.specs.Prelude.{bytes_eq}
-use Rattle.std.specs.List.{list_all}
+use Rattle.std.proofs.Common.{◌≡◌, ◌≢◌, ℕ, ◌-◌, ◌<◌, ◌≤◌, Bool, true, false, not, cond, eqb, ltb, leb, ◌||◌, List, [], ◌∷◌, ◌++◌, length, get_or, drop, codes, Option, Some, None, All, refl, sym, ap, subst, ◌∙◌, arith, length-append, append_assoc, append-nil}
+use Rattle.std.specs.Prelude.{bytes_eq, option_map}
+use Rattle.std.specs.List.{list_any, list_all, concat, AllByRecursion}
 use Rattle.std.specs.Option.{option_or}
 use Rattle.std.proofs.lemmas.Bool.{both_ways, or_from, or_parts, not-false, leb-false, ltb-false, eqb-false}
 use Rattle.std.proofs.lemmas.List.Elements.{All-push}
 use Rattle.std.proofs.lemmas.List.Quantifiers.{all_pairs_push}
 use Rattle.std.proofs.lemmas.List.Folds.{list_any-append, list_any_at}
+use Rattle.std.proofs.lemmas.Slice.Eq.{bytes_eq-Decides}
 use Rattle.ae_base.specs.declared.limits.TheConstants.{PINS, GATES}
 use Rattle.ae_base.proofs.Results.{or_none}
+use Rattle.ae_base.proofs.Heads.{by_heads}
+use Rattle.ae_lex.specs.First.{first_of, first_fault, at_line}
+use Rattle.ae_lex.specs.Heads.{Word, heads, is_row}
+use Rattle.ae_lex.specs.Reads.{words_of}
 use Rattle.ae_lex.specs.Words.{WordLine}
 use Rattle.ae_net.specs.Valid.{IsDistinct}
 use Rattle.blif_read.specs.declared.fault.NetLimits.{NetLimits}
@@ -16,12 +21,11 @@ use Rattle.blif_read.specs.declared.fault.BlifFault.{BlifFault}
 use Rattle.blif_read.specs.declared.seen.Seen.{Seen}
 use Rattle.blif_read.specs.Words.{most_lines, is_name_under, gate_name}
 use Rattle.ae_base.specs.Twins.{is_among}
-use Rattle.blif_read.specs.Statement.{Said, said}
-use Rattle.blif_read.specs.Statement.Said.{Model, Inputs, Outputs, Names, End, Unsupported, Unknown, Row}
-use Rattle.blif_read.specs.Faults.{declared_fault, word_fault, names_fault}
 use Rattle.blif_read.specs.declared.fault.BlifFault.TheVariants as fault
-use Rattle.blif_read.specs.Step.{line_fault, first_fault, seen_by, says_of, line_fault_in, with_line}
-use Rattle.blif_read.proofs.Steps.{fault_same, seen_push}
+use Rattle.blif_read.specs.Seen as spec
+use Rattle.blif_read.specs.Seen.{names_faults, faults_in, with_end, with_line}
+use Rattle.blif_read.specs.Says.{inputs_of, gates_of, outs, declared_faults, faults}
+use Rattle.blif_read.proofs.Steps.{headers, among_both, declared_more, faults_same, seen_push}
 use Rattle.blif_read.proofs.WrittenNames.{bytes_apart, bytes_same}
 use Rattle.blif_read.proofs.Words.{gate_is_name}
 
@@ -59,7 +63,7 @@ pub record IsSound (limits : NetLimits) (inputs outputs driven : List (List ℕ)
   pub driven_new : All (λ w. is_among w inputs ≡ false) driven
   pub outputs_new : All (λ w. is_among w inputs ≡ false) outputs
 
-input_sound : (limits : NetLimits) (i o d : List (List ℕ)) (w : List ℕ) → IsSound limits i o d → declared_fault limits fault.TooManyInputs o d i w ≡ None → IsSound limits (i ++ w ∷ []) o d
+input_sound : (limits : NetLimits) (i o d : List (List ℕ)) (w : List ℕ) → IsSound limits i o d → first_of (declared_faults limits fault.TooManyInputs o d i (w ∷ [])) ≡ None → IsSound limits (i ++ w ∷ []) o d
 input_sound limits i o d w s h =
     let a = first_none (not (is_name_under limits w)) _ _ h in
     let b = first_none (is_among w i) _ _ a.1 in
@@ -79,13 +83,13 @@ input_sound limits i o d w s h =
       outputs_new = still_new w i o c.0 s.outputs_new;
     }
 
-inputs_sound : (limits : NetLimits) (i o d ws : List (List ℕ)) → IsSound limits i o d → word_fault (declared_fault limits fault.TooManyInputs o d) i ws ≡ None → IsSound limits (i ++ ws) o d
+inputs_sound : (limits : NetLimits) (i o d ws : List (List ℕ)) → IsSound limits i o d → first_of (declared_faults limits fault.TooManyInputs o d i ws) ≡ None → IsSound limits (i ++ ws) o d
 inputs_sound limits i o d [] s h = subst (λ (xs : List (List ℕ)). IsSound limits xs o d) (sym (append-nil i)) s
 inputs_sound limits i o d (w ∷ ws) s h =
-    let p = or_none (declared_fault limits fault.TooManyInputs o d i w) (word_fault (declared_fault limits fault.TooManyInputs o d) (i ++ w ∷ []) ws) h in
+    let p = or_none _ _ (sym (declared_more limits fault.TooManyInputs o d i w ws) ∙ h) in
     subst (λ (xs : List (List ℕ)). IsSound limits xs o d) (append_assoc i (w ∷ []) ws) (inputs_sound limits (i ++ w ∷ []) o d ws (input_sound limits i o d w s p.0) p.1)
 
-output_sound : (limits : NetLimits) (i o d : List (List ℕ)) (w : List ℕ) → IsSound limits i o d → declared_fault limits fault.TooManyOutputs i [] o w ≡ None → IsSound limits i (o ++ w ∷ []) d
+output_sound : (limits : NetLimits) (i o d : List (List ℕ)) (w : List ℕ) → IsSound limits i o d → first_of (declared_faults limits fault.TooManyOutputs i [] o (w ∷ [])) ≡ None → IsSound limits i (o ++ w ∷ []) d
 output_sound limits i o d w s h =
     let a = first_none (not (is_name_under limits w)) _ _ h in
     let b = first_none (is_among w o) _ _ a.1 in
@@ -104,10 +108,10 @@ output_sound limits i o d w s h =
       outputs_new = All-push (λ v. is_among v i ≡ false) o w s.outputs_new c.0;
     }
 
-outputs_sound : (limits : NetLimits) (i o d ws : List (List ℕ)) → IsSound limits i o d → word_fault (declared_fault limits fault.TooManyOutputs i []) o ws ≡ None → IsSound limits i (o ++ ws) d
+outputs_sound : (limits : NetLimits) (i o d ws : List (List ℕ)) → IsSound limits i o d → first_of (declared_faults limits fault.TooManyOutputs i [] o ws) ≡ None → IsSound limits i (o ++ ws) d
 outputs_sound limits i o d [] s h = subst (λ (xs : List (List ℕ)). IsSound limits i xs d) (sym (append-nil o)) s
 outputs_sound limits i o d (w ∷ ws) s h =
-    let p = or_none (declared_fault limits fault.TooManyOutputs i [] o w) (word_fault (declared_fault limits fault.TooManyOutputs i []) (o ++ w ∷ []) ws) h in
+    let p = or_none _ _ (sym (declared_more limits fault.TooManyOutputs i [] o w ws) ∙ h) in
     subst (λ (xs : List (List ℕ)). IsSound limits i xs d) (append_assoc o (w ∷ []) ws) (outputs_sound limits i (o ++ w ∷ []) d ws (output_sound limits i o d w s p.0) p.1)
 
 -- of `.names` without a fault: it has a word, all are names, and it has not too many pins
@@ -117,7 +121,7 @@ pub record AreGateWords (limits : NetLimits) (ws : List (List ℕ)) : Type 0 whe
   pub out : is_name_under limits (gate_name ws) ≡ true
   pub few : length ws - 1 ≤ PINS
 
-pub gate_words : (limits : NetLimits) (i d ws : List (List ℕ)) → names_fault limits i d ws ≡ None → AreGateWords limits ws
+pub gate_words : (limits : NetLimits) (i d ws : List (List ℕ)) → first_of (names_faults limits i d ws) ≡ None → AreGateWords limits ws
 gate_words limits i d ws h =
     let a = first_none _ _ _ h in
     let p = or_parts _ _ a.0 in
@@ -131,13 +135,33 @@ gate_words limits i d ws h =
       few = ltb-false PINS (length ws - 1) b.0;
     }
 
-gate_sound : (limits : NetLimits) (i o d ws : List (List ℕ)) → IsSound limits i o d → names_fault limits i d ws ≡ None → IsSound limits i o (d ++ gate_name ws ∷ [])
+headed : (h : Word) (line : List Word) → bytes_eq [] h ≡ false → heads h line ≡ true → h ∷ drop 1 line ≡ line
+headed h [] empty e = absurd (both_ways _ empty e)
+headed h (w ∷ ws) empty e = ap (λ (v : Word). v ∷ ws) (sym ((bytes_eq-Decides w h).0 e))
+
+names_at : (limits : NetLimits) (done : List (List Word)) (ws : List Word) → first_of (faults limits done (codes ".names" ∷ ws)) ≡ None → first_of (names_faults limits (inputs_of done) (outs (gates_of done)) ws) ≡ None
+unfolding faults
+names_at limits done ws h = (first_none (list_any (heads (codes ".end")) done) _ _ h).1
+
+-- the words after a `.names`, and those after a `.model`, in a line without a fault
+pub names_none : (limits : NetLimits) (done : List (List Word)) (line : List Word) → heads (codes ".names") line ≡ true → first_of (faults limits done line) ≡ None
+    → first_of (names_faults limits (inputs_of done) (outs (gates_of done)) (drop 1 line)) ≡ None
+names_none limits done line e h = names_at limits done (drop 1 line) (ap (λ (l : List Word). first_of (faults limits done l)) (headed (codes ".names") line refl e) ∙ h)
+
+model_at : (limits : NetLimits) (done : List (List Word)) (ws : List Word) → first_of (faults limits done (codes ".model" ∷ ws)) ≡ None → list_all (is_name_under limits) ws ≡ true
+unfolding faults
+model_at limits done ws h = not-false _ (or_parts (ltb 1 (length ws)) _ (first_none _ _ _ (first_none (list_any (heads (codes ".end")) done || list_any (heads (codes ".model")) done) _ _ h).1).0).1
+
+pub model_none : (limits : NetLimits) (done : List (List Word)) (line : List Word) → heads (codes ".model") line ≡ true → first_of (faults limits done line) ≡ None → list_all (is_name_under limits) (drop 1 line) ≡ true
+model_none limits done line e h = model_at limits done (drop 1 line) (ap (λ (l : List Word). first_of (faults limits done l)) (headed (codes ".model") line refl e) ∙ h)
+
+gate_sound : (limits : NetLimits) (i o d ws : List (List ℕ)) → IsSound limits i o d → first_of (names_faults limits i d ws) ≡ None → IsSound limits i o (d ++ gate_name ws ∷ [])
 gate_sound limits i o d ws s h =
     let a = first_none (eqb (length ws) 0 || not (list_all (is_name_under limits) ws)) _ _ h in
     let b = first_none (ltb PINS (length ws - 1)) _ _ a.1 in
     let c = first_none (leb GATES (length d)) _ _ b.1 in
-    let e = first_none (is_among (gate_name ws) i || is_among (gate_name ws) d) _ _ c.1 in
-    let q = or_parts (is_among (gate_name ws) i) (is_among (gate_name ws) d) e.0 in
+    let e = first_none (is_among (gate_name ws) (i ++ d)) _ _ c.1 in
+    let q = or_parts _ _ (sym (among_both (gate_name ws) i d) ∙ e.0) in
     let w = gate_name ws in
     record {
       inputs_named = s.inputs_named;
@@ -155,48 +179,47 @@ gate_sound limits i o d ws s h =
 abbrev pub SeenIsSound : NetLimits → Seen → Type 0
 SeenIsSound limits seen = IsSound limits seen.inputs seen.outputs seen.driven
 
--- a statement that has no fault stands before `.end`, save a further `.end`
-sound_step_at : (limits : NetLimits) (ended : Bool) (seen : Seen) (s : Said) → seen.ended ≡ ended → SeenIsSound limits seen → line_fault_in limits seen s ≡ None → SeenIsSound limits (with_line seen s)
-unfolding line_fault_in
-sound_step_at limits true seen (Model ws) e h f = h
-sound_step_at limits true seen End e h f = h
-sound_step_at limits true seen (Inputs ws) e h f = (let bad = rw e at f in absurd cc)
-sound_step_at limits true seen (Outputs ws) e h f = (let bad = rw e at f in absurd cc)
-sound_step_at limits true seen (Names ws) e h f = (let bad = rw e at f in absurd cc)
-sound_step_at limits true seen Unsupported e h f = h
-sound_step_at limits true seen Unknown e h f = h
-sound_step_at limits true seen (Row r) e h f = h
-sound_step_at limits false seen (Model ws) e h f = h
-sound_step_at limits false seen End e h f = h
-sound_step_at limits false seen (Inputs ws) e h f = inputs_sound limits seen.inputs seen.outputs seen.driven ws h (rw e at f)
-sound_step_at limits false seen (Outputs ws) e h f = outputs_sound limits seen.inputs seen.outputs seen.driven ws h (rw e at f)
-sound_step_at limits false seen (Names ws) e h f = gate_sound limits seen.inputs seen.outputs seen.driven ws h (rw e at f)
-sound_step_at limits false seen Unsupported e h f = h
-sound_step_at limits false seen Unknown e h f = h
-sound_step_at limits false seen (Row r) e h f = h
+abbrev Steps : NetLimits → List Word → Type 0
+Steps limits line = (seen : Seen) → SeenIsSound limits seen → first_of (faults_in limits seen line) ≡ None → SeenIsSound limits (with_line seen line)
 
-pub sound_step : (limits : NetLimits) (seen : Seen) (s : Said) → SeenIsSound limits seen → line_fault_in limits seen s ≡ None → SeenIsSound limits (with_line seen s)
-sound_step limits seen s h f = sound_step_at limits seen.ended seen s refl h f
-
-pub line_none : (limits : NetLimits) (done : List Said) (line : WordLine) (lines : List WordLine) → first_fault limits done (line ∷ lines) ≡ None
-    → (line_fault limits done (said line.words) ≡ None) × (first_fault limits (done ++ said line.words ∷ []) lines ≡ None)
-unfolding first_fault
-line_none limits done line lines h = parts (line_fault limits done (said line.words)) h
+sound_other : (limits : NetLimits) (line : List Word) → AllByRecursion (λ h. heads h line ≡ false) headers → Steps limits line
+unfolding with_line
+sound_other limits line (m, (i, (o, (n, (e, u))))) seen s h = rw (m, i, o, n, e) (pick (is_row line))
   where
-    parts : (o : Option BlifFault) → option_or (elim o [ None ↦ None | Some f ↦ Some (line.number, f) ]) (first_fault limits (done ++ said line.words ∷ []) lines) ≡ None → (o ≡ None) × (first_fault limits (done ++ said line.words ∷ []) lines ≡ None)
+    pick : (row : Bool) → SeenIsSound limits (cond row (record seen { cover = option_map (with_end (concat line)) seen.cover }) (record seen { cover = None }))
+    pick true = s
+    pick false = s
+
+sound_step : (limits : NetLimits) (line : List Word) → Steps limits line
+unfolding faults_in with_line
+sound_step limits =
+    by_heads (Steps limits) headers refl (
+      λ ws seen s h. s,
+      (
+        λ ws seen s h. inputs_sound limits seen.inputs seen.outputs seen.driven ws s (first_none seen.ended _ _ h).1,
+        (λ ws seen s h. outputs_sound limits seen.inputs seen.outputs seen.driven ws s (first_none seen.ended _ _ h).1, (λ ws seen s h. gate_sound limits seen.inputs seen.outputs seen.driven ws s (first_none seen.ended _ _ h).1, (λ ws seen s h. s, tt))),
+      ),
+    )
+    (sound_other limits)
+
+pub line_none : (limits : NetLimits) (done : List (List Word)) (line : WordLine) (lines : List WordLine) → first_fault (faults limits) done (line ∷ lines) ≡ None
+    → (first_of (faults limits done line.words) ≡ None) × (first_fault (faults limits) (done ++ line.words ∷ []) lines ≡ None)
+line_none limits done line lines h = parts (first_of (faults limits done line.words)) h
+  where
+    parts : (o : Option BlifFault) → option_or (at_line line.number o) (first_fault (faults limits) (done ++ line.words ∷ []) lines) ≡ None → (o ≡ None) × (first_fault (faults limits) (done ++ line.words ∷ []) lines ≡ None)
     parts None h = (refl, h)
     parts (Some f) h = absurd cc
 
-sound_rest : (limits : NetLimits) (done : List Said) (lines : List WordLine) → SeenIsSound limits (seen_by done) → first_fault limits done lines ≡ None → SeenIsSound limits (seen_by (done ++ says_of lines))
-sound_rest limits done [] h f = subst (λ (ss : List Said). SeenIsSound limits (seen_by ss)) (sym (append-nil done)) h
+sound_rest : (limits : NetLimits) (done : List (List Word)) (lines : List WordLine) → SeenIsSound limits (spec.seen done) → first_fault (faults limits) done lines ≡ None → SeenIsSound limits (spec.seen (done ++ words_of lines))
+sound_rest limits done [] h f = subst (λ (ls : List (List Word)). SeenIsSound limits (spec.seen ls)) (sym (append-nil done)) h
 sound_rest limits done (line ∷ lines) h f =
     let p = line_none limits done line lines f in
-    let s = said line.words in
-    let next : SeenIsSound limits (seen_by (done ++ s ∷ [])) = subst (SeenIsSound limits) (sym (seen_push limits done s p.0)) (sound_step limits (seen_by done) s h (sym (fault_same limits done s) ∙ p.0)) in
-    subst (λ (ss : List Said). SeenIsSound limits (seen_by ss)) (append_assoc done (s ∷ []) (says_of lines)) (sound_rest limits (done ++ s ∷ []) lines next p.1)
+    let none = sym (faults_same line.words limits done) ∙ p.0 in
+    let next : SeenIsSound limits (spec.seen (done ++ line.words ∷ [])) = subst (SeenIsSound limits) (sym (seen_push limits done line.words none)) (sound_step limits line.words (spec.seen done) h none) in
+    subst (λ (ls : List (List Word)). SeenIsSound limits (spec.seen ls)) (append_assoc done (line.words ∷ []) (words_of lines)) (sound_rest limits (done ++ line.words ∷ []) lines next p.1)
 
-sound_start : (limits : NetLimits) → SeenIsSound limits (seen_by [])
-unfolding seen_by
+sound_start : (limits : NetLimits) → SeenIsSound limits (spec.seen [])
+unfolding spec.seen gates_of
 sound_start limits =
     record {
       inputs_named = λ k d lt. absurd (omega arith);
@@ -211,5 +234,5 @@ sound_start limits =
       outputs_new = λ k d lt. absurd (omega arith);
     }
 
-pub sound_all : (limits : NetLimits) (lines : List WordLine) → first_fault limits [] lines ≡ None → SeenIsSound limits (seen_by (says_of lines))
+pub sound_all : (limits : NetLimits) (lines : List WordLine) → first_fault (faults limits) [] lines ≡ None → SeenIsSound limits (spec.seen (words_of lines))
 sound_all limits lines f = sound_rest limits [] lines (sound_start limits) f

@@ -1,6 +1,6 @@
 -- The network of a whole text.
 use Rattle.std.proofs.Common.{◌≡◌, ℕ, ◌+◌, ◌<◌, ◌≤◌, ◌^◌, Bool, true, cond, eqb, ◌||◌, Option, Some, None, Result, Ok, Err, List, [], ◌∷◌, ◌++◌, length, map, get_or, drop, All, refl, sym, ap, ap₂, subst, ◌∙◌, arith, inl, inr, length-append}
-use Rattle.std.specs.Prelude.{bytes_eq, position, is_none, unwrap_or, slice_get, slice_index_or, codes}
+use Rattle.std.specs.Prelude.{bytes_eq, filter, position, is_none, unwrap_or, slice_get, slice_index_or, codes}
 use Rattle.std.specs.List.{flat_map, AllByRecursion}
 use Rattle.std.specs.Option.{option_or, option_map}
 use Rattle.std.proofs.lemmas.Bool.{cases_Bool, cond-true, cond-false, eq-eqb, ne_eqb}
@@ -22,13 +22,19 @@ use Rattle.blif_read.specs.declared.draft.Draft.{Draft}
 use Rattle.blif_read.specs.declared.seen.Seen.{Seen}
 use Rattle.blif_read.specs.Words.{is_name_under}
 use Rattle.ae_base.specs.Twins.{is_among}
-use Rattle.blif_read.specs.Statement.{Said}
-use Rattle.blif_read.specs.Earlier.{inputs_of, outputs_of, driven_of, model_words}
+use Rattle.blif_read.specs.Earlier.{inputs_of, outputs_of, driven_of}
 use Rattle.blif_read.specs.Placing.{Unplaced, outs, placed}
 use Rattle.ae_net.specs.Named.{net_of, place_of}
-use Rattle.blif_read.specs.Lines.{covers, row_cube, is_on, named, model_of, lines_say, unless_faulty}
+use Rattle.blif_read.specs.Lines.{covers, row_cube, is_on, named, model_of, lines_say, unless_faulty, says_of, IsFaultAt}
 use Rattle.blif_read.proofs.Nets.{gate_in, net_in, net_named}
-use Rattle.blif_read.specs.Step.{first_fault, seen_by, says_of, IsFaultAt}
+use Rattle.ae_lex.specs.First.{first_fault}
+use Rattle.ae_lex.specs.Heads.{heads}
+use Rattle.ae_lex.specs.Reads.{words_of}
+use Rattle.blif_read.specs.Seen as spec
+use Rattle.blif_read.specs.Seen.{Tells}
+use Rattle.blif_read.specs.Says as new
+use Rattle.blif_read.specs.Says.{faults}
+use Rattle.blif_read.proofs.Bridge.{says_words, inputs_same, outputs_same, driven_same, model_same}
 use Rattle.blif_read.specs.Gives.{Gives}
 use Rattle.blif_read.specs.declared.fault.BlifErr.{BlifErr}
 use Rattle.blif_read.specs.declared.fault.BlifErr.TheVariants as errors
@@ -74,37 +80,40 @@ network model inputs outputs gates = record { model = model; inputs = inputs; ou
 
 -- ---- what is seen
 
-seen_inputs : (ss : List Said) → (seen_by ss).inputs ≡ inputs_of ss
-unfolding seen_by
-seen_inputs ss = refl
+seen_inputs : (ls : List (List (List ℕ))) → (spec.seen ls).inputs ≡ new.inputs_of ls
+unfolding spec.seen
+seen_inputs ls = refl
 
-seen_outputs : (ss : List Said) → (seen_by ss).outputs ≡ outputs_of ss
-unfolding seen_by
-seen_outputs ss = refl
+seen_outputs : (ls : List (List (List ℕ))) → (spec.seen ls).outputs ≡ new.outputs_of ls
+unfolding spec.seen
+seen_outputs ls = refl
 
-seen_driven : (ss : List Said) → (seen_by ss).driven ≡ driven_of ss
-unfolding seen_by
-seen_driven ss = refl
+seen_driven : (ls : List (List (List ℕ))) → (spec.seen ls).driven ≡ new.outs (new.gates_of ls)
+unfolding spec.seen
+seen_driven ls = refl
 
-seen_model : (ss : List Said) → unwrap_or (seen_by ss).model (codes "unnamed") ≡ model_of ss
-unfolding seen_by
-seen_model ss = first (flat_map model_words ss)
+seen_model : (ls : List (List (List ℕ))) → unwrap_or (spec.seen ls).model (codes "unnamed") ≡ new.model_of ls
+unfolding spec.seen
+seen_model ls = first (flat_map (drop 1) (filter (heads (codes ".model")) ls))
   where
     first : (ws : List (List ℕ)) → unwrap_or (slice_get ws 0) (codes "unnamed") ≡ slice_index_or ws 0 (codes "unnamed")
     first [] = refl
     first (w ∷ ws) = refl
 
 pub inputs_are : (lines : List WordLine) (seen : Seen) → AreFaultless lines seen → seen.inputs ≡ inputs_of (says_of lines)
-inputs_are lines seen f = ap (λ (s : Seen). s.inputs) f.seen_is ∙ seen_inputs (says_of lines)
+inputs_are lines seen f = ap (λ (s : Seen). s.inputs) f.seen_is ∙ seen_inputs (words_of lines) ∙ sym (ap inputs_of (says_words lines) ∙ inputs_same (words_of lines))
 
 pub outputs_are : (lines : List WordLine) (seen : Seen) → AreFaultless lines seen → seen.outputs ≡ outputs_of (says_of lines)
-outputs_are lines seen f = ap (λ (s : Seen). s.outputs) f.seen_is ∙ seen_outputs (says_of lines)
+outputs_are lines seen f = ap (λ (s : Seen). s.outputs) f.seen_is ∙ seen_outputs (words_of lines) ∙ sym (ap outputs_of (says_words lines) ∙ outputs_same (words_of lines))
 
 pub driven_are : (lines : List WordLine) (seen : Seen) → AreFaultless lines seen → seen.driven ≡ driven_of (says_of lines)
-driven_are lines seen f = ap (λ (s : Seen). s.driven) f.seen_is ∙ seen_driven (says_of lines)
+driven_are lines seen f = ap (λ (s : Seen). s.driven) f.seen_is ∙ seen_driven (words_of lines) ∙ sym (ap driven_of (says_words lines) ∙ driven_same (words_of lines))
 
-pub model_is : (lines : List WordLine) (seen : Seen) → AreFaultless lines seen → unwrap_or seen.model (codes "unnamed") ≡ model_of (says_of lines)
-model_is lines seen f = ap (λ (s : Seen). unwrap_or s.model (codes "unnamed")) f.seen_is ∙ seen_model (says_of lines)
+pub model_seen : (lines : List WordLine) (seen : Seen) → AreFaultless lines seen → unwrap_or seen.model (codes "unnamed") ≡ new.model_of (words_of lines)
+model_seen lines seen f = ap (λ (s : Seen). unwrap_or s.model (codes "unnamed")) f.seen_is ∙ seen_model (words_of lines)
+
+model_is : (lines : List WordLine) (seen : Seen) → AreFaultless lines seen → unwrap_or seen.model (codes "unnamed") ≡ model_of (says_of lines)
+model_is lines seen f = model_seen lines seen f ∙ sym (ap model_of (says_words lines) ∙ model_same (words_of lines))
 
 outs_are : (lines : List WordLine) (seen : Seen) → AreFaultless lines seen → outs (covers lines) ≡ seen.driven
 outs_are lines seen f = outs_covers lines ∙ sym (driven_are lines seen f)
@@ -415,6 +424,6 @@ placed_said last lines seen drafts h =
 
 -- ---- the text
 
-pub text_fault : (limits : NetLimits) (last : ℕ) (lines : List WordLine) (e : BlifErr) → IsFaultAt (first_fault limits [] lines) e → Gives (unless_faulty (first_fault limits [] lines) (lines_say last lines)) (Err e)
+pub text_fault : (limits : NetLimits) (last : ℕ) (lines : List WordLine) (e : BlifErr) → Tells {X = Unit {0}} (first_fault (faults limits) [] lines) (Unit {0}) (Err e) → Gives (unless_faulty (first_fault (faults limits) [] lines) (lines_say last lines)) (Err e)
 text_fault limits last lines (errors.At n f) found = ap (λ (o : Option (ℕ × BlifFault)). unless_faulty o (lines_say last lines)) found
 text_fault limits last lines errors.Memory found = tt

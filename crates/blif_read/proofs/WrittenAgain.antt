@@ -1,11 +1,11 @@
 -- The text of a network says the network.
-use Rattle.std.proofs.Common.{◌≡◌, ℕ, suc, ◌+◌, ◌<◌, ◌≤◌, true, false, None, Ok, List, [], ◌∷◌, ◌++◌, length, map, get_or, refl, sym, ap, ap₂, subst, ◌∙◌, arith}
-use Rattle.std.specs.Prelude.{All}
+use Rattle.std.proofs.Common.{◌≡◌, ℕ, suc, ◌+◌, ◌<◌, ◌≤◌, true, false, None, Ok, List, [], ◌∷◌, ◌++◌, length, map, drop, codes, get_or, refl, sym, ap, ap₂, subst, ◌∙◌, arith}
+use Rattle.std.specs.Prelude.{All, filter}
 use Rattle.std.specs.List.{flat_map, list_any, AllByRecursion}
 use Rattle.std.proofs.lemmas.List.{append_assoc, append-nil, length-append, length-map, get_or_append_left}
 use Rattle.std.proofs.lemmas.List.Elements.{recursion_from_All}
 use Rattle.ae_base.specs.Name.{is_name}
-use Rattle.ae_base.proofs.Distinct.{each-append}
+use Rattle.ae_base.proofs.Distinct.{each-append, each_always}
 use Rattle.ae_lex.specs.Words.{last_line, word_lines}
 use Rattle.ae_lex.specs.Written.{numbered}
 use Rattle.ae_lex.specs.declared.text.Style.TheVariants.{Blif}
@@ -13,31 +13,32 @@ use Rattle.ae_lex.proofs.Written.{lines_written}
 use Rattle.ae_net.specs.declared.net.Gate.{Gate}
 use Rattle.ae_net.specs.Network.{Network}
 use Rattle.ae_net.specs.Valid.{IsValid, IsDistinct}
-use Rattle.ae_net.specs.Blif.{signal_names, name_of, net_lines, blif_text}
+use Rattle.ae_net.specs.Blif.{signal_names, name_of, gate_lines, head_lines, net_lines, blif_text}
 use Rattle.blif_read.specs.declared.fault.NetLimits.TheVariants.{Written}
 use Rattle.ae_base.specs.Twins.{is_among}
 use Rattle.blif_read.specs.Limits.{KeepsLimits}
-use Rattle.blif_read.specs.Statement.{Said}
-use Rattle.blif_read.specs.Statement.Said.{Model, Inputs, Outputs, Names, End}
-use Rattle.blif_read.specs.Earlier.{input_words, output_words, driven_words}
-use Rattle.blif_read.specs.Faults.{declared_fault, word_fault}
+use Rattle.blif_read.specs.Statement.Said.{Names}
+use Rattle.blif_read.specs.Earlier as old
 use Rattle.blif_read.specs.declared.fault.BlifFault.TheVariants as fault
-use Rattle.blif_read.specs.Step.{seen_by, line_fault, first_fault}
+use Rattle.ae_lex.specs.First.{first_of, first_fault}
+use Rattle.ae_lex.specs.Heads.{heads}
+use Rattle.blif_read.proofs.Steps.{words_more, driven_more}
 use Rattle.blif_read.specs.Placing.{outs, placed}
 use Rattle.ae_net.specs.Named.{net_of, place_of}
-use Rattle.blif_read.specs.Says.{some_unknown, blif_says}
+use Rattle.blif_read.specs.Says.{some_unknown, inputs_of, outputs_of, gates_of, declared_faults, faults, blif_says}
+use Rattle.blif_read.specs.Says.{outs as new_outs}
 use Rattle.blif_read.specs.Lines.{named, lines_say}
 use Rattle.blif_read.specs.Build.{shows_unknown, reads_unknown}
-use Rattle.blif_read.proofs.Bridge.{says_by_lines}
+use Rattle.blif_read.proofs.Bridge.{says_by_lines, inputs_same, outputs_same, driven_same}
 use Rattle.blif_read.proofs.Nets.{gate_in, net_named}
 use Rattle.blif_read.proofs.Places.{AllBelow}
 use Rattle.blif_read.proofs.WrittenNames.{AreFresh, not_among, fresh, fresh_split, names_apart, places_back, signals_apart}
 use Rattle.blif_read.proofs.WrittenPlacing.{placed_in_order, all_placed}
-use Rattle.blif_read.proofs.WrittenLines.{AreFine, fine_lines, Stands, one_more, not_ended, inputs_fine, outputs_fine, pin_names-snoc, said_numbered, first_none, whole}
-use Rattle.blif_read.proofs.WrittenStatements.{gate_words, gate_said, head_said, net_said, said_net, any_gates, unplaced_gates, covers_net}
+use Rattle.blif_read.proofs.WrittenLines.{AreFine, fine_lines, Stands, declared_fine, pin_names-snoc, said_numbered, first_none, whole}
+use Rattle.blif_read.proofs.WrittenStatements.{net_said, said_net, any_gates, unplaced_gates, covers_net}
 use Rattle.blif_read.proofs.WrittenPlain.{IsFit, net_plain}
 use Rattle.blif_read.proofs.WrittenGates.{AreValid, valid_gates, AreNames, all_named, none_unknown, gates_fit, gates_known, in_order, outs_unplaced, gates_back}
-use Rattle.blif_read.proofs.WrittenFine.{stands_gates, gates_fine}
+use Rattle.blif_read.proofs.WrittenFine.{gate_words, stands_gates, gates_fine}
 
 -- ---- what is known of a network that is written
 
@@ -105,28 +106,31 @@ known_of n v =
 
 -- ---- no line is faulty
 
-head_stands : (n : Network) → Stands (head_said n) n.inputs (map (name_of (signal_names n)) n.outputs) []
+head_stands : (n : Network) → Stands (head_lines n) n.inputs (map (name_of (signal_names n)) n.outputs) []
+unfolding gates_of
 head_stands n = record { on = refl; inputs_are = append-nil n.inputs; outputs_are = append-nil (map (name_of (signal_names n)) n.outputs); driven_are = refl }
 
-net_fine : (n : Network) → IsValid n → KeepsLimits Written n → IsKnown n → AreFine Written [] (net_said n)
-unfolding seen_by
+net_fine : (n : Network) → IsValid n → KeepsLimits Written n → IsKnown n → AreFine Written [] (net_lines n)
+unfolding faults gates_of
 net_fine n v l k =
     let names = signal_names n in
     let outs = map (name_of names) n.outputs in
-    let before : List Said = Model (n.model ∷ []) ∷ Inputs n.inputs ∷ [] in
-    let one : line_fault Written [] (Model (n.model ∷ [])) ≡ None = not_ended Written [] (Model (n.model ∷ [])) refl ∙ rw v.model_named refl in
-    let two : line_fault Written (Model (n.model ∷ []) ∷ []) (Inputs n.inputs) ≡ None = not_ended Written (Model (n.model ∷ []) ∷ []) (Inputs n.inputs) refl ∙ inputs_fine Written [] n.inputs k.inputs k.input_apart (omega (arith, l.few_inputs)) in
     let short : length outs ≡ length n.outputs = length-map n.outputs (name_of names) in
-    let three : line_fault Written before (Outputs outs) ≡ None = not_ended Written before (Outputs outs) refl
-    ∙ ap (λ (i : List (List ℕ)). word_fault (declared_fault Written fault.TooManyOutputs i []) [] outs) (append-nil n.inputs)
-    ∙ outputs_fine Written n.inputs [] outs k.output_names k.output_others k.output_apart (omega (arith, short, l.few_outputs)) in
-    (one, (two, (three, gates_fine names (head_said n) n.inputs outs [] n.gates (head_stands n) k.fit (omega (arith, v.few_gates)) (subst (λ (b : List (List ℕ)). AreFresh b (map (λ gate. gate.out) n.gates)) (sym (append-nil n.inputs)) k.gate_apart))))
+    let apart = subst (λ (b : List (List ℕ)). AreFresh b (map (λ gate. gate.out) n.gates)) (sym (append-nil n.inputs)) k.gate_apart in (
+      rw v.model_named refl,
+      (
+        declared_fine Written fault.TooManyInputs [] [] n.inputs k.inputs (each_always (λ w. is_among w [] ≡ false) (λ w. refl) n.inputs) k.input_apart (omega (arith, l.few_inputs)),
+        (
+          ap (λ (i : List (List ℕ)). first_of (declared_faults Written fault.TooManyOutputs i [] [] outs)) (append-nil n.inputs) ∙ declared_fine Written fault.TooManyOutputs n.inputs [] outs k.output_names k.output_others k.output_apart (omega (arith, short, l.few_outputs)),
+          gates_fine names (head_lines n) n.inputs outs [] n.gates (head_stands n) k.fit (omega (arith, v.few_gates)) apart,
+        ),
+      ),
+    )
 
 -- ---- what the lines say together
 
-at_end : (f : Said → List (List ℕ)) (before gates : List Said) (ws : List (List ℕ)) → f End ≡ [] → flat_map f (before ++ gates) ≡ ws → flat_map f (before ++ (gates ++ End ∷ [])) ≡ ws
-at_end f before gates ws e h =
-    ap (flat_map f) (sym (append_assoc before gates (End ∷ []))) ∙ one_more f (before ++ gates) End ws h ∙ ap (λ (x : List (List ℕ)). ws ++ x) e ∙ append-nil ws
+at_end : (h : List ℕ) (before : List (List (List ℕ))) (ws : List (List ℕ)) → heads h (codes ".end" ∷ []) ≡ false → flat_map (drop 1) (filter (heads h) before) ≡ ws → flat_map (drop 1) (filter (heads h) (before ++ (codes ".end" ∷ []) ∷ [])) ≡ ws
+at_end h before ws e is = words_more h before (codes ".end" ∷ []) ∙ rw (e, is) (append-nil ws)
 
 pins_known : (names : List (List ℕ)) (gates : List Gate) → AllByRecursion (λ gate. AllBelow (length names) gate.pins) gates → AllByRecursion (λ gate. reads_unknown names (Names (gate_words names gate)) ≡ false) gates
 pins_known names [] h = tt
@@ -142,8 +146,9 @@ net_lines_say n last v k =
     let outs = map (λ gate. gate.out) n.gates in
     let shown = map (name_of names) n.outputs in
     let cs = unplaced_gates names 4 n.gates in
-    let st = stands_gates names (head_said n) n.inputs shown [] n.gates (head_stands n) in
-    let gates = flat_map (gate_said names) n.gates in
+    let st = stands_gates names (head_lines n) n.inputs shown [] n.gates (head_stands n) in
+    let gates = flat_map (gate_lines names) n.gates in
+    let split = λ (f : List (List (List ℕ)) → List (List ℕ)). ap f (sym (append_assoc (head_lines n) gates ((codes ".end" ∷ []) ∷ []))) in
     let known = gates_known names (length n.inputs) n.gates k.gates (omega (arith, k.size)) in
     let reads : list_any (reads_unknown names) (net_said n) ≡ false = any_gates (reads_unknown names) names n.gates refl (λ r. refl) (pins_known names n.gates known) in
     let shows : list_any (shows_unknown names) (net_said n) ≡ false = rw (none_unknown names n.outputs k.outputs) (any_gates (shows_unknown names) names n.gates refl (λ r. refl) (none_shown names n.gates)) in
@@ -152,9 +157,9 @@ net_lines_say n last v k =
     placed_in_order n.inputs cs (in_order names n.inputs (length n.inputs) 4 n.gates k.gates refl refl) (subst (λ (ws : List (List ℕ)). AreFresh n.inputs ws) (sym (outs_unplaced names 4 n.gates)) k.gate_apart) in
     whole last (numbered 1 (net_lines n)) (net_said n) n.model n.inputs shown outs cs
     (said_numbered 1 (net_lines n) ∙ said_net n)
-    (at_end input_words (head_said n) gates n.inputs refl st.inputs_are)
-    (at_end output_words (head_said n) gates shown refl st.outputs_are)
-    (at_end driven_words (head_said n) gates outs refl st.driven_are)
+    (sym (ap old.inputs_of (said_net n)) ∙ inputs_same (net_lines n) ∙ split (λ ls. inputs_of ls) ∙ at_end (codes ".inputs") (head_lines n ++ gates) n.inputs refl st.inputs_are)
+    (sym (ap old.outputs_of (said_net n)) ∙ outputs_same (net_lines n) ∙ split (λ ls. outputs_of ls) ∙ at_end (codes ".outputs") (head_lines n ++ gates) shown refl st.outputs_are)
+    (sym (ap old.driven_of (said_net n)) ∙ driven_same (net_lines n) ∙ split (λ ls. new_outs (gates_of ls)) ∙ driven_more (head_lines n ++ gates) (codes ".end" ∷ []) ∙ append-nil _ ∙ st.driven_are)
     refl
     v.some_input
     some
@@ -182,5 +187,5 @@ says_again n v l =
     let k = known_of n v in
     let names = signal_names n in
     let read : word_lines Blif (blif_text n) ≡ numbered 1 (net_lines n) = lines_written Blif (net_lines n) (net_plain n v.model_named k.inputs k.output_names k.fit) in
-    let fine : first_fault Written [] (numbered 1 (net_lines n)) ≡ None = fine_lines Written 1 [] (net_lines n) (subst (λ (ss : List Said). AreFine Written [] ss) (sym (said_net n)) (net_fine n v l k)) in
+    let fine : first_fault (faults Written) [] (numbered 1 (net_lines n)) ≡ None = fine_lines Written 1 [] (net_lines n) (net_fine n v l k) in
     says_by_lines Written (blif_text n) ∙ rw (read, fine) (net_lines_say n (last_line (blif_text n)) v k ∙ ap (λ (m : Network). Ok m) (net_back n k))

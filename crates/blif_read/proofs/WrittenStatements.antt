@@ -2,10 +2,9 @@
 use Rattle.std.proofs.Common.{◌≡◌, ℕ, zero, suc, Bool, true, false, cond, eqb, List, [], ◌∷◌, ◌++◌, length, map, get_or, refl, ap, ap₂, ◌∙◌}
 use Rattle.std.specs.Prelude.{codes}
 use Rattle.std.specs.List.{flat_map, list_any, AllByRecursion}
-use Rattle.std.proofs.lemmas.Bool.{or_from}
+use Rattle.std.proofs.lemmas.Bool.{or_from, not-true}
 use Rattle.std.proofs.lemmas.List.{append_assoc, map-append}
 use Rattle.std.proofs.lemmas.List.Folds.{list_any-append}
-use Rattle.ae_base.specs.Mask.{has}
 use Rattle.ae_base.specs.Cube.{Product}
 use Rattle.ae_base.specs.Text.{digit, cube_text}
 use Rattle.ae_lex.specs.Written.{numbered}
@@ -17,20 +16,16 @@ use Rattle.blif_read.specs.declared.head.Head.TheVariants as head
 use Rattle.blif_read.specs.Statement.{Said, said, said_by, head_of}
 use Rattle.blif_read.specs.Statement.Said.{Model, Inputs, Outputs, Names, End, Row}
 use Rattle.blif_read.specs.Placing.{Unplaced}
-use Rattle.blif_read.specs.Lines.{rows_at, cover_of, covers}
-use Rattle.blif_read.specs.Step.{says_of}
+use Rattle.blif_read.specs.Lines.{rows_at, cover_of, covers, says_of}
 use Rattle.blif_read.specs.Build.{rows_of}
 use Rattle.blif_read.proofs.WrittenLines.{gate_name-snoc, pin_names-snoc}
-use Rattle.blif_read.proofs.WrittenRows.{row_chars}
+use Rattle.blif_read.proofs.WrittenRows.{row_chars, is_row-row_words}
+use Rattle.blif_read.proofs.WrittenFine.{gate_words}
 
 -- ---- what each line says
 
 abbrev pub row_said : ℕ → Bool → Product → Said
 row_said k on row = Row (row_chars k on row)
-
--- the words after `.names`
-abbrev pub gate_words : List (List ℕ) → Gate → List (List ℕ)
-gate_words names gate = map (name_of names) gate.pins ++ gate.out ∷ []
 
 abbrev pub gate_said : List (List ℕ) → Gate → List Said
 gate_said names gate = Names (gate_words names gate) ∷ map (row_said (length gate.pins) gate.on) gate.rows
@@ -39,18 +34,9 @@ head_row : (w : List ℕ) → eqb (get_or w 0 0) 46 ≡ false → head_of w ≡ 
 unfolding head_of
 head_row w e = rw e refl
 
-no_dot : (p q : Bool) → eqb (cond p 49 (cond q 48 45)) 46 ≡ false
-no_dot true q = refl
-no_dot false true = refl
-no_dot false false = refl
-
-digit_dot : (on : Bool) → eqb (digit on) 46 ≡ false
-digit_dot true = refl
-digit_dot false = refl
-
 said_row : (k : ℕ) (on : Bool) (row : Product) → said (row_words k on row) ≡ row_said k on row
-said_row zero on row = ap (λ (h : Head). said_by h (digit on ∷ []) []) (head_row (digit on ∷ []) (digit_dot on))
-said_row (suc k) on row = ap (λ (h : Head). said_by h (cube_text (suc k) row) ((digit on ∷ []) ∷ [])) (head_row (cube_text (suc k) row) (no_dot (has row.pos 0) (has row.neg 0)))
+said_row zero on row = ap (λ (h : Head). said_by h (digit on ∷ []) []) (head_row (digit on ∷ []) (not-true _ (is_row-row_words zero on row)))
+said_row (suc k) on row = ap (λ (h : Head). said_by h (cube_text (suc k) row) ((digit on ∷ []) ∷ [])) (head_row (cube_text (suc k) row) (not-true _ (is_row-row_words (suc k) on row)))
 
 said_rows : (k : ℕ) (on : Bool) (rows : List Product) → map said (map (row_words k on) rows) ≡ map (row_said k on) rows
 said_rows k on [] = refl

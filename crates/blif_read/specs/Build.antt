@@ -18,12 +18,14 @@ use Rattle.blif_read.specs.Statement.{Said, said}
 use Rattle.blif_read.specs.Words.{gate_name, pin_names}
 use Rattle.blif_read.specs.Statement.Said.{Outputs, Names, Row}
 use Rattle.blif_read.specs.Earlier.{output_words}
-use Rattle.blif_read.specs.Step.{first_fault, seen_by, says_of, IsFaultAt}
+use Rattle.ae_lex.specs.First.{first_fault}
+use Rattle.ae_lex.specs.Reads.{words_of}
+use Rattle.blif_read.specs.Seen as spec
 use Rattle.blif_order.specs.Order.{order_of}
 use Rattle.blif_read.specs.Placing.{Unplaced, outs, placed}
 use Rattle.ae_net.specs.Named.{place_of, net_of}
-use Rattle.blif_read.specs.Lines.{rows_at, row_cube, is_on, covers, named, model_of, unless_faulty}
-use Rattle.blif_read.specs.Says.{some_unknown}
+use Rattle.blif_read.specs.Lines.{rows_at, row_cube, is_on, covers, named, model_of, unless_faulty, says_of, IsFaultAt}
+use Rattle.blif_read.specs.Says.{faults, some_unknown}
 
 -- the names of the signals in file order, few enough to be counted
 pub record AreSignals (known : List (List ℕ)) : Type 0 where
@@ -182,8 +184,8 @@ pub record AreBuildable (count : ℕ) (seen : Seen) (drafts : List Draft) (ranks
 -- the lines have no fault, and say this
 pub record AreFaultless (lines : List WordLine) (seen : Seen) : Type 0 where
   pub limits : NetLimits
-  pub none : first_fault limits [] lines ≡ None
-  pub seen_is : seen ≡ seen_by (says_of lines)
+  pub none : first_fault (faults limits) [] lines ≡ None
+  pub seen_is : seen ≡ spec.seen (words_of lines)
 
 -- and these are the drafts, with no name undefined, and with inputs and outputs
 pub record AreDrafted (lines : List WordLine) (seen : Seen) (drafts : List Draft) : Type 0 where

@@ -1,9 +1,9 @@
 -- What the lines before a line said, in file order.
-use Rattle.std.specs.Prelude.{ℕ, Bool, true, false, Option, Some, None, List, [], ◌∷◌, ◌++◌, option_map}
+use Rattle.std.specs.Prelude.{ℕ, List, [], ◌∷◌}
 use Rattle.std.specs.List.{flat_map}
 use Rattle.blif_read.specs.Statement.{Said}
 use Rattle.blif_read.specs.Words.{gate_name}
-use Rattle.blif_read.specs.Statement.Said.{Model, Inputs, Outputs, Names, End, Row}
+use Rattle.blif_read.specs.Statement.Said.{Model, Inputs, Outputs, Names}
 
 -- of one line: the names of `.inputs`, those of `.outputs`, the gate of `.names`, and the name after `.model`
 abbrev pub input_words : Said → List (List ℕ)
@@ -22,14 +22,6 @@ abbrev pub model_words : Said → List (List ℕ)
 model_words (Model ws) = ws
 model_words _ = []
 
-abbrev pub is_model : Said → Bool
-is_model (Model ws) = true
-is_model _ = false
-
-abbrev pub is_end : Said → Bool
-is_end End = true
-is_end _ = false
-
 -- the names that `.inputs` declared, those that `.outputs` declared, and the gates of `.names`
 abbrev pub inputs_of : List Said → List (List ℕ)
 inputs_of before = flat_map input_words before
@@ -39,14 +31,3 @@ outputs_of before = flat_map output_words before
 
 abbrev pub driven_of : List Said → List (List ℕ)
 driven_of before = flat_map driven_words before
-
--- the words of a `.names`, and its rows
-pub record Cover : Type 0 where
-  pub words : List (List ℕ)
-  pub rows : List (List ℕ)
-
--- A `.names` opens a cover, a row goes into the cover that is open, and any other line closes it.
-abbrev pub cover_after : Option Cover → Said → Option Cover
-cover_after c (Names ws) = Some (record { words = ws; rows = [] })
-cover_after c (Row r) = option_map (λ cover. record { words = cover.words; rows = cover.rows ++ r ∷ [] }) c
-cover_after c _ = None

@@ -1,11 +1,13 @@
 -- For private contracts alone: what lines say, statement by statement.
-use Rattle.std.specs.Prelude.{ℕ, ◌==◌, Bool, true, not, if◌then◌else◌, Option, Some, None, Result, Ok, Err, List, [], ◌∷◌, ◌++◌, length, map, take, slice_index_or, option_map, codes}
+use Rattle.std.specs.Prelude.{◌≡◌, ℕ, ◌==◌, Bool, true, not, if◌then◌else◌, Option, Some, None, Result, Ok, Err, List, [], ◌∷◌, ◌++◌, length, map, take, slice_index_or, option_map, codes}
 use Rattle.std.specs.List.{find, flat_map}
 use Rattle.ae_base.specs.Digits.{cube_said}
 use Rattle.ae_base.specs.Cube.{Product}
 use Rattle.ae_lex.specs.Words.{WordLine}
 use Rattle.ae_net.specs.Named.{NamedGate, net_of}
 use Rattle.ae_net.specs.Network.{Network}
+use Rattle.blif_read.specs.declared.fault.BlifErr.{BlifErr}
+use Rattle.blif_read.specs.declared.fault.BlifErr.TheVariants as errors
 use Rattle.blif_read.specs.declared.fault.BlifFault.{BlifFault}
 use Rattle.blif_read.specs.declared.fault.BlifFault.TheVariants as fault
 use Rattle.ae_base.specs.Twins.{is_among}
@@ -32,6 +34,15 @@ cover_of number _ rows = []
 unfoldable pub covers : List WordLine → List Unplaced
 covers [] = []
 covers (line ∷ lines) = cover_of line.number (said line.words) (rows_at (map (λ l. said l.words) lines)) ++ covers lines
+
+-- what each line says
+abbrev pub says_of : List WordLine → List Said
+says_of lines = map (λ line. said line.words) lines
+
+-- an error is the fault at its line; want of memory says nothing
+abbrev pub IsFaultAt : Option (ℕ × BlifFault) → BlifErr → Type 0
+IsFaultAt found (errors.At number what) = found ≡ Some (number, what)
+IsFaultAt found errors.Memory = Unit {0}
 
 -- ---- the network
 

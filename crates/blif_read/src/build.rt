@@ -32,8 +32,8 @@ fn row_chars(alloc: Global, line: &WordLine<'_>) -> Result<Option<Seq<u8>>, Memo
 {
     match line.words() {
         [] => Ok(Some(Seq::new(alloc))),
-        [first, others @ ..] if head_of(first) == Head::Row => {
-            Ok(Some(Seq::from_vec(joined(alloc, first, others)?)))
+        [first, ..] if head_of(first) == Head::Row => {
+            Ok(Some(Seq::from_vec(joined(alloc, line.words())?)))
         }
         _ => Ok(None),
     }

@@ -3,7 +3,7 @@ ghost use Rattle.std.specs.Prelude.{◌≡◌, ◌++◌, ◌+◌, ◌<◌, ◌^�
 ghost use Rattle.ae_base.specs.Name.{is_name};
 ghost use Rattle.blif_read.specs.Statement as statement;
 ghost use Rattle.blif_read.specs.Words.{pin_names};
-ghost use Rattle.blif_read.specs.Step.{IsFaultAt};
+ghost use Rattle.blif_read.specs.Lines.{IsFaultAt};
 ghost use Rattle.blif_read.specs.Build as spec;
 ghost use Rattle.ae_lex.specs.Slices.{texts};
 

@@ -6,7 +6,6 @@ ghost use Rattle.ae_base.specs.Twins.{is_among};
 ghost use Rattle.blif_read.specs.Lines as says;
 ghost use Rattle.blif_read.specs.Placing.{placed};
 ghost use Rattle.blif_read.specs.Gives.{Gives};
-ghost use Rattle.blif_read.specs.Step.{says_of};
 ghost use Rattle.blif_read.specs.Build as spec;
 
 use crate::build::{gate_of, renumbered};

@@ -1,7 +1,10 @@
 //! Reads a text line by line.
 ghost use Rattle.std.specs.Prelude.{◌≡◌, ◌≤◌, [], length};
-ghost use Rattle.blif_read.specs.Step.{first_fault, seen_by, TakesLine, Reads};
-ghost use Rattle.blif_read.specs.Says.{blif_says};
+ghost use Rattle.ae_lex.specs.First.{first_fault};
+ghost use Rattle.ae_lex.specs.Reads.{words_of};
+ghost use Rattle.blif_read.specs.Seen as spec;
+ghost use Rattle.blif_read.specs.Seen.{Tells};
+ghost use Rattle.blif_read.specs.Says.{faults, blif_says};
 ghost use Rattle.blif_read.specs.Lines.{lines_say, unless_faulty};
 ghost use Rattle.blif_read.specs.Gives.{Gives};
 
@@ -13,37 +16,27 @@ use ae_lex::{LineErr, Style, WordLine, WordLines, word_lines};
 use ae_net::Net;
 use std::alloc::Global;
 
-/// Reads one more line.
-fn read_line(
-    alloc: Global,
-    limits: NetLimits,
-    line: &WordLine<'_>,
-    seen: &mut Seen,
-) -> Result<(), BlifErr>
-    ensures { TakesLine limits seen.old line.now result seen.new }
-{
-    match seen.read(alloc, limits, line.words()) {
-        Ok(()) => Ok(()),
-        Err(LineErr::Memory) => Err(BlifErr::Memory),
-        Err(LineErr::Fault(what)) => Err(BlifErr::At {
-            line: line.number(),
-            what,
-        }),
-    }
-}
-
 /// Reads the lines from the first on. `seen` is then what they say together.
-pub fn read_lines(
+fn read_lines(
     alloc: Global,
     limits: NetLimits,
     lines: &[WordLine<'_>],
     seen: &mut Seen,
 ) -> Result<(), BlifErr>
-    requires { seen.old ≡ seen_by [] }
-    ensures { Reads limits lines.now result seen.new }
+    requires { seen.old ≡ spec.seen [] }
+    ensures { Tells (first_fault (faults limits) [] lines.now) (seen.new ≡ spec.seen (words_of lines.now)) result }
 {
     for line in lines {
-        read_line(alloc, limits, line, seen)?;
+        match seen.read(alloc, limits, line.words()) {
+            Ok(()) => {}
+            Err(LineErr::Memory) => return Err(BlifErr::Memory),
+            Err(LineErr::Fault(what)) => {
+                return Err(BlifErr::At {
+                    line: line.number(),
+                    what,
+                });
+            }
+        }
     }
     Ok(())
 }
@@ -56,8 +49,8 @@ fn net_of_lines(
     last: u32,
     seen: &mut Seen,
 ) -> Result<Net, BlifErr>
-    requires { seen.old ≡ seen_by [] }
-    ensures { Gives (unless_faulty (first_fault limits [] lines.now) (lines_say last lines.now)) result }
+    requires { seen.old ≡ spec.seen [] }
+    ensures { Gives (unless_faulty (first_fault (faults limits) [] lines.now) (lines_say last lines.now)) result }
 {
     read_lines(alloc, limits, lines, seen)?;
     net_said(alloc, lines, last, seen)

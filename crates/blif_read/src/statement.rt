@@ -1,5 +1,5 @@
 //! What the words of a line are.
-ghost use Rattle.std.specs.Prelude.{◌≡◌, ◌∷◌, slice_index, if◌then◌else◌, Some, None, IfOk};
+ghost use Rattle.std.specs.Prelude.{◌≡◌, bytes_eq, slice_index, if◌then◌else◌, Some, None, IfOk};
 ghost use Rattle.std.specs.List.{list_all, concat};
 ghost use Rattle.ae_base.specs.Twins.{is_among};
 ghost use Rattle.blif_read.specs.Words as words;
@@ -85,11 +85,25 @@ static UNSUPPORTED: [&[u8]; 19] = [
     b".code",
 ];
 
+/// Whether a word is this one.
+pub fn is_word(word: &[u8], other: &[u8]) -> bool
+    ensures { result ≡ bytes_eq word.now other.now }
+{
+    word == other
+}
+
+/// Whether a statement with this first word is one of the format that is not read.
+pub fn is_unsupported(word: &[u8]) -> bool
+    ensures { result ≡ is_among word.now words.unsupported }
+{
+    is_one_of(word, &UNSUPPORTED)
+}
+
 /// What a statement with this first word is, if it is not read.
 fn unread_statement(word: &[u8]) -> Head
     ensures { result ≡ (if is_among word.now words.unsupported then head.Unsupported else head.Unknown) }
 {
-    if is_one_of(word, &UNSUPPORTED) {
+    if is_unsupported(word) {
         Head::Unsupported
     } else {
         Head::Unknown
@@ -120,11 +134,11 @@ pub fn head_of(word: &[u8]) -> Head
 
 /// The characters of a row: those of its words, one after the other.
 #[tactic(auto, using(crate::proofs::Words::joined_more))]
-pub fn joined(alloc: Global, first: &[u8], others: &[&[u8]]) -> Result<Vec<u8>, Memory>
-    ensures { IfOk result (λ chars. chars.items ≡ concat (first.now ∷ texts others.now)) }
+pub fn joined(alloc: Global, words: &[&[u8]]) -> Result<Vec<u8>, Memory>
+    ensures { IfOk result (λ chars. chars.items ≡ concat (texts words.now)) }
 {
-    let mut chars = Vec::from_slice(alloc, first)?;
-    for word in others {
+    let mut chars = Vec::new(alloc);
+    for word in words {
         chars.extend_from_slice(word)?;
     }
     Ok(chars)
