@@ -1,5 +1,5 @@
 -- The name of the model of lines without a fault.
-use Rattle.std.proofs.Common.{◌≡◌, ℕ, true, None, List, [], ◌∷◌, ◌++◌, drop, refl, inl, inr}
+use Rattle.std.proofs.Common.{◌≡◌, true, None, List, [], ◌∷◌, ◌++◌, drop, refl, inl, inr}
 use Rattle.std.specs.Prelude.{filter, slice_index_or, codes}
 use Rattle.std.specs.List.{list_all, flat_map, AllByRecursion}
 use Rattle.std.proofs.lemmas.Bool.{cases_Bool, and_parts}

@@ -1,5 +1,5 @@
 -- What a text says, where it says a network, is valid and within the limits asked for.
-use Rattle.std.proofs.Common.{◌≡◌, ℕ, ◌<◌, ◌≤◌, Bool, true, false, cond, eqb, Option, Some, None, Result, Ok, Err, List, [], ◌∷◌, ◌++◌, length, map, get_or, All, refl, sym, ap, subst, ◌∙◌, arith, inl, inr}
+use Rattle.std.proofs.Common.{◌≡◌, ℕ, ◌<◌, ◌≤◌, true, eqb, Option, Some, None, Ok, List, [], ◌∷◌, ◌++◌, length, map, get_or, All, refl, sym, ap, subst, ◌∙◌, arith, inl, inr}
 use Rattle.std.specs.Prelude.{position, is_none, unwrap_or, codes}
 use Rattle.std.specs.List.{range_with_len}
 use Rattle.std.specs.Option.{option_or}
@@ -10,38 +10,34 @@ use Rattle.std.proofs.lemmas.List.FromFn.{length-map-range_with_len, get_or-map-
 use Rattle.std.proofs.lemmas.Option.{slice_get-get_or}
 use Rattle.ae_base.specs.Name.{is_name}
 use Rattle.ae_base.specs.declared.limits.TheConstants.{WRITTEN_LINES}
-use Rattle.ae_base.proofs.Results.{or_none}
-use Rattle.ae_lex.specs.declared.text.Style.TheVariants.{Blif}
+use Rattle.ae_lex.specs.First.{first_fault, at_line, judged}
+use Rattle.ae_lex.specs.Reads.{words_of}
 use Rattle.ae_lex.specs.Words.{WordLine, word_lines, last_line}
+use Rattle.ae_lex.specs.declared.text.Style.TheVariants.{Blif}
 use Rattle.ae_net.specs.declared.net.Gate.{Gate}
-use Rattle.ae_net.specs.Named.{place_of}
+use Rattle.ae_net.specs.Named.{NamedGate, place_of, net_of}
 use Rattle.ae_net.specs.Network.{Network}
 use Rattle.ae_net.specs.Valid.{IsValid}
-use Rattle.blif_read.specs.declared.fault.NetLimits.{NetLimits}
-use Rattle.blif_read.specs.declared.fault.NetLimits.TheVariants.{Written}
+use Rattle.blif_order.specs.Order as by_place
+use Rattle.blif_read.specs.declared.draft.Draft.{Draft}
 use Rattle.blif_read.specs.declared.fault.BlifFault.{BlifFault}
 use Rattle.blif_read.specs.declared.fault.BlifFault.TheVariants as fault
-use Rattle.blif_read.specs.declared.draft.Draft.{Draft}
+use Rattle.blif_read.specs.declared.fault.NetLimits.{NetLimits}
+use Rattle.blif_read.specs.declared.fault.NetLimits.TheVariants.{Written}
 use Rattle.blif_read.specs.declared.seen.Seen.{Seen}
-use Rattle.blif_read.specs.Words.{is_name_under}
+use Rattle.blif_read.specs.Build.{AreFaultless, AreDrafted, IsPlan, drafts_of, undefined_pin, undefined_output, gates_among, rank_in, drawn, placed_net, lines_say}
 use Rattle.blif_read.specs.Limits.{KeepsLimits}
-use Rattle.ae_lex.specs.First.{first_fault}
-use Rattle.ae_lex.specs.Reads.{words_of}
+use Rattle.blif_read.specs.Says.{outs, faults, blif_says}
 use Rattle.blif_read.specs.Seen as spec
-use Rattle.blif_read.specs.Placing.{Unplaced, outs}
-use Rattle.blif_read.specs.Lines.{covers, lines_say, unless_faulty}
-use Rattle.blif_read.specs.Says.{blif_says, faults}
-use Rattle.blif_read.specs.Build.{AreFaultless, AreDrafted, IsPlan, drafts_of, gates_among, rank_in, drawn, placed_net, undefined, shows_unknown, reads_unknown, first_line}
-use Rattle.blif_read.proofs.Bridge.{says_by_lines}
-use Rattle.blif_read.proofs.Ranks.{rank_cons}
-use Rattle.blif_read.proofs.Places.{AllBelow}
+use Rattle.blif_read.specs.Words.{is_name_under}
 use Rattle.blif_read.proofs.Link.{cases_Option}
-use Rattle.blif_read.proofs.Nets.{net_in}
-use Rattle.blif_read.proofs.Placed.{order_below}
-use Rattle.blif_read.proofs.Network.{IsPlaced, in_order, out_of_gates, ordered_each}
 use Rattle.blif_read.proofs.Models.{model_named}
-use Rattle.blif_read.proofs.Whole.{model_seen, lines_say_is, cycle_said, placed_are, drawn_is, drawn_valid, net_said, placed_said}
-use Rattle.blif_order.specs.Order as by_place
+use Rattle.blif_read.proofs.Network.{IsPlaced, in_order, out_of_gates, ordered_each}
+use Rattle.blif_read.proofs.Placed.{order_below}
+use Rattle.blif_read.proofs.Places.{AllBelow}
+use Rattle.blif_read.proofs.Ranks.{rank_cons}
+use Rattle.blif_read.proofs.Sound.{first_none}
+use Rattle.blif_read.proofs.Whole.{gates, model_is, lines_say_is, cycle_said, placed_are, drawn_is, drawn_valid, net_said, placed_said}
 
 -- ---- a plan
 
@@ -72,40 +68,34 @@ plan n drafts =
 
 -- ---- an answer that is a network
 
-not_faulty : (f : Option (ℕ × BlifFault)) (r : Result Network (ℕ × BlifFault)) (net : Network) → unless_faulty f r ≡ Ok net → (f ≡ None) × (r ≡ Ok net)
-not_faulty None r net h = (refl, h)
-not_faulty (Some f) r net h = absurd cc
+no_fault : (f w : Option (ℕ × BlifFault)) (said net : Network) → judged (option_or f w) said ≡ Ok net → (f ≡ None) × (judged w said ≡ Ok net)
+no_fault None w said net h = (refl, h)
+no_fault (Some f) w said net h = absurd cc
 
-not_undefined : (o : Option ℕ) (r : Result Network (ℕ × BlifFault)) (net : Network) → unless_faulty (undefined o) r ≡ Ok net → (o ≡ None) × (r ≡ Ok net)
-not_undefined None r net h = (refl, h)
-not_undefined (Some n) r net h = absurd cc
-
-no_fault : (b : Bool) (e : ℕ × BlifFault) (r : Result Network (ℕ × BlifFault)) (net : Network) → cond b (Err e) r ≡ Ok net → (b ≡ false) × (r ≡ Ok net)
-no_fault true e r net h = absurd cc
-no_fault false e r net h = (refl, h)
-
-faultless : (limits : NetLimits) (text : List ℕ) (net : Network) → blif_says limits text ≡ Ok net → (first_fault (faults limits) [] (word_lines Blif text) ≡ None) × (lines_say (last_line text) (word_lines Blif text) ≡ Ok net)
-faultless limits text net h = not_faulty (first_fault (faults limits) [] (word_lines Blif text)) (lines_say (last_line text) (word_lines Blif text)) net (sym (says_by_lines limits text) ∙ h)
+none_at : (number : ℕ) (f : Option BlifFault) → at_line number f ≡ None → f ≡ None
+none_at number None h = refl
+none_at number (Some f) h = absurd cc
 
 drafted : (last : ℕ) (lines : List WordLine) (seen : Seen) (net : Network) → AreFaultless lines seen → lines_say last lines ≡ Ok net → AreDrafted lines seen (drafts_of (seen.inputs ++ seen.driven) 0 lines)
 drafted last lines seen net f h =
-    let a = no_fault (eqb (length seen.inputs) 0) (last, fault.NoInputs) _ net (sym (lines_say_is last lines seen f) ∙ h) in
-    let b = no_fault (eqb (length seen.outputs) 0) (last, fault.NoOutputs) _ net a.1 in
-    let known = seen.inputs ++ seen.driven in
-    let c = not_undefined (option_or (first_line (reads_unknown known) lines) (first_line (shows_unknown known) lines)) (placed_net lines seen) net b.1 in
-    let d = or_none (first_line (reads_unknown known) lines) (first_line (shows_unknown known) lines) c.0 in
+    let a = no_fault _ _ _ net (sym (lines_say_is last lines seen f) ∙ h) in
+    let i = first_none (eqb (length seen.inputs) 0) fault.NoInputs _ (none_at last _ a.0) in
+    let o = first_none (eqb (length seen.outputs) 0) fault.NoOutputs None i.1 in
+    let b = no_fault (undefined_pin (seen.inputs ++ seen.driven) lines) _ _ net a.1 in
+    let c = no_fault (undefined_output (seen.inputs ++ seen.driven) lines) _ _ net b.1 in
     record {
       faultless = f;
-      reads = d.0;
-      shows = d.1;
+      reads = b.0;
+      shows = c.0;
       drafts_are = refl;
-      some_input = omega (arith, eqb-false (length seen.inputs) 0 a.0);
-      some_output = omega (arith, eqb-false (length seen.outputs) 0 b.0);
+      some_input = omega (arith, eqb-false (length seen.inputs) 0 i.0);
+      some_output = omega (arith, eqb-false (length seen.outputs) 0 o.0);
     }
 
 -- ---- the limits
 
-within : (limits : NetLimits) (model : List ℕ) (i o : List (List ℕ)) (cs : List Unplaced) (order : List ℕ) (ranks : List (Option ℕ)) → IsPlaced limits i o cs order ranks → KeepsLimits limits (net_in model i o (in_order cs order))
+within : (limits : NetLimits) (model : List ℕ) (i o : List (List ℕ)) (cs : List NamedGate) (order : List ℕ) (ranks : List (Option ℕ)) → IsPlaced limits i o cs order ranks → KeepsLimits limits (net_of model i o (in_order cs order))
+unfolding net_of
 within limits model i o cs order ranks h =
     let names = i ++ outs (in_order cs order) in
     let Q : List ℕ → Type 0 = λ w. is_name_under limits w ≡ true in
@@ -128,20 +118,21 @@ lines_fine limits last lines net none h =
     let p = plan (length seen.inputs) drafts in
     let said : placed_net lines seen ≡ Ok net = sym (placed_said last lines seen drafts d) ∙ h in
     let model = unwrap_or seen.model (codes "unnamed") in
-    let is : is_name model ≡ true = ap is_name (model_seen lines seen f) ∙ model_named limits lines none in
+    let is : is_name model ≡ true = ap is_name (model_is lines seen f) ∙ model_named limits lines none in
     elim (cases_Option (position (λ o. is_none o) p.1)) [
       | inl e ↦
           (let same : Ok (drawn lines seen drafts p.0 p.1 model) ≡ Ok net = sym (net_said lines seen drafts p.0 p.1 d p.2 e) ∙ said in
           let drawn_net : drawn lines seen drafts p.0 p.1 model ≡ net = cc in
           let placed = placed_are lines seen drafts p.0 p.1 d p.2 e in (
             subst IsValid drawn_net (drawn_valid lines seen drafts p.0 p.1 d p.2 e model is),
-            subst (KeepsLimits limits) (sym (drawn_is lines seen drafts p.0 p.1 model d placed) ∙ drawn_net) (within limits model seen.inputs seen.outputs (covers lines) p.0 p.1 placed),
+            subst (KeepsLimits limits) (sym (drawn_is lines seen drafts p.0 p.1 model d placed) ∙ drawn_net) (within limits model seen.inputs seen.outputs (gates lines) p.0 p.1 placed),
           ))
       | inr (g, e) ↦ (let bad = sym (cycle_said lines seen drafts p.0 p.1 g d p.2 e).1 ∙ said in absurd cc)
     ]
 
 text_fine : (limits : NetLimits) (text : List ℕ) (net : Network) → blif_says limits text ≡ Ok net → IsValid net × KeepsLimits limits net
-text_fine limits text net h = let p = faultless limits text net h in lines_fine limits (last_line text) (word_lines Blif text) net p.0 p.1
+unfolding blif_says
+text_fine limits text net h = let p = no_fault (first_fault (faults limits) [] (word_lines Blif text)) _ _ net h in lines_fine limits (last_line text) (word_lines Blif text) net p.0 p.1
 
 pub said_valid : (limits : NetLimits) (text : List ℕ) (net : Network) → blif_says limits text ≡ Ok net → IsValid net
 said_valid limits text net h = (text_fine limits text net h).0

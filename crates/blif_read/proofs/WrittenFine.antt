@@ -1,17 +1,17 @@
 -- No line of a written gate is faulty.
-use Rattle.std.proofs.Common.{◌≡◌, ℕ, suc, ◌+◌, ◌<◌, ◌≤◌, Bool, true, false, None, List, [], ◌∷◌, ◌++◌, length, map, codes, refl, sym, ap, subst, ◌∙◌, arith}
-use Rattle.std.specs.List.{flat_map, list_any, concat, AllByRecursion}
+use Rattle.std.proofs.Common.{◌≡◌, ℕ, suc, ◌+◌, ◌<◌, ◌≤◌, Bool, false, None, List, [], ◌∷◌, ◌++◌, length, map, codes, refl, sym, ap, subst, ◌∙◌, arith}
+use Rattle.std.specs.List.{flat_map, AllByRecursion}
 use Rattle.std.proofs.lemmas.List.{append_assoc, append-nil, length-append, length-map}
 use Rattle.ae_base.specs.declared.limits.TheConstants.{PINS, GATES}
 use Rattle.ae_base.specs.Cube.{Product}
 use Rattle.ae_base.specs.Text.{digit}
 use Rattle.ae_base.specs.Twins.{is_among}
 use Rattle.ae_lex.specs.First.{first_of}
-use Rattle.ae_lex.specs.Heads.{Word, heads}
+use Rattle.ae_lex.specs.Heads.{Word}
 use Rattle.ae_net.specs.declared.net.Gate.{Gate}
 use Rattle.ae_net.specs.Blif.{name_of, row_words, gate_lines}
 use Rattle.blif_read.specs.declared.fault.NetLimits.TheVariants.{Written}
-use Rattle.blif_read.specs.Says.{last_cover, row_faults, faults}
+use Rattle.blif_read.specs.Says.{last_cover, faults}
 use Rattle.blif_read.proofs.Steps.{onto, cover_more}
 use Rattle.blif_read.proofs.WrittenNames.{AreFresh}
 use Rattle.blif_read.proofs.WrittenLines.{AreFine, fine_append, Stands, stands_row, stands_names, names_line, row_line, gate_name-snoc, names_fine, EndWith, end_more, row_fine}

@@ -1,7 +1,7 @@
 -- Lines of which none is faulty, and what they say together.
-use Rattle.std.proofs.Common.{◌≡◌, ℕ, suc, ◌+◌, ◌-◌, ◌<◌, ◌≤◌, Bool, true, false, not, cond, eqb, leb, ltb, Option, Some, None, Ok, List, [], ◌∷◌, ◌++◌, length, map, get_or, take, drop, codes, inl, inr, refl, sym, ap, ap₂, subst, ◌∙◌, arith}
+use Rattle.std.proofs.Common.{◌≡◌, ℕ, suc, ◌+◌, ◌-◌, ◌<◌, ◌≤◌, Bool, true, false, not, cond, ◌&&◌, eqb, leb, ltb, Option, None, Ok, List, [], ◌∷◌, ◌++◌, length, map, get_or, take, drop, codes, inl, inr, refl, sym, ap, ap₂, subst, ◌∙◌, arith}
 use Rattle.std.specs.Prelude.{slice_index}
-use Rattle.std.specs.List.{find, concat, list_any, list_all, AllByRecursion}
+use Rattle.std.specs.List.{concat, list_any, list_all, AllByRecursion}
 use Rattle.std.specs.Option.{option_or}
 use Rattle.std.proofs.lemmas.Bool.{cases_Bool, both_ways, or_from, or_parts, and_from, le-ltb, lt-leb, ne_eqb, eq-eqb}
 use Rattle.std.proofs.lemmas.List.{append_assoc, append-nil, length-append, get_or_at, take_at}
@@ -10,24 +10,19 @@ use Rattle.std.proofs.lemmas.Slice.Eq.{bytes_eq-Decides}
 use Rattle.ae_base.specs.declared.limits.TheConstants.{PINS, GATES}
 use Rattle.ae_lex.specs.First.{first_of, first_fault, at_line}
 use Rattle.ae_lex.specs.Heads.{Word, word, heads, is_row}
+use Rattle.ae_lex.specs.Reads.{words_of}
 use Rattle.ae_lex.specs.Words.{WordLine}
 use Rattle.ae_lex.specs.Written.{numbered}
+use Rattle.ae_net.specs.Named.{NamedGate, net_of}
 use Rattle.blif_read.specs.declared.fault.NetLimits.{NetLimits}
 use Rattle.blif_read.specs.declared.fault.BlifFault.{BlifFault}
 use Rattle.blif_read.specs.Words.{most_lines, is_name_under, gate_name, pin_names, row_end}
 use Rattle.blif_read.specs.Words as words
 use Rattle.ae_base.specs.Twins.{is_among}
-use Rattle.blif_read.specs.Statement.{Said, said}
-use Rattle.blif_read.specs.Earlier as old
 use Rattle.blif_read.specs.Seen.{names_faults}
-use Rattle.blif_read.specs.Says.{inputs_of, outputs_of, gates_of, outs, last_cover, declared_faults, row_faults, faults}
-use Rattle.blif_read.specs.Placing as placing
-use Rattle.blif_read.specs.Placing.{Unplaced, placed}
+use Rattle.blif_read.specs.Says.{inputs_of, outputs_of, gates_of, outs, last_cover, declared_faults, row_faults, faults, where_any, whole_fault, model_of}
+use Rattle.blif_read.specs.Build.{undefined_pin, undefined_output, placed, unplaced, lines_say}
 use Rattle.blif_read.proofs.Steps.{driven_by, words_more, driven_more}
-use Rattle.ae_net.specs.Named.{net_of}
-use Rattle.blif_read.specs.Lines.{covers, named, model_of, lines_say}
-use Rattle.blif_read.specs.Build.{shows_unknown, reads_unknown, first_line, net_or_cycle}
-use Rattle.blif_read.proofs.Undefined.{unknown_same}
 use Rattle.blif_read.proofs.WrittenNames.{AreFresh}
 
 -- none of these lines is faulty, each after those before it
@@ -63,7 +58,7 @@ stands_more before line is os ds i o d h e a b c = record {
 }
 
 -- a row begins with none of the words of statements
-no_heads : (h : Word) (line : List Word) → is_row line ≡ true → slice_index h 0 ≡ 46 → heads h line ≡ false
+pub no_heads : (h : Word) (line : List Word) → is_row line ≡ true → slice_index h 0 ≡ 46 → heads h line ≡ false
 no_heads h line row dot = elim (cases_Bool (heads h line)) [
   | inl t ↦ absurd (both_ways (is_row line) (ap not (eq-eqb _ 46 (ap (λ (w : Word). slice_index w 0) ((bytes_eq-Decides (word line 0) h).0 t) ∙ dot))) row)
   | inr f ↦ f
@@ -154,26 +149,17 @@ row_fine k b r ws rows e row end h =
     let wide : length ws - 1 ≡ k = omega (arith, e) in
     rw (wide, row, unmixed b rows r h end) refl
 
--- ---- all lines
+-- ---- lines of which none passes a test
 
-pub said_numbered : (k : ℕ) (lines : List (List (List ℕ))) → map (λ line. said line.words) (numbered k lines) ≡ map said lines
-said_numbered k [] = refl
-said_numbered k (ws ∷ lines) = ap (λ (ss : List Said). said ws ∷ ss) (said_numbered (suc k) lines)
-
--- a test that no line passes
-pub first_none : (test : Said → Bool) (k : ℕ) (lines : List (List (List ℕ))) → list_any test (map said lines) ≡ false → first_line test (numbered k lines) ≡ None
-first_none test k [] h = refl
-first_none test k (ws ∷ lines) h =
-    let p = or_parts (test (said ws)) (list_any test (map said lines)) h in
-    rw p.0 (first_none test (suc k) lines p.1)
+pub where_no : (h : Word) (t : List Word → Bool) (f : BlifFault) (k : ℕ) (lines : List (List Word)) → list_any (λ line. heads h line && t (drop 1 line)) lines ≡ false → where_any h t f (numbered k lines) ≡ None
+where_no h t f k [] none = refl
+where_no h t f k (line ∷ lines) none =
+    let p = or_parts (heads h line && t (drop 1 line)) (list_any (λ l. heads h l && t (drop 1 l)) lines) none in
+    rw p.0 (where_no h t f (suc k) lines p.1)
 
 -- lines of which all this is known say this network
-pub whole : (last : ℕ) (lines : List WordLine) (all : List Said) (model : List ℕ) (inputs outputs driven : List (List ℕ)) (cs : List Unplaced)
-    → map (λ line. said line.words) lines ≡ all → old.inputs_of all ≡ inputs → old.outputs_of all ≡ outputs → old.driven_of all ≡ driven → model_of all ≡ model
-    → 0 < length inputs → 0 < length outputs → first_line (reads_unknown (inputs ++ driven)) lines ≡ None → first_line (shows_unknown (inputs ++ driven)) lines ≡ None
-    → covers lines ≡ cs → placed inputs cs ≡ cs → find (λ c. not (is_among c.out (placing.outs cs))) cs ≡ None → lines_say last lines ≡ Ok (net_of model inputs outputs (map named cs))
-unfolding lines_say
-whole last lines all model inputs outputs driven cs a i o d m some_in some_out reads shows c p q =
-    let one : eqb (length inputs) 0 ≡ false = ne_eqb _ 0 (λ e. omega (arith, e, some_in)) in
-    let two : eqb (length outputs) 0 ≡ false = ne_eqb _ 0 (λ e. omega (arith, e, some_out)) in
-    rw (a, i, o, d, m, one, two) (unknown_same (inputs ++ driven) lines (net_or_cycle model inputs outputs (covers lines) (placed inputs (covers lines))) ∙ rw (reads, shows, c, p, q) refl)
+pub whole : (last : ℕ) (lines : List WordLine) (said : List (List Word)) (model : Word) (inputs outputs driven : List Word) (gs : List NamedGate) → words_of lines ≡ said → inputs_of said ≡ inputs → outputs_of said ≡ outputs → gates_of said ≡ gs → outs gs ≡ driven → model_of said ≡ model
+    → 0 < length inputs → 0 < length outputs → undefined_pin (inputs ++ driven) lines ≡ None → undefined_output (inputs ++ driven) lines ≡ None → placed inputs gs ≡ gs → unplaced driven lines ≡ None → lines_say last lines ≡ Ok (net_of model inputs outputs gs)
+unfolding whole_fault
+whole last lines said model inputs outputs driven gs w i o g d m some_in some_out reads shows order all =
+    rw (w, i, o, g, m, order, d, ne_eqb (length inputs) 0 (λ e. omega (arith, e, some_in)), ne_eqb (length outputs) 0 (λ e. omega (arith, e, some_out)), reads, shows, all) refl

@@ -1,9 +1,5 @@
 pub mod Words
-pub mod Statement
-pub mod Earlier
-pub mod Placing
 pub mod Says
-pub mod Lines
 pub mod Gives
 pub mod Limits
 pub mod Seen

@@ -5,7 +5,6 @@ ghost use Rattle.ae_lex.specs.Reads.{words_of};
 ghost use Rattle.blif_read.specs.Seen as spec;
 ghost use Rattle.blif_read.specs.Seen.{Tells};
 ghost use Rattle.blif_read.specs.Says.{faults, blif_says};
-ghost use Rattle.blif_read.specs.Lines.{lines_say, unless_faulty};
 ghost use Rattle.blif_read.specs.Gives.{Gives};
 
 use crate::fault::{BlifErr, NetLimits};
@@ -41,31 +40,16 @@ fn read_lines(
     Ok(())
 }
 
-/// The network that the lines of a text with so many physical lines say, or the first fault. Nothing is seen before.
-fn net_of_lines(
-    alloc: Global,
-    limits: NetLimits,
-    lines: &[WordLine<'_>],
-    last: u32,
-    seen: &mut Seen,
-) -> Result<Net, BlifErr>
-    requires { seen.old ≡ spec.seen [] }
-    ensures { Gives (unless_faulty (first_fault (faults limits) [] lines.now) (lines_say last lines.now)) result }
-{
-    read_lines(alloc, limits, lines, seen)?;
-    net_said(alloc, lines, last, seen)
-}
-
 /// The network that a text says under the limits, with its gates in the order of placing, or its first fault.
 ///
 /// `At` carries the line and the kind of the first fault of the lines in order; where none has one, that of the whole text. `Memory` comes
 /// only for want of memory. What is read is combinational BLIF of one model, in the profile that `BlifFault` names.
-#[tactic(auto, using(crate::proofs::Bridge::says_by_lines))]
 pub fn read_blif(alloc: Global, bytes: &[u8], limits: NetLimits) -> Result<Net, BlifErr>
     requires { length bytes.now ≤ TEXT_BYTES }
     ensures { Gives (blif_says limits bytes.now) result }
 {
     let WordLines { list, last } = word_lines(alloc, bytes, Style::Blif)?;
     let mut seen = Seen::new(alloc);
-    net_of_lines(alloc, limits, list.as_slice(), last, &mut seen)
+    read_lines(alloc, limits, list.as_slice(), &mut seen)?;
+    net_said(alloc, list.as_slice(), last, &seen)
 }

@@ -1,14 +1,11 @@
 //! What the words of a line are.
-ghost use Rattle.std.specs.Prelude.{◌≡◌, bytes_eq, slice_index, if◌then◌else◌, Some, None, IfOk};
+ghost use Rattle.std.specs.Prelude.{◌≡◌, bytes_eq, if◌then◌else◌, Some, None, IfOk};
 ghost use Rattle.std.specs.List.{list_all, concat};
 ghost use Rattle.ae_base.specs.Twins.{is_among};
 ghost use Rattle.blif_read.specs.Words as words;
-ghost use Rattle.blif_read.specs.Statement as spec;
-ghost use Rattle.blif_read.specs.declared.head.Head.TheVariants as head;
 ghost use Rattle.ae_lex.specs.Slices.{texts};
 
 use crate::fault::NetLimits;
-use crate::head::Head;
 use ae_base::{
     Memory, Name, SOURCE_LINES, WRITTEN_LINES, are_literals, is_bit, is_name, is_source_name,
 };
@@ -53,15 +50,6 @@ pub fn read_name(alloc: Global, limits: NetLimits, word: &[u8]) -> Result<Option
     Ok(Some(Name::known(alloc, word)?))
 }
 
-/// The statements that are read, by their first words.
-static STATEMENTS: [(&[u8], Head); 5] = [
-    (b".model", Head::Model),
-    (b".inputs", Head::Inputs),
-    (b".outputs", Head::Outputs),
-    (b".names", Head::Names),
-    (b".end", Head::End),
-];
-
 /// Statements of the format that are not read.
 static UNSUPPORTED: [&[u8]; 19] = [
     b".latch",
@@ -97,39 +85,6 @@ pub fn is_unsupported(word: &[u8]) -> bool
     ensures { result ≡ is_among word.now words.unsupported }
 {
     is_one_of(word, &UNSUPPORTED)
-}
-
-/// What a statement with this first word is, if it is not read.
-fn unread_statement(word: &[u8]) -> Head
-    ensures { result ≡ (if is_among word.now words.unsupported then head.Unsupported else head.Unknown) }
-{
-    if is_unsupported(word) {
-        Head::Unsupported
-    } else {
-        Head::Unknown
-    }
-}
-
-/// What a statement with this first word is.
-fn statement_of(word: &[u8]) -> Head
-    requires { slice_index word.now 0 ≡ 46 }
-    ensures { result ≡ spec.head_of word.now }
-{
-    match STATEMENTS.iter().find(|(first, _)| word == *first) {
-        Some((_, head)) => *head,
-        None => unread_statement(word),
-    }
-}
-
-/// What a line with this first word is.
-#[tactic(auto, unfolding(crate::specs::Statement::head_of))]
-pub fn head_of(word: &[u8]) -> Head
-    ensures { result ≡ spec.head_of word.now }
-{
-    match word {
-        [b'.', ..] => statement_of(word),
-        _ => Head::Row,
-    }
 }
 
 /// The characters of a row: those of its words, one after the other.
