@@ -21,7 +21,6 @@ pub mod Places
 pub mod Link
 pub mod Known
 pub mod Placed
-pub mod Ordered
 pub mod Network
 pub mod Models
 pub mod Whole

@@ -134,11 +134,11 @@ pub cases_Option : {X : Type 0} (o : Option X) → (o ≡ None) ⊎ ((k : X) × 
 cases_Option None = inl refl
 cases_Option (Some k) = inr (k, refl)
 
-place_some : (inputs : List (List ℕ)) (cs : List NamedGate) (steps : ℕ) (done : List NamedGate) (c : NamedGate) → find (names.can_go inputs done) cs ≡ Some c → names.place inputs cs (suc steps) done ≡ names.place inputs cs steps (done ++ c ∷ [])
+pub place_some : (inputs : List (List ℕ)) (cs : List NamedGate) (steps : ℕ) (done : List NamedGate) (c : NamedGate) → find (names.can_go inputs done) cs ≡ Some c → names.place inputs cs (suc steps) done ≡ names.place inputs cs steps (done ++ c ∷ [])
 unfolding names.place
 place_some inputs cs steps done c e = rw (e, names.place) refl
 
-place_none : (inputs : List (List ℕ)) (cs : List NamedGate) (steps : ℕ) (done : List NamedGate) → find (names.can_go inputs done) cs ≡ None → names.place inputs cs (suc steps) done ≡ done
+pub place_none : (inputs : List (List ℕ)) (cs : List NamedGate) (steps : ℕ) (done : List NamedGate) → find (names.can_go inputs done) cs ≡ None → names.place inputs cs (suc steps) done ≡ done
 unfolding names.place
 place_none inputs cs steps done e = rw (e, names.place) refl
 

@@ -1,12 +1,13 @@
 -- The network of a whole text.
-use Rattle.std.proofs.Common.{◌≡◌, ℕ, ◌+◌, ◌-◌, ◌<◌, ◌≤◌, ◌^◌, Bool, true, eqb, ◌||◌, Option, Some, None, Result, Ok, Err, List, [], ◌∷◌, ◌++◌, length, map, get_or, drop, All, refl, sym, ap, ap₂, subst, ◌∙◌, arith, inl, inr, length-append}
+use Rattle.std.proofs.Common.{◌≡◌, ℕ, ◌+◌, ◌-◌, ◌<◌, ◌≤◌, ◌^◌, Bool, true, false, eqb, ◌||◌, Option, Some, None, Result, Ok, Err, List, [], ◌∷◌, ◌++◌, length, map, get_or, drop, All, refl, sym, ap, ap₂, subst, ◌∙◌, arith, inl, inr, length-append}
 use Rattle.std.specs.Prelude.{bytes_eq, filter, position, is_none, unwrap_or, slice_get, slice_index_or, codes}
 use Rattle.std.specs.List.{find, flat_map, AllByRecursion}
 use Rattle.std.specs.Option.{option_or, option_map}
-use Rattle.std.proofs.lemmas.Bool.{cases_Bool, eq-eqb, ne_eqb}
+use Rattle.std.proofs.lemmas.Bool.{cases_Bool, eq-eqb, ne_eqb, false≢true}
 use Rattle.std.proofs.lemmas.List.{length-map, length-take-le, get_or-map, drop_more}
 use Rattle.std.proofs.lemmas.List.Folds.{list_any-append}
-use Rattle.std.proofs.lemmas.List.Elements.{All-append, All-weaker, All-from_recursion}
+use Rattle.std.proofs.lemmas.List.Elements.{All-append, All-weaker, All-from_recursion, recursion_from_All}
+use Rattle.std.proofs.lemmas.Slice.Eq.{bytes_eq-Decides}
 use Rattle.ae_base.specs.Cube.{Product}
 use Rattle.ae_base.specs.Name.{is_name}
 use Rattle.ae_base.specs.Twins.{is_among}
@@ -29,7 +30,7 @@ use Rattle.blif_read.specs.declared.fault.BlifFault.{BlifFault}
 use Rattle.blif_read.specs.declared.fault.BlifFault.TheVariants as fault
 use Rattle.blif_read.specs.declared.fault.NetLimits.{NetLimits}
 use Rattle.blif_read.specs.declared.seen.Seen.{Seen}
-use Rattle.blif_read.specs.Build.{AreSignals, AreFaultless, AreDrafted, AreBuildable, IsPlan, undefined_pin, undefined_output, rows_of, row_cube, is_on, front, gates_among, renumbered, built_at, draft_at, port_of, drawn, placed, unplaced, placed_net, lines_say}
+use Rattle.blif_read.specs.Build.{rank_in, AreSignals, AreFaultless, AreDrafted, AreBuildable, IsPlan, undefined_pin, undefined_output, rows_of, row_cube, is_on, front, gates_among, renumbered, built_at, draft_at, port_of, drawn, placed, unplaced, placed_net, lines_say}
 use Rattle.blif_read.specs.Gives.{Gives}
 use Rattle.blif_read.specs.Says.{inputs_of, outputs_of, model_of, gate_of, gates_of, outs, faults, whole_fault, blif_says}
 use Rattle.blif_read.specs.Seen as spec
@@ -37,13 +38,13 @@ use Rattle.blif_read.specs.Seen.{Tells}
 use Rattle.blif_read.specs.Words.{is_name_under}
 use Rattle.blif_read.proofs.Drafts.{AreOf, drafts_are, pins_by, gate_by, number_by}
 use Rattle.blif_read.proofs.Gates.{IsFit, gates_fit}
-use Rattle.blif_read.proofs.Known.{reads_known, shows_known}
+use Rattle.blif_read.proofs.Known.{reads_known, shows_known, names_known}
 use Rattle.blif_read.proofs.Link.{gate_at, blank, out_at, AreKnown, known_at, waits_of, needs_of, needs_same, one_order}
-use Rattle.blif_read.proofs.Network.{few_lines, IsPlaced, in_order, is_valid, gates_ordered}
-use Rattle.blif_read.proofs.Ordered.{IsOrder, order_of_is}
+use Rattle.blif_read.proofs.Network.{IsFine, ArePlaced, AreParts, few_lines, are_placed, is_valid}
 use Rattle.blif_read.proofs.Placed.{order_below, order_short, AreRanks, ranks_below, left, one_left, none_left, renumber_same}
 use Rattle.blif_read.proofs.Places.{place_bound, AllBelow}
 use Rattle.blif_read.proofs.Sound.{IsSound, SeenIsSound, sound_all}
+use Rattle.blif_read.proofs.Steps.{among_both}
 use Rattle.blif_read.proofs.Words.{name_under}
 
 -- the gates of lines, in file order
@@ -51,6 +52,9 @@ abbrev pub gates : List WordLine → List NamedGate
 gates lines = gates_of (words_of lines)
 
 -- ---- lists
+
+abbrev in_order : List NamedGate → List ℕ → List NamedGate
+in_order cs order = map (gate_at cs) order
 
 map_map : {X Y Z : Type 0} (g : Y → Z) (f : X → Y) (xs : List X) → map (λ x. g (f x)) xs ≡ map g (map f xs)
 map_map g f [] = refl
@@ -249,15 +253,18 @@ lines_placed : (lines : List WordLine) (seen : Seen) (drafts : List Draft) (orde
     → placed seen.inputs (gates lines) ≡ in_order (gates lines) order
 lines_placed lines seen drafts order ranks h p = one_order seen.inputs (gates lines) (apart lines seen h.faultless) (known_are lines seen drafts h) ∙ ap (in_order (gates lines)) (sym (order_needs lines seen drafts order ranks h p))
 
--- what is said where this is the first draft whose gate is left
+-- the first line whose gate isn't placed is that of the first draft whose gate is left
+left_first : (lines : List WordLine) (seen : Seen) (drafts : List Draft) (order : List ℕ) (ranks : List (Option ℕ)) (found : Option Draft) → AreDrafted lines seen drafts → IsPlan (length seen.inputs) drafts order ranks
+    → find (λ d. left (gates lines) order (gate_by lines d)) drafts ≡ found → unplaced (outs (placed seen.inputs (gates lines))) lines ≡ option_map (λ d. (number_by lines d, fault.Cycle)) found
+left_first lines seen drafts order ranks found h p e =
+    ap (λ (gs : List NamedGate). unplaced (outs gs) lines) (lines_placed lines seen drafts order ranks h p)
+    ∙ (of_is lines seen drafts h).first (outs (in_order (gates lines) order)) ∙ ap (λ (o : Option Draft). option_map (λ d. (number_by lines d, fault.Cycle)) o) e
+
 left_said : (lines : List WordLine) (seen : Seen) (drafts : List Draft) (order : List ℕ) (ranks : List (Option ℕ)) (found : Option Draft) → AreDrafted lines seen drafts → IsPlan (length seen.inputs) drafts order ranks
     → find (λ d. left (gates lines) order (gate_by lines d)) drafts ≡ found
     → placed_net lines seen ≡ judged (option_map (λ d. (number_by lines d, fault.Cycle)) found) (net_of (model_of (words_of lines)) seen.inputs seen.outputs (in_order (gates lines) order))
 left_said lines seen drafts order ranks found h p e =
-    let model = model_of (words_of lines) in
-    ap (λ (gs : List NamedGate). judged (unplaced (outs gs) lines) (net_of model seen.inputs seen.outputs gs)) (lines_placed lines seen drafts order ranks h p)
-    ∙ ap (λ (o : Option (ℕ × BlifFault)). judged o (net_of model seen.inputs seen.outputs (in_order (gates lines) order)))
-    ((of_is lines seen drafts h).first (outs (in_order (gates lines) order)) ∙ ap (λ (o : Option Draft). option_map (λ d. (number_by lines d, fault.Cycle)) o) e)
+    ap₂ (λ (o : Option (ℕ × BlifFault)) (gs : List NamedGate). judged o (net_of (model_of (words_of lines)) seen.inputs seen.outputs gs)) (left_first lines seen drafts order ranks found h p e) (lines_placed lines seen drafts order ranks h p)
 
 pub cycle_said : (lines : List WordLine) (seen : Seen) (drafts : List Draft) (order : List ℕ) (ranks : List (Option ℕ)) (g : ℕ) → AreDrafted lines seen drafts → IsPlan (length seen.inputs) drafts order ranks → position (λ o. is_none o) ranks ≡ Some g
     → (g < length drafts) × (placed_net lines seen ≡ Err (number_by lines (draft_at drafts g), fault.Cycle))
@@ -267,28 +274,72 @@ cycle_said lines seen drafts order ranks g h p e =
 
 -- ---- where all are placed
 
-pub placed_are : (lines : List WordLine) (seen : Seen) (drafts : List Draft) (order : List ℕ) (ranks : List (Option ℕ)) (h : AreDrafted lines seen drafts) → IsPlan (length seen.inputs) drafts order ranks → position (λ o. is_none o) ranks ≡ None
-    → IsPlaced h.faultless.limits seen.inputs seen.outputs (gates lines) order ranks
-placed_are lines seen drafts order ranks h p e =
-    let cs = gates lines in
+none_found : (lines : List WordLine) (seen : Seen) (drafts : List Draft) (order : List ℕ) (ranks : List (Option ℕ)) → AreDrafted lines seen drafts → IsPlan (length seen.inputs) drafts order ranks → position (λ o. is_none o) ranks ≡ None
+    → find (λ d. left (gates lines) order (gate_by lines d)) drafts ≡ None
+none_found lines seen drafts order ranks h p e = (none_left (gates lines) order ranks (gate_by lines) drafts (of_is lines seen drafts h).gates_are (apart lines seen h.faultless) (ranks_are lines seen drafts order ranks h p) e).0
+
+fine_are : (limits : NetLimits) (i : List Word) (cs : List NamedGate) → AllByRecursion (IsFit limits) cs → AllByRecursion (λ w. is_among w i ≡ false) (outs cs) → AllByRecursion (IsFine limits i) cs
+fine_are limits i [] h k = tt
+fine_are limits i (c ∷ cs) h k = ((h.0, k.0), fine_are limits i cs h.1 k.1)
+
+-- a name that is among those of these gates is among the names that each of them has one of
+among_all : (cs : List NamedGate) (names : List Word) (w : Word) → AllByRecursion (λ g. is_among g.out names ≡ true) cs → is_among w (outs cs) ≡ true → is_among w names ≡ true
+among_all [] names w h t = absurd (false≢true t)
+among_all (c ∷ cs) names w h t = elim (cases_Bool (bytes_eq w c.out)) [
+  | inl e ↦ ap (λ (v : Word). is_among v names) ((bytes_eq-Decides w c.out).0 e) ∙ h.0
+  | inr f ↦ among_all cs names w h.1 (sym (ap (λ (b : Bool). b || is_among w (outs cs)) f) ∙ t)
+]
+
+-- the network that is said where no gate is left
+pub parts_are : (lines : List WordLine) (seen : Seen) (drafts : List Draft) (h : AreDrafted lines seen drafts) → unplaced (outs (placed seen.inputs (gates lines))) lines ≡ None
+    → AreParts h.faultless.limits seen.inputs seen.outputs seen.driven (placed seen.inputs (gates lines))
+parts_are lines seen drafts h none =
     let f = h.faultless in
-    let is = outs_are lines seen f in
-    let sound = subst (λ (ws : List (List ℕ)). IsSound f.limits seen.inputs seen.outputs ws) (sym is) (sound_is lines seen f) in
-    let ranked = ranks_are lines seen drafts order ranks h p in
-    let known = seen.inputs ++ seen.driven in
+    let i = seen.inputs in
+    let cs = gates lines in
+    let sound = sound_is lines seen f in
+    let new = subst (λ (ws : List Word). All (λ w. is_among w i ≡ false) ws) (sym (outs_are lines seen f)) sound.driven_new in
+    let start : ArePlaced f.limits i [] = record { apart = λ a b d lt in'. absurd (omega arith); fine = tt; ready = λ k lt. absurd (omega arith) } in
+    let are = are_placed f.limits i cs (length cs) [] (fine_are f.limits i cs (fit_are lines seen f) (recursion_from_All (λ w. is_among w i ≡ false) (outs cs) new)) start in
+    let known = subst (λ (os : List Word). AllByRecursion (λ w. is_among w (i ++ seen.driven) ≡ true) os) (sym (outputs_are lines seen f)) (shows_known (i ++ seen.driven) lines h.shows) in
+    let all = names_known (outs (placed i cs)) lines none in
     record {
       sound = sound;
-      fit = fit_are lines seen f;
-      known = known_are lines seen drafts h;
-      shown = subst (λ (ws : List (List ℕ)). AllByRecursion (λ w. is_among w (seen.inputs ++ ws) ≡ true) seen.outputs) (sym is) (subst (AllByRecursion (λ w. is_among w known ≡ true)) (sym (outputs_are lines seen f)) (shows_known known lines h.shows));
-      ranked = ranked;
-      ordered = subst (λ (os : List ℕ). IsOrder (needs_of seen.inputs cs) os) (sym (order_needs lines seen drafts order ranks h p)) (order_of_is (needs_of seen.inputs cs));
-      all = (none_left cs order ranks (gate_by lines) drafts (of_is lines seen drafts h).gates_are sound.driven_apart ranked e).1;
+      placed = are.0;
+      few = omega (arith, are.1, (size_is lines seen drafts h).1, sound.few_gates);
+      shown = recursion_from_All (λ w. is_among w (outs (placed i cs)) ≡ true) seen.outputs (λ k d lt.
+          let w = get_or seen.outputs k d in
+          let in' : is_among w (i ++ seen.driven) ≡ true = All-from_recursion (λ v. is_among v (i ++ seen.driven) ≡ true) seen.outputs known k d lt in
+          among_all cs (outs (placed i cs)) w all (ap (is_among w) (outs_are lines seen f) ∙ sym (ap (λ (b : Bool). b || is_among w seen.driven) (sound.outputs_new k d lt)) ∙ sym (among_both w i seen.driven) ∙ in'));
       some_input = h.some_input;
       some_output = h.some_output;
     }
 
-gate_built : (lines : List WordLine) (seen : Seen) (drafts : List Draft) (order : List ℕ) (ranks : List (Option ℕ)) (h : AreDrafted lines seen drafts) → IsPlaced h.faultless.limits seen.inputs seen.outputs (gates lines) order ranks → (g : ℕ) → g < length (gates lines)
+-- what is known of the gates and their ranks where none is left
+record AreRanked (i o : List Word) (cs : List NamedGate) (order : List ℕ) (ranks : List (Option ℕ)) : Type 0 where
+  apart : IsDistinct (outs cs)
+  known : AreKnown (i ++ outs cs) cs
+  shown : AllByRecursion (λ w. is_among w (i ++ outs cs) ≡ true) o
+  ranked : AreRanks cs order ranks
+  all : (g : ℕ) → g < length cs → is_none (rank_in order g) ≡ false
+
+ranked_are : (lines : List WordLine) (seen : Seen) (drafts : List Draft) (order : List ℕ) (ranks : List (Option ℕ)) → AreDrafted lines seen drafts → IsPlan (length seen.inputs) drafts order ranks → position (λ o. is_none o) ranks ≡ None
+    → AreRanked seen.inputs seen.outputs (gates lines) order ranks
+ranked_are lines seen drafts order ranks h p e =
+    let cs = gates lines in
+    let f = h.faultless in
+    let ranked = ranks_are lines seen drafts order ranks h p in
+    let known = seen.inputs ++ seen.driven in
+    record {
+      apart = apart lines seen f;
+      known = known_are lines seen drafts h;
+      shown = subst (λ (ws : List Word). AllByRecursion (λ w. is_among w (seen.inputs ++ ws) ≡ true) seen.outputs) (sym (outs_are lines seen f))
+          (subst (AllByRecursion (λ w. is_among w known ≡ true)) (sym (outputs_are lines seen f)) (shows_known known lines h.shows));
+      ranked = ranked;
+      all = (none_left cs order ranks (gate_by lines) drafts (of_is lines seen drafts h).gates_are (apart lines seen f) ranked e).1;
+    }
+
+gate_built : (lines : List WordLine) (seen : Seen) (drafts : List Draft) (order : List ℕ) (ranks : List (Option ℕ)) (h : AreDrafted lines seen drafts) → AreRanked seen.inputs seen.outputs (gates lines) order ranks → (g : ℕ) → g < length (gates lines)
     → built_at lines seen.driven drafts (length seen.inputs) ranks g ≡ gate_in (seen.inputs ++ outs (in_order (gates lines) order)) (gate_at (gates lines) g)
 gate_built lines seen drafts order ranks h p g lt =
     let cs = gates lines in
@@ -314,12 +365,12 @@ gate_built lines seen drafts order ranks h p g lt =
     let numbers : map (renumbered n ranks) (pins_by known c) ≡ map (λ pin. place_of pin new) c.pins =
     sym (map_map (renumbered n ranks) (λ w. place_of w known) c.pins)
     ∙ same_along (λ w. is_among w (i ++ outs cs) ≡ true) (λ w. renumbered n ranks (place_of w known)) (λ pin. place_of pin new) c.pins
-    (λ w k. ap (λ (ws : List Word). renumbered n ranks (place_of w (i ++ ws))) (sym (outs_are lines seen h.faultless)) ∙ renumber_same i cs order ranks w p.sound.driven_apart p.ranked p.all k)
+    (λ w k. ap (λ (ws : List Word). renumbered n ranks (place_of w (i ++ ws))) (sym (outs_are lines seen h.faultless)) ∙ renumber_same i cs order ranks w p.apart p.ranked p.all k)
     (known_at (i ++ outs cs) cs g p.known lt) in
     ap₂ (λ (w : Word) (ps : List ℕ). gate w ps (map (row_cube (length draft.pins)) rows) (is_on rows)) out (ap (map (renumbered n ranks)) pins ∙ numbers)
     ∙ ap₂ (λ (rs : List Product) (b : Bool). gate c.out (map (λ pin. place_of pin new) c.pins) rs b) (ap (λ m. map (row_cube m) rows) width ∙ ap (λ (u : NamedGate). u.rows) (sym there)) (ap (λ (u : NamedGate). u.on) (sym there))
 
-pub drawn_is : (lines : List WordLine) (seen : Seen) (drafts : List Draft) (order : List ℕ) (ranks : List (Option ℕ)) (model : List ℕ) (h : AreDrafted lines seen drafts) → IsPlaced h.faultless.limits seen.inputs seen.outputs (gates lines) order ranks
+drawn_is : (lines : List WordLine) (seen : Seen) (drafts : List Draft) (order : List ℕ) (ranks : List (Option ℕ)) (model : List ℕ) (h : AreDrafted lines seen drafts) → AreRanked seen.inputs seen.outputs (gates lines) order ranks
     → drawn lines seen drafts order ranks model ≡ net_of model seen.inputs seen.outputs (in_order (gates lines) order)
 unfolding net_of
 drawn_is lines seen drafts order ranks model h p =
@@ -328,27 +379,27 @@ drawn_is lines seen drafts order ranks model h p =
     let new = i ++ outs (in_order cs order) in
     let ports : map (port_of seen ranks) seen.outputs ≡ map (λ o. place_of o new) seen.outputs =
     same_along (λ w. is_among w (i ++ outs cs) ≡ true) (port_of seen ranks) (λ o. place_of o new) seen.outputs
-    (λ w k. ap (λ (ws : List Word). renumbered (length i) ranks (place_of w (i ++ ws))) (sym (outs_are lines seen h.faultless)) ∙ renumber_same i cs order ranks w p.sound.driven_apart p.ranked p.all k) p.shown in
+    (λ w k. ap (λ (ws : List Word). renumbered (length i) ranks (place_of w (i ++ ws))) (sym (outs_are lines seen h.faultless)) ∙ renumber_same i cs order ranks w p.apart p.ranked p.all k) p.shown in
     let made : map (built_at lines seen.driven drafts (length i) ranks) order ≡ map (gate_in new) (in_order cs order) =
     same_along (λ g. g < length cs) (built_at lines seen.driven drafts (length i) ranks) (λ g. gate_in new (gate_at cs g)) order (λ g lt. gate_built lines seen drafts order ranks h p g lt) p.ranked.below
-    ∙ sym (gates_ordered new cs order) in
+    ∙ map_map (gate_in new) (gate_at cs) order in
     ap₂ (λ (ps : List ℕ) (gs : List Gate). network model i ps gs) ports made
 
 -- the network is valid, and what the text says
 pub drawn_valid : (lines : List WordLine) (seen : Seen) (drafts : List Draft) (order : List ℕ) (ranks : List (Option ℕ)) → AreDrafted lines seen drafts → IsPlan (length seen.inputs) drafts order ranks → position (λ o. is_none o) ranks ≡ None
     → (model : List ℕ) → is_name model ≡ true → IsValid (drawn lines seen drafts order ranks model)
 drawn_valid lines seen drafts order ranks h p e model m =
-    let placed = placed_are lines seen drafts order ranks h p e in
-    subst IsValid (sym (drawn_is lines seen drafts order ranks model h placed)) (is_valid h.faultless.limits model seen.inputs seen.outputs (gates lines) order ranks m placed)
+    let same : drawn lines seen drafts order ranks model ≡ net_of model seen.inputs seen.outputs (placed seen.inputs (gates lines)) =
+    drawn_is lines seen drafts order ranks model h (ranked_are lines seen drafts order ranks h p e) ∙ ap (λ (gs : List NamedGate). net_of model seen.inputs seen.outputs gs) (sym (lines_placed lines seen drafts order ranks h p)) in
+    let none = left_first lines seen drafts order ranks None h p (none_found lines seen drafts order ranks h p e) in
+    subst IsValid (sym same) (is_valid h.faultless.limits model seen.inputs seen.outputs seen.driven (placed seen.inputs (gates lines)) m (parts_are lines seen drafts h none))
 
 pub net_said : (lines : List WordLine) (seen : Seen) (drafts : List Draft) (order : List ℕ) (ranks : List (Option ℕ)) → AreDrafted lines seen drafts → IsPlan (length seen.inputs) drafts order ranks → position (λ o. is_none o) ranks ≡ None
     → placed_net lines seen ≡ Ok (drawn lines seen drafts order ranks (unwrap_or seen.model (codes "unnamed")))
 net_said lines seen drafts order ranks h p e =
-    let cs = gates lines in
-    let placed = placed_are lines seen drafts order ranks h p e in
-    let none = (none_left cs order ranks (gate_by lines) drafts (of_is lines seen drafts h).gates_are placed.sound.driven_apart placed.ranked e).0 in
-    left_said lines seen drafts order ranks None h p none ∙ ap (λ (m : Word). Ok (net_of m seen.inputs seen.outputs (in_order cs order))) (sym (model_is lines seen h.faultless))
-    ∙ ap (λ (net : Network). Ok net) (sym (drawn_is lines seen drafts order ranks (unwrap_or seen.model (codes "unnamed")) h placed))
+    let model = unwrap_or seen.model (codes "unnamed") in
+    left_said lines seen drafts order ranks None h p (none_found lines seen drafts order ranks h p e) ∙ ap (λ (m : Word). Ok (net_of m seen.inputs seen.outputs (in_order (gates lines) order))) (sym (model_is lines seen h.faultless))
+    ∙ ap (λ (net : Network). Ok net) (sym (drawn_is lines seen drafts order ranks model h (ranked_are lines seen drafts order ranks h p e)))
 
 -- ---- the answers
 
