@@ -154,15 +154,15 @@ is_valid limits model i o d gs m h =
     let port_of = λ (k : ℕ) (lt : k < length o). port_at i (outs gs) (get_or o k []) (h.sound.outputs_new k [] lt) (All-from_recursion (λ w. is_among w (outs gs) ≡ true) o h.shown k [] lt) in
     record {
       model_named = m;
-      inputs_named = All-weaker (λ w. is_name_under limits w ≡ true) (λ w. is_name w ≡ true) (name_under limits) i h.sound.inputs_named;
+      inputs_named = All-weaker (λ w. is_name_under limits w ≡ true) (λ w. is_name w ≡ true) (name_under limits) i h.sound.inputs.named;
       some_input = h.some_input;
-      few_inputs = omega (arith, h.sound.few_inputs, few);
+      few_inputs = omega (arith, h.sound.inputs.few, few);
       names = subst (λ (ws : List Word). IsDistinct (i ++ ws)) (sym (out_of_gates names gs))
-          (distinct_append i (outs gs) h.sound.inputs_apart h.placed.apart (list_any_none (λ w. is_among w i) (outs gs) (outs_each (λ w. is_among w i ≡ false) (IsFine limits i) (λ g f. f.1) gs h.placed.fine)));
+          (distinct_append i (outs gs) h.sound.inputs.apart h.placed.apart (list_any_none (λ w. is_among w i) (outs gs) (outs_each (λ w. is_among w i ≡ false) (IsFine limits i) (λ g f. f.1) gs h.placed.fine)));
       few_gates = omega (arith, size, h.few);
       gates = λ k gate at. let got = get_map (gate_in names) gs k blank gate at in subst (IsGate (length i + k)) (sym got.1) (gate_valid limits i gs k h.placed got.0);
       some_output = omega (arith, ports, h.some_output);
-      few_outputs = omega (arith, ports, h.sound.few_outputs, few);
+      few_outputs = omega (arith, ports, h.sound.outputs.few, few);
       ports = λ k d lt.
           let in' : k < length o = omega (arith, ports) in
           let e : get_or (map port o) k d ≡ port (get_or o k []) = get_or-map port o k [] d in' in
@@ -171,7 +171,7 @@ is_valid limits model i o d gs m h =
       other_ports = λ a b d lt in'.
           let in-b : b < length o = omega (arith, ports) in
           let in-a : a < length o = omega arith in
-          λ e. h.sound.outputs_apart a b [] lt in-b
+          λ e. h.sound.outputs.apart a b [] lt in-b
           (sym (port_of a in-a).2 ∙ ap (λ s. get_or names s []) (sym (get_or-map port o a [] d in-a) ∙ e ∙ get_or-map port o b [] d in-b) ∙ (port_of b in-b).2);
     }
 
@@ -181,7 +181,7 @@ within limits model i o d gs h =
     let names = i ++ outs gs in
     let Q : Word → Type 0 = λ w. is_name_under limits w ≡ true in
     record {
-      few_inputs = h.sound.few_inputs;
-      few_outputs = omega (arith, length-map o (λ w. place_of w names), h.sound.few_outputs);
-      named = subst (λ (ws : List Word). All Q (i ++ ws)) (sym (out_of_gates names gs)) (All-append Q i (outs gs) h.sound.inputs_named (outs_each Q (IsFine limits i) (λ g f. f.0.out) gs h.placed.fine));
+      few_inputs = h.sound.inputs.few;
+      few_outputs = omega (arith, length-map o (λ w. place_of w names), h.sound.outputs.few);
+      named = subst (λ (ws : List Word). All Q (i ++ ws)) (sym (out_of_gates names gs)) (All-append Q i (outs gs) h.sound.inputs.named (outs_each Q (IsFine limits i) (λ g f. f.0.out) gs h.placed.fine));
     }

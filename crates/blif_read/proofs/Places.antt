@@ -8,7 +8,8 @@ use Rattle.ae_base.proofs.Distinct.{each-append}
 use Rattle.ae_net.specs.Valid.{IsDistinct}
 use Rattle.ae_base.specs.Twins.{is_among}
 use Rattle.ae_net.specs.Named.{place_of}
-use Rattle.blif_read.proofs.WrittenNames.{bytes_apart, bytes_same, names_apart}
+use Rattle.ae_base.proofs.Apart.{bytes_apart}
+use Rattle.blif_read.proofs.WrittenNames.{bytes_same, names_apart}
 
 -- a name that is one of the list is the one at its place
 pub place_at : (w : List ℕ) (ws : List (List ℕ)) → is_among w ws ≡ true → (place_of w ws < length ws) × (get_or ws (place_of w ws) [] ≡ w)

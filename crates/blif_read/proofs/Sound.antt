@@ -26,7 +26,8 @@ use Rattle.blif_read.specs.Seen as spec
 use Rattle.blif_read.specs.Seen.{names_faults, faults_in, with_end, with_line}
 use Rattle.blif_read.specs.Says.{inputs_of, gates_of, outs, declared_faults, faults}
 use Rattle.blif_read.proofs.Steps.{headers, among_both, declared_more, faults_same, seen_push}
-use Rattle.blif_read.proofs.WrittenNames.{bytes_apart, bytes_same}
+use Rattle.ae_base.proofs.Apart.{bytes_apart}
+use Rattle.blif_read.proofs.WrittenNames.{bytes_same}
 use Rattle.blif_read.proofs.Words.{gate_is_name}
 
 -- ---- names in a list
@@ -51,68 +52,72 @@ first_none false f rest h = (refl, h)
 
 -- ---- what is sound
 
-pub record IsSound (limits : NetLimits) (inputs outputs driven : List (List ℕ)) : Type 0 where
-  pub inputs_named : All (λ w. is_name_under limits w ≡ true) inputs
-  pub driven_named : All (λ w. is_name_under limits w ≡ true) driven
-  pub few_inputs : length inputs ≤ most_lines limits
-  pub few_outputs : length outputs ≤ most_lines limits
-  pub few_gates : length driven ≤ GATES
-  pub inputs_apart : IsDistinct inputs
-  pub outputs_apart : IsDistinct outputs
-  pub driven_apart : IsDistinct driven
-  pub driven_new : All (λ w. is_among w inputs ≡ false) driven
-  pub outputs_new : All (λ w. is_among w inputs ≡ false) outputs
+-- at most so many names, all different
+pub record AreLabels (limits : NetLimits) (most : ℕ) (names : List Word) : Type 0 where
+  pub named : All (λ w. is_name_under limits w ≡ true) names
+  pub few : length names ≤ most
+  pub apart : IsDistinct names
 
-input_sound : (limits : NetLimits) (i o d : List (List ℕ)) (w : List ℕ) → IsSound limits i o d → first_of (declared_faults limits fault.TooManyInputs o d i (w ∷ [])) ≡ None → IsSound limits (i ++ w ∷ []) o d
-input_sound limits i o d w s h =
+no_labels : (limits : NetLimits) (most : ℕ) → AreLabels limits most []
+no_labels limits most = record { named = λ k d lt. absurd (omega arith); few = omega arith; apart = λ i j d lt in'. absurd (omega arith) }
+
+one_label : (limits : NetLimits) (most : ℕ) (names : List Word) (w : Word) → AreLabels limits most names → is_name_under limits w ≡ true → is_among w names ≡ false → leb most (length names) ≡ false → AreLabels limits most (names ++ w ∷ [])
+one_label limits most names w h named fresh room = record {
+  named = All-push (λ v. is_name_under limits v ≡ true) names w h.named named;
+  few = omega (arith, leb-false most (length names) room, length-append names (w ∷ []));
+  apart = distinct_push names w h.apart fresh;
+}
+
+pub record IsSound (limits : NetLimits) (i o d : List Word) : Type 0 where
+  pub inputs : AreLabels limits (most_lines limits) i
+  pub outputs : AreLabels limits (most_lines limits) o
+  pub driven : AreLabels limits GATES d
+  pub driven_new : All (λ w. is_among w i ≡ false) d
+  pub outputs_new : All (λ w. is_among w i ≡ false) o
+
+-- a name that is declared without a fault
+record IsDeclared (limits : NetLimits) (others gates before : List Word) (w : Word) : Type 0 where
+  named : is_name_under limits w ≡ true
+  fresh : is_among w before ≡ false
+  other : is_among w others ≡ false
+  free : is_among w gates ≡ false
+  room : leb (most_lines limits) (length before) ≡ false
+
+declared_one : (limits : NetLimits) (many : BlifFault) (others gates before : List Word) (w : Word) → first_of (declared_faults limits many others gates before (w ∷ [])) ≡ None → IsDeclared limits others gates before w
+declared_one limits many others gates before w h =
     let a = first_none (not (is_name_under limits w)) _ _ h in
-    let b = first_none (is_among w i) _ _ a.1 in
-    let c = first_none (is_among w o) _ _ b.1 in
-    let e = first_none (is_among w d) _ _ c.1 in
-    let f = first_none _ _ _ e.1 in
-    record {
-      inputs_named = All-push (λ v. is_name_under limits v ≡ true) i w s.inputs_named (not-false _ a.0);
-      driven_named = s.driven_named;
-      few_inputs = omega (arith, leb-false (most_lines limits) (length i) f.0, length-append i (w ∷ []));
-      few_outputs = s.few_outputs;
-      few_gates = s.few_gates;
-      inputs_apart = distinct_push i w s.inputs_apart b.0;
-      outputs_apart = s.outputs_apart;
-      driven_apart = s.driven_apart;
-      driven_new = still_new w i d e.0 s.driven_new;
-      outputs_new = still_new w i o c.0 s.outputs_new;
-    }
+    let b = first_none (is_among w before) _ _ a.1 in
+    let c = first_none (is_among w others) _ _ b.1 in
+    let e = first_none (is_among w gates) _ _ c.1 in
+    record { named = not-false _ a.0; fresh = b.0; other = c.0; free = e.0; room = (first_none _ _ _ e.1).0 }
 
-inputs_sound : (limits : NetLimits) (i o d ws : List (List ℕ)) → IsSound limits i o d → first_of (declared_faults limits fault.TooManyInputs o d i ws) ≡ None → IsSound limits (i ++ ws) o d
-inputs_sound limits i o d [] s h = subst (λ (xs : List (List ℕ)). IsSound limits xs o d) (sym (append-nil i)) s
+inputs_sound : (limits : NetLimits) (i o d ws : List Word) → IsSound limits i o d → first_of (declared_faults limits fault.TooManyInputs o d i ws) ≡ None → IsSound limits (i ++ ws) o d
+inputs_sound limits i o d [] s h = subst (λ (xs : List Word). IsSound limits xs o d) (sym (append-nil i)) s
 inputs_sound limits i o d (w ∷ ws) s h =
     let p = or_none _ _ (sym (declared_more limits fault.TooManyInputs o d i w ws) ∙ h) in
-    subst (λ (xs : List (List ℕ)). IsSound limits xs o d) (append_assoc i (w ∷ []) ws) (inputs_sound limits (i ++ w ∷ []) o d ws (input_sound limits i o d w s p.0) p.1)
+    let one = declared_one limits fault.TooManyInputs o d i w p.0 in
+    let next : IsSound limits (i ++ w ∷ []) o d = record {
+      inputs = one_label limits (most_lines limits) i w s.inputs one.named one.fresh one.room;
+      outputs = s.outputs;
+      driven = s.driven;
+      driven_new = still_new w i d one.free s.driven_new;
+      outputs_new = still_new w i o one.other s.outputs_new;
+    } in
+    subst (λ (xs : List Word). IsSound limits xs o d) (append_assoc i (w ∷ []) ws) (inputs_sound limits (i ++ w ∷ []) o d ws next p.1)
 
-output_sound : (limits : NetLimits) (i o d : List (List ℕ)) (w : List ℕ) → IsSound limits i o d → first_of (declared_faults limits fault.TooManyOutputs i [] o (w ∷ [])) ≡ None → IsSound limits i (o ++ w ∷ []) d
-output_sound limits i o d w s h =
-    let a = first_none (not (is_name_under limits w)) _ _ h in
-    let b = first_none (is_among w o) _ _ a.1 in
-    let c = first_none (is_among w i) _ _ b.1 in
-    let f = first_none _ _ _ c.1 in
-    record {
-      inputs_named = s.inputs_named;
-      driven_named = s.driven_named;
-      few_inputs = s.few_inputs;
-      few_outputs = omega (arith, leb-false (most_lines limits) (length o) f.0, length-append o (w ∷ []));
-      few_gates = s.few_gates;
-      inputs_apart = s.inputs_apart;
-      outputs_apart = distinct_push o w s.outputs_apart b.0;
-      driven_apart = s.driven_apart;
-      driven_new = s.driven_new;
-      outputs_new = All-push (λ v. is_among v i ≡ false) o w s.outputs_new c.0;
-    }
-
-outputs_sound : (limits : NetLimits) (i o d ws : List (List ℕ)) → IsSound limits i o d → first_of (declared_faults limits fault.TooManyOutputs i [] o ws) ≡ None → IsSound limits i (o ++ ws) d
-outputs_sound limits i o d [] s h = subst (λ (xs : List (List ℕ)). IsSound limits i xs d) (sym (append-nil o)) s
+outputs_sound : (limits : NetLimits) (i o d ws : List Word) → IsSound limits i o d → first_of (declared_faults limits fault.TooManyOutputs i [] o ws) ≡ None → IsSound limits i (o ++ ws) d
+outputs_sound limits i o d [] s h = subst (λ (xs : List Word). IsSound limits i xs d) (sym (append-nil o)) s
 outputs_sound limits i o d (w ∷ ws) s h =
     let p = or_none _ _ (sym (declared_more limits fault.TooManyOutputs i [] o w ws) ∙ h) in
-    subst (λ (xs : List (List ℕ)). IsSound limits i xs d) (append_assoc o (w ∷ []) ws) (outputs_sound limits i (o ++ w ∷ []) d ws (output_sound limits i o d w s p.0) p.1)
+    let one = declared_one limits fault.TooManyOutputs i [] o w p.0 in
+    let next : IsSound limits i (o ++ w ∷ []) d = record {
+      inputs = s.inputs;
+      outputs = one_label limits (most_lines limits) o w s.outputs one.named one.fresh one.room;
+      driven = s.driven;
+      driven_new = s.driven_new;
+      outputs_new = All-push (λ v. is_among v i ≡ false) o w s.outputs_new one.other;
+    } in
+    subst (λ (xs : List Word). IsSound limits i xs d) (append_assoc o (w ∷ []) ws) (outputs_sound limits i (o ++ w ∷ []) d ws next p.1)
 
 -- of `.names` without a fault: it has a word, all are names, and it has not too many pins
 pub record AreGateWords (limits : NetLimits) (ws : List (List ℕ)) : Type 0 where
@@ -155,24 +160,18 @@ model_at limits done ws h = not-false _ (or_parts (ltb 1 (length ws)) _ (first_n
 pub model_none : (limits : NetLimits) (done : List (List Word)) (line : List Word) → heads (codes ".model") line ≡ true → first_of (faults limits done line) ≡ None → list_all (is_name_under limits) (drop 1 line) ≡ true
 model_none limits done line e h = model_at limits done (drop 1 line) (ap (λ (l : List Word). first_of (faults limits done l)) (headed (codes ".model") line refl e) ∙ h)
 
-gate_sound : (limits : NetLimits) (i o d ws : List (List ℕ)) → IsSound limits i o d → first_of (names_faults limits i d ws) ≡ None → IsSound limits i o (d ++ gate_name ws ∷ [])
+gate_sound : (limits : NetLimits) (i o d ws : List Word) → IsSound limits i o d → first_of (names_faults limits i d ws) ≡ None → IsSound limits i o (d ++ gate_name ws ∷ [])
 gate_sound limits i o d ws s h =
     let a = first_none (eqb (length ws) 0 || not (list_all (is_name_under limits) ws)) _ _ h in
     let b = first_none (ltb PINS (length ws - 1)) _ _ a.1 in
     let c = first_none (leb GATES (length d)) _ _ b.1 in
     let e = first_none (is_among (gate_name ws) (i ++ d)) _ _ c.1 in
     let q = or_parts _ _ (sym (among_both (gate_name ws) i d) ∙ e.0) in
-    let w = gate_name ws in
     record {
-      inputs_named = s.inputs_named;
-      driven_named = All-push (λ v. is_name_under limits v ≡ true) d w s.driven_named (gate_words limits i d ws h).out;
-      few_inputs = s.few_inputs;
-      few_outputs = s.few_outputs;
-      few_gates = omega (arith, leb-false GATES (length d) c.0, length-append d (w ∷ []));
-      inputs_apart = s.inputs_apart;
-      outputs_apart = s.outputs_apart;
-      driven_apart = distinct_push d w s.driven_apart q.1;
-      driven_new = All-push (λ v. is_among v i ≡ false) d w s.driven_new q.0;
+      inputs = s.inputs;
+      outputs = s.outputs;
+      driven = one_label limits GATES d (gate_name ws) s.driven (gate_words limits i d ws h).out q.1 c.0;
+      driven_new = All-push (λ v. is_among v i ≡ false) d (gate_name ws) s.driven_new q.0;
       outputs_new = s.outputs_new;
     }
 
@@ -220,19 +219,7 @@ sound_rest limits done (line ∷ lines) h f =
 
 sound_start : (limits : NetLimits) → SeenIsSound limits (spec.seen [])
 unfolding spec.seen gates_of
-sound_start limits =
-    record {
-      inputs_named = λ k d lt. absurd (omega arith);
-      driven_named = λ k d lt. absurd (omega arith);
-      few_inputs = omega arith;
-      few_outputs = omega arith;
-      few_gates = omega arith;
-      inputs_apart = λ i j d lt in'. absurd (omega arith);
-      outputs_apart = λ i j d lt in'. absurd (omega arith);
-      driven_apart = λ i j d lt in'. absurd (omega arith);
-      driven_new = λ k d lt. absurd (omega arith);
-      outputs_new = λ k d lt. absurd (omega arith);
-    }
+sound_start limits = record { inputs = no_labels limits (most_lines limits); outputs = no_labels limits (most_lines limits); driven = no_labels limits GATES; driven_new = λ k d lt. absurd (omega arith); outputs_new = λ k d lt. absurd (omega arith) }
 
 pub sound_all : (limits : NetLimits) (lines : List WordLine) → first_fault (faults limits) [] lines ≡ None → SeenIsSound limits (spec.seen (words_of lines))
 sound_all limits lines f = sound_rest limits [] lines (sound_start limits) f

@@ -122,12 +122,12 @@ signals_are lines seen f =
     let s = sound_is lines seen f in
     let is : (w : List ℕ) → is_name_under f.limits w ≡ true → is_name w ≡ true = name_under f.limits in
     record {
-      named = All-append (λ w. is_name w ≡ true) seen.inputs seen.driven (All-weaker (λ w. is_name_under f.limits w ≡ true) (λ w. is_name w ≡ true) is seen.inputs s.inputs_named) (All-weaker (λ w. is_name_under f.limits w ≡ true) (λ w. is_name w ≡ true) is seen.driven s.driven_named);
-      few = omega (arith, length-append seen.inputs seen.driven, s.few_inputs, s.few_gates, few_lines f.limits);
+      named = All-append (λ w. is_name w ≡ true) seen.inputs seen.driven (All-weaker (λ w. is_name_under f.limits w ≡ true) (λ w. is_name w ≡ true) is seen.inputs s.inputs.named) (All-weaker (λ w. is_name_under f.limits w ≡ true) (λ w. is_name w ≡ true) is seen.driven s.driven.named);
+      few = omega (arith, length-append seen.inputs seen.driven, s.inputs.few, s.driven.few, few_lines f.limits);
     }
 
 apart : (lines : List WordLine) (seen : Seen) → AreFaultless lines seen → IsDistinct (outs (gates lines))
-apart lines seen f = subst (λ (ws : List Word). IsDistinct ws) (sym (outs_are lines seen f)) (sound_is lines seen f).driven_apart
+apart lines seen f = subst (λ (ws : List Word). IsDistinct ws) (sym (outs_are lines seen f)) (sound_is lines seen f).driven.apart
 
 -- ---- drafts, gates and needs
 
@@ -183,7 +183,7 @@ needs_fit lines seen drafts needs h e =
     let total : length (outs cs) ≡ length cs = length-map cs (λ (c : NamedGate). c.out) in
     let same : length (outs cs) ≡ length needs = total ∙ sym size in
     let both = needs_bound h.faultless.limits seen.inputs (outs cs) cs (known_are lines seen drafts h) (fit_are lines seen h.faultless) in (
-      omega (arith, size, (size_is lines seen drafts h).1, (sound_is lines seen h.faultless).few_gates),
+      omega (arith, size, (size_is lines seen drafts h).1, (sound_is lines seen h.faultless).driven.few),
       subst (λ (ns : List (List ℕ)). All (λ need. length need < 2 ^ 32) ns) (sym is) (All-from_recursion (λ need. length need < 2 ^ 32) (needs_of seen.inputs cs) both.0),
       subst (λ m. All (λ need. All (λ d. d < m) need) needs) same (subst (λ (ns : List (List ℕ)). All (λ need. All (λ d. d < length (outs cs)) need) ns) (sym is) (All-from_recursion (λ need. All (λ d. d < length (outs cs)) need) (needs_of seen.inputs cs) both.1)),
     )
@@ -212,7 +212,7 @@ order_within lines seen drafts order h e =
     let needs = map (λ d. gates_among (length seen.inputs) d.pins) drafts in
     let size : length needs ≡ length drafts = length-map drafts (λ d. gates_among (length seen.inputs) d.pins) in
     let sizes = size_is lines seen drafts h in (
-      omega (arith, ap length e, order_short needs (length needs) [], size, sizes.0, sizes.1, (sound_is lines seen h.faultless).few_gates),
+      omega (arith, ap length e, order_short needs (length needs) [], size, sizes.0, sizes.1, (sound_is lines seen h.faultless).driven.few),
       subst (λ n. All (λ g. g < n) order) size (subst (λ (os : List ℕ). All (λ g. g < length needs) os) (sym e) (All-from_recursion (λ g. g < length needs) (by_place.order_of needs) (order_below needs (length needs) [] tt))),
     )
 
@@ -306,7 +306,7 @@ parts_are lines seen drafts h none =
     record {
       sound = sound;
       placed = are.0;
-      few = omega (arith, are.1, (size_is lines seen drafts h).1, sound.few_gates);
+      few = omega (arith, are.1, (size_is lines seen drafts h).1, sound.driven.few);
       shown = recursion_from_All (λ w. is_among w (outs (placed i cs)) ≡ true) seen.outputs (λ k d lt.
           let w = get_or seen.outputs k d in
           let in' : is_among w (i ++ seen.driven) ≡ true = All-from_recursion (λ v. is_among v (i ++ seen.driven) ≡ true) seen.outputs known k d lt in
