@@ -25,7 +25,7 @@ use Rattle.blif_read.specs.Says.{model_of, faults, blif_says}
 use Rattle.blif_read.specs.Seen as spec
 use Rattle.blif_read.proofs.Models.{model_named}
 use Rattle.blif_read.proofs.Network.{is_valid, within}
-use Rattle.blif_read.proofs.Sound.{first_none}
+use Rattle.blif_read.proofs.Steps.{first_none}
 use Rattle.blif_read.proofs.Whole.{gates, lines_say_is, placed_said, parts_are}
 
 -- ---- an answer that is a network

@@ -1,7 +1,7 @@
 -- What is true of what lines without a fault say.
-use Rattle.std.proofs.Common.{◌≡◌, ◌≢◌, ℕ, ◌-◌, ◌<◌, ◌≤◌, Bool, true, false, not, cond, eqb, ltb, leb, ◌||◌, List, [], ◌∷◌, ◌++◌, length, get_or, drop, codes, Option, Some, None, All, refl, sym, ap, subst, ◌∙◌, arith, length-append, append_assoc, append-nil}
-use Rattle.std.specs.Prelude.{bytes_eq, option_map}
-use Rattle.std.specs.List.{list_any, list_all, concat, AllByRecursion}
+use Rattle.std.proofs.Common.{◌≡◌, ◌≢◌, ℕ, ◌-◌, ◌<◌, ◌≤◌, true, false, not, eqb, ltb, leb, ◌||◌, List, [], ◌∷◌, ◌++◌, length, get_or, drop, codes, Option, Some, None, All, refl, sym, ap, subst, ◌∙◌, arith, length-append, append_assoc, append-nil}
+use Rattle.std.specs.Prelude.{bytes_eq}
+use Rattle.std.specs.List.{list_any, list_all, AllByRecursion}
 use Rattle.std.specs.Option.{option_or}
 use Rattle.std.proofs.lemmas.Bool.{both_ways, or_from, or_parts, not-false, leb-false, ltb-false, eqb-false}
 use Rattle.std.proofs.lemmas.List.Elements.{All-push}
@@ -12,7 +12,7 @@ use Rattle.ae_base.specs.declared.limits.TheConstants.{PINS, GATES}
 use Rattle.ae_base.proofs.Results.{or_none}
 use Rattle.ae_base.proofs.Heads.{by_heads}
 use Rattle.ae_lex.specs.First.{first_of, first_fault, at_line}
-use Rattle.ae_lex.specs.Heads.{Word, heads, is_row}
+use Rattle.ae_lex.specs.Heads.{Word, heads}
 use Rattle.ae_lex.specs.Reads.{words_of}
 use Rattle.ae_lex.specs.Words.{WordLine}
 use Rattle.ae_net.specs.Valid.{IsDistinct}
@@ -25,7 +25,7 @@ use Rattle.blif_read.specs.declared.fault.BlifFault.TheVariants as fault
 use Rattle.blif_read.specs.Seen as spec
 use Rattle.blif_read.specs.Seen.{names_faults, faults_in, with_end, with_line}
 use Rattle.blif_read.specs.Says.{inputs_of, gates_of, outs, declared_faults, faults}
-use Rattle.blif_read.proofs.Steps.{headers, among_both, declared_more, faults_same, seen_push}
+use Rattle.blif_read.proofs.Steps.{headers, first_none, among_both, declared_more, faults_same, seen_push}
 use Rattle.ae_base.proofs.Apart.{bytes_apart}
 use Rattle.blif_read.proofs.WrittenNames.{bytes_same}
 use Rattle.blif_read.proofs.Words.{gate_is_name}
@@ -43,12 +43,6 @@ still_new : (w : List ℕ) (i vs : List (List ℕ)) → is_among w vs ≡ false 
 still_new w i vs f h = λ k d lt.
     let v = get_or vs k d in
     list_any-append (bytes_eq v) i (w ∷ []) ∙ or_from (is_among v i) (bytes_eq v w || false) (h k d lt) (or_from (bytes_eq v w) false (bytes_apart v w (apart_at w vs k d f lt)) refl)
-
--- ---- faults
-
-pub first_none : {X : Type 0} (b : Bool) (f : X) (rest : Option X) → cond b (Some f) rest ≡ None → (b ≡ false) × (rest ≡ None)
-first_none true f rest h = absurd cc
-first_none false f rest h = (refl, h)
 
 -- ---- what is sound
 
@@ -183,11 +177,7 @@ Steps limits line = (seen : Seen) → SeenIsSound limits seen → first_of (faul
 
 sound_other : (limits : NetLimits) (line : List Word) → AllByRecursion (λ h. heads h line ≡ false) headers → Steps limits line
 unfolding with_line
-sound_other limits line (m, (i, (o, (n, (e, u))))) seen s h = rw (m, i, o, n, e) (pick (is_row line))
-  where
-    pick : (row : Bool) → SeenIsSound limits (cond row (record seen { cover = option_map (with_end (concat line)) seen.cover }) (record seen { cover = None }))
-    pick true = s
-    pick false = s
+sound_other limits line (m, (i, (o, (n, (e, u))))) seen s h = rw (i, o, n) s
 
 sound_step : (limits : NetLimits) (line : List Word) → Steps limits line
 unfolding faults_in with_line

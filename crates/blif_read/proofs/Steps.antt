@@ -1,16 +1,16 @@
 -- What lines say with one more line.
-use Rattle.std.proofs.Common.{◌≡◌, ℕ, ◌+◌, ◌-◌, ◌<◌, Bool, true, false, not, cond, ◌||◌, List, [], ◌∷◌, ◌++◌, length, get_or, map, take, drop, codes, Option, Some, None, Result, Ok, Err, refl, sym, ap, ◌∙◌, append-nil, append_assoc}
-use Rattle.std.specs.Prelude.{bytes_eq, filter, fold, slice_get, option_map, unwrap_or}
+use Rattle.std.proofs.Common.{◌≡◌, ℕ, ◌+◌, ◌-◌, ◌<◌, Bool, true, false, not, cond, ◌||◌, List, [], ◌∷◌, ◌++◌, length, get_or, map, take, drop, codes, inl, inr, Option, Some, None, Result, Ok, Err, refl, sym, ap, ◌∙◌, append-nil, append_assoc}
+use Rattle.std.specs.Prelude.{bytes_eq, filter, fold, slice_get, slice_index, option_map, unwrap_or}
 use Rattle.std.specs.Borrow.{Bor}
 use Rattle.std.specs.List.{list_any, flat_map, concat, AllByRecursion}
 use Rattle.std.specs.Option.{option_or}
-use Rattle.std.proofs.lemmas.Bool.{or_parts}
+use Rattle.std.proofs.lemmas.Bool.{cases_Bool, both_ways, eq-eqb, or_parts}
+use Rattle.std.proofs.lemmas.Slice.Eq.{bytes_eq-Decides}
 use Rattle.std.proofs.lemmas.List.{drop_more, map_more}
 use Rattle.std.proofs.lemmas.List.Concat.{flat_map-append}
 use Rattle.std.proofs.lemmas.List.Elements.{filter-append}
 use Rattle.std.proofs.lemmas.List.Folds.{list_any-append}
 use Rattle.ae_base.proofs.Heads.{by_heads}
-use Rattle.ae_base.proofs.Truth.{or-false}
 use Rattle.ae_base.specs.Twins.{is_among}
 use Rattle.ae_lex.specs.First.{first_of}
 use Rattle.ae_lex.specs.Heads.{Word, word, heads, is_row}
@@ -26,6 +26,10 @@ use Rattle.blif_read.specs.declared.seen.Seen.{Seen}
 use Rattle.blif_read.specs.Says.{inputs_of, outputs_of, gates_of, gate_of, outs, last_cover, declared_faults, row_faults, faults}
 use Rattle.blif_read.specs.Seen.{open_cover, seen, row_faults_in, faults_in, with_end, with_line}
 use Rattle.blif_read.specs.Words.{gate_name, row_end, unsupported}
+
+pub first_none : {X : Type 0} (b : Bool) (f : X) (rest : Option X) → cond b (Some f) rest ≡ None → (b ≡ false) × (rest ≡ None)
+first_none true f rest h = absurd cc
+first_none false f rest h = (refl, h)
 
 pub among_both : (w : Word) (xs ys : List Word) → is_among w (xs ++ ys) ≡ (is_among w xs || is_among w ys)
 among_both w xs ys = list_any-append (bytes_eq w) xs ys
@@ -103,18 +107,44 @@ pub cover_more : (cover before : List (List Word)) (line : List Word) → fold o
 cover_more cover [] line = refl
 cover_more cover (l ∷ before) line = cover_more (onto cover l) before line
 
+-- a row begins with none of the words of statements
+pub no_heads : (h : Word) (line : List Word) → is_row line ≡ true → slice_index h 0 ≡ 46 → heads h line ≡ false
+no_heads h line row dot = elim (cases_Bool (heads h line)) [
+  | inl t ↦ absurd (both_ways (is_row line) (ap not (eq-eqb _ 46 (ap (λ (w : Word). slice_index w 0) ((bytes_eq-Decides (word line 0) h).0 t) ∙ dot))) row)
+  | inr f ↦ f
+]
+
 row_onto : (cover : List (List Word)) (line : List Word) → heads (codes ".names") line ≡ false → open_cover (cover ++ line ∷ []) ≡ option_map (with_end (concat line)) (open_cover cover)
 row_onto [] line h = rw h refl
-row_onto (names ∷ []) line h = pick (heads (codes ".names") names)
+row_onto (names ∷ rows) line h = pick (heads (codes ".names") names) rows
   where
-    pick : (b : Bool) → cond b (Some (record { pins = length (drop 1 names) - 1; end_char = Some (row_end (concat line)) })) None ≡ option_map (with_end (concat line)) (cond b (Some (record { pins = length (drop 1 names) - 1; end_char = None })) None)
-    pick true = refl
-    pick false = refl
-row_onto (names ∷ row ∷ rows) line h = pick (heads (codes ".names") names)
+    with_rows : Bool → List (List Word) → Option OpenCover
+    with_rows b rows = cond b (Some (record { pins = length (drop 1 names) - 1; end_char = option_map row_end (slice_get (map concat rows) 0) })) None
+
+    pick : (b : Bool) (rows : List (List Word)) → with_rows b (rows ++ line ∷ []) ≡ option_map (with_end (concat line)) (with_rows b rows)
+    pick true [] = refl
+    pick true (row ∷ rows) = refl
+    pick false rows = refl
+
+cover_is : (before : List (List Word)) (line : List Word) → open_cover (last_cover (before ++ line ∷ [])) ≡ cond (is_row line) (option_map (with_end (concat line)) (open_cover (last_cover before))) (open_cover (line ∷ []))
+cover_is before line = ap open_cover (cover_more [] before line) ∙ pick (is_row line) (λ row. no_heads (codes ".names") line row refl)
   where
-    pick : (b : Bool) → cond b (Some (record { pins = length (drop 1 names) - 1; end_char = Some (row_end (concat row)) })) None ≡ option_map (with_end (concat line)) (cond b (Some (record { pins = length (drop 1 names) - 1; end_char = Some (row_end (concat row)) })) None)
-    pick true = refl
-    pick false = refl
+    pick : (b : Bool) → (b ≡ true → heads (codes ".names") line ≡ false) → open_cover (cond b (last_cover before ++ line ∷ []) (line ∷ [])) ≡ cond b (option_map (with_end (concat line)) (open_cover (last_cover before))) (open_cover (line ∷ []))
+    pick true row = row_onto (last_cover before) line (row refl)
+    pick false row = refl
+
+any_more : (h : Word) (before : List (List Word)) (line : List Word) → list_any (heads h) (before ++ line ∷ []) ≡ (heads h line || list_any (heads h) before)
+any_more h [] line = refl
+any_more h (l ∷ before) line = ap (λ (b : Bool). heads h l || b) (any_more h before line) ∙ turn (heads h l) (heads h line) (list_any (heads h) before)
+  where
+    turn : (a b c : Bool) → (a || (b || c)) ≡ (b || (a || c))
+    turn true true c = refl
+    turn true false c = refl
+    turn false b c = refl
+
+put : (b : Bool) (xs ys : List Word) → xs ++ cond b ys [] ≡ cond b (xs ++ ys) xs
+put true xs ys = refl
+put false xs ys = append-nil xs
 
 -- the words of a `.model` stand in a line that is one
 no_words : (lines : List (List Word)) → list_any (heads (codes ".model")) lines ≡ false → flat_map (drop 1) (filter (heads (codes ".model")) lines) ≡ []
@@ -124,67 +154,35 @@ no_words (line ∷ lines) h = let p = or_parts (heads (codes ".model") line) (li
 abbrev pub headers : List Word
 headers = codes ".model" ∷ codes ".inputs" ∷ codes ".outputs" ∷ codes ".names" ∷ codes ".end" ∷ []
 
-abbrev parts : Bool → Bool → List Word → List Word → List Word → List Word → Option OpenCover → Seen
-parts e m ms i o d c = record { ended = e; has_model = m; model = slice_get ms 0; inputs = i; outputs = o; driven = d; cover = c }
+-- no `.model` stands before one without a fault
+first_model : (limits : NetLimits) (before : List (List Word)) (line : List Word) → heads (codes ".model") line ≡ true → first_of (faults_in limits (seen before) line) ≡ None → list_any (heads (codes ".model")) before ≡ false
+unfolding faults_in seen
+first_model limits before line e h = (or_parts (list_any (heads (codes ".end")) before) _ (first_none _ _ _ (rw e at h)).0).1
 
-abbrev more : Bool → Bool → List Word → List Word → List Word → List Word → List (List Word) → List Word → Seen
-more e m ms i o d cover line =
-    parts (e || (heads (codes ".end") line || false)) (m || (heads (codes ".model") line || false)) (ms ++ cond (heads (codes ".model") line) (drop 1 line) []) (i ++ cond (heads (codes ".inputs") line) (drop 1 line) [])
-    (o ++ cond (heads (codes ".outputs") line) (drop 1 line) []) (d ++ driven_by line) (open_cover (onto cover line))
-
--- what is claimed of one more line
-abbrev Steps : List Word → Type 0
-Steps line = (limits : NetLimits) (e m : Bool) (ms i o d : List Word) (cover : List (List Word)) → (m ≡ false → ms ≡ []) → first_of (faults_in limits (parts e m ms i o d (open_cover cover)) line) ≡ None
-    → more e m ms i o d cover line ≡ with_line (parts e m ms i o d (open_cover cover)) line
-
-step_model : (ws : List Word) → Steps (codes ".model" ∷ ws)
-unfolding faults_in with_line
-step_model ws limits true m ms i o d cover n h = absurd cc
-step_model ws limits false true ms i o d cover n h = absurd cc
-step_model ws limits false false ms i o d cover n h = rw (n refl, append-nil i, append-nil o, append-nil d) refl
-
-step_end : (ws : List Word) → Steps (codes ".end" ∷ ws)
-unfolding with_line
-step_end ws limits true m ms i o d cover n h = rw (or-false m, append-nil ms, append-nil i, append-nil o, append-nil d) refl
-step_end ws limits false m ms i o d cover n h = rw (or-false m, append-nil ms, append-nil i, append-nil o, append-nil d) refl
-
-step_other : (line : List Word) → AllByRecursion (λ h. heads h line ≡ false) headers → Steps line
-unfolding with_line
-step_other line (a, (b, (c, (f, (g, u))))) limits e m ms i o d cover n h = rw (a, b, c, f, g, or-false e, or-false m, append-nil ms, append-nil i, append-nil o, append-nil d) (pick (is_row line))
+model_more : (before : List (List Word)) (line : List Word) → (heads (codes ".model") line ≡ true → list_any (heads (codes ".model")) before ≡ false)
+    → let models = λ (ls : List (List Word)). slice_get (flat_map (drop 1) (filter (heads (codes ".model")) ls)) 0 in models (before ++ line ∷ []) ≡ cond (heads (codes ".model") line) (slice_get (drop 1 line) 0) (models before)
+model_more before line first = ap (λ (ws : List Word). slice_get ws 0) (words_more (codes ".model") before line) ∙ pick (heads (codes ".model") line) first
   where
-    pick : (row : Bool) → parts e m ms i o d (open_cover (cond row (cover ++ line ∷ []) (line ∷ [])))
-        ≡ cond row (record (parts e m ms i o d (open_cover cover)) { cover = option_map (with_end (concat line)) (open_cover cover) }) (record (parts e m ms i o d (open_cover cover)) { cover = None })
-    pick true = ap (parts e m ms i o d) (row_onto cover line f)
-    pick false = rw f refl
+    had : List Word
+    had = flat_map (drop 1) (filter (heads (codes ".model")) before)
 
-step : (line : List Word) → Steps line
-unfolding with_line
-step line =
-    by_heads Steps headers refl (
-      step_model,
-      (
-        λ ws limits e m ms i o d cover n h. rw (or-false e, or-false m, append-nil ms, append-nil o, append-nil d) refl,
-        (
-          λ ws limits e m ms i o d cover n h. rw (or-false e, or-false m, append-nil ms, append-nil i, append-nil d) refl,
-          (λ ws limits e m ms i o d cover n h. rw (or-false e, or-false m, append-nil ms, append-nil i, append-nil o) refl, (step_end, tt)),
-        ),
-      ),
-    )
-    step_other line
+    pick : (b : Bool) → (b ≡ true → list_any (heads (codes ".model")) before ≡ false) → slice_get (had ++ cond b (drop 1 line) []) 0 ≡ cond b (slice_get (drop 1 line) 0) (slice_get had 0)
+    pick true first = ap (λ (ws : List Word). slice_get (ws ++ drop 1 line) 0) (no_words before (first refl))
+    pick false first = ap (λ (ws : List Word). slice_get ws 0) (append-nil had)
 
 pub seen_push : (limits : NetLimits) (before : List (List Word)) (line : List Word) → first_of (faults_in limits (seen before) line) ≡ None → seen (before ++ line ∷ []) ≡ with_line (seen before) line
-unfolding seen
+unfolding seen with_line
 seen_push limits before line h =
     rw (
-      list_any-append (heads (codes ".end")) before (line ∷ []),
-      list_any-append (heads (codes ".model")) before (line ∷ []),
-      words_more (codes ".model") before line,
-      words_more (codes ".inputs") before line,
-      words_more (codes ".outputs") before line,
-      driven_more before line,
-      cover_more [] before line,
+      any_more (codes ".end") before line,
+      any_more (codes ".model") before line,
+      model_more before line (λ e. first_model limits before line e h),
+      words_more (codes ".inputs") before line ∙ put (heads (codes ".inputs") line) (inputs_of before) (drop 1 line),
+      words_more (codes ".outputs") before line ∙ put (heads (codes ".outputs") line) (outputs_of before) (drop 1 line),
+      driven_more before line ∙ put (heads (codes ".names") line) (outs (gates_of before)) (gate_name (drop 1 line) ∷ []),
+      cover_is before line,
     )
-    (step line limits (list_any (heads (codes ".end")) before) (list_any (heads (codes ".model")) before) (flat_map (drop 1) (filter (heads (codes ".model")) before)) (inputs_of before) (outputs_of before) (outs (gates_of before)) (last_cover before) (no_words before) h)
+    refl
 
 -- ---- its faults
 

@@ -1,15 +1,14 @@
 -- Lines of which none is faulty, and what they say together.
-use Rattle.std.proofs.Common.{◌≡◌, ℕ, suc, ◌+◌, ◌-◌, ◌<◌, ◌≤◌, Bool, true, false, not, cond, ◌&&◌, eqb, leb, ltb, Option, None, Ok, List, [], ◌∷◌, ◌++◌, length, map, get_or, take, drop, codes, inl, inr, refl, sym, ap, ap₂, subst, ◌∙◌, arith}
+use Rattle.std.proofs.Common.{◌≡◌, ℕ, suc, ◌+◌, ◌-◌, ◌<◌, ◌≤◌, Bool, true, false, cond, ◌&&◌, eqb, leb, ltb, Option, None, Ok, List, [], ◌∷◌, ◌++◌, length, map, get_or, take, drop, codes, refl, sym, ap, ap₂, subst, ◌∙◌, arith}
 use Rattle.std.specs.Prelude.{slice_index}
 use Rattle.std.specs.List.{concat, list_any, list_all, AllByRecursion}
 use Rattle.std.specs.Option.{option_or}
-use Rattle.std.proofs.lemmas.Bool.{cases_Bool, both_ways, or_from, or_parts, and_from, le-ltb, lt-leb, ne_eqb, eq-eqb}
+use Rattle.std.proofs.lemmas.Bool.{or_from, or_parts, and_from, le-ltb, lt-leb, ne_eqb, eq-eqb}
 use Rattle.std.proofs.lemmas.List.{append_assoc, append-nil, length-append, get_or_at, take_at}
 use Rattle.std.proofs.lemmas.List.Folds.{list_any-append, list_all-append}
-use Rattle.std.proofs.lemmas.Slice.Eq.{bytes_eq-Decides}
 use Rattle.ae_base.specs.declared.limits.TheConstants.{PINS, GATES}
 use Rattle.ae_lex.specs.First.{first_of, first_fault, at_line}
-use Rattle.ae_lex.specs.Heads.{Word, word, heads, is_row}
+use Rattle.ae_lex.specs.Heads.{Word, heads, is_row}
 use Rattle.ae_lex.specs.Reads.{words_of}
 use Rattle.ae_lex.specs.Words.{WordLine}
 use Rattle.ae_lex.specs.Written.{numbered}
@@ -22,7 +21,7 @@ use Rattle.ae_base.specs.Twins.{is_among}
 use Rattle.blif_read.specs.Seen.{names_faults}
 use Rattle.blif_read.specs.Says.{inputs_of, outputs_of, gates_of, outs, last_cover, declared_faults, row_faults, faults, where_any, whole_fault, model_of}
 use Rattle.blif_read.specs.Build.{undefined_pin, undefined_output, placed, unplaced, lines_say}
-use Rattle.blif_read.proofs.Steps.{driven_by, words_more, driven_more}
+use Rattle.blif_read.proofs.Steps.{no_heads, driven_by, words_more, driven_more}
 use Rattle.blif_read.proofs.WrittenNames.{AreFresh}
 
 -- none of these lines is faulty, each after those before it
@@ -56,13 +55,6 @@ stands_more before line is os ds i o d h e a b c = record {
   outputs_are = words_more (codes ".outputs") before line ∙ ap₂ (λ (x y : List Word). x ++ y) h.outputs_are b;
   driven_are = driven_more before line ∙ ap₂ (λ (x y : List Word). x ++ y) h.driven_are c;
 }
-
--- a row begins with none of the words of statements
-pub no_heads : (h : Word) (line : List Word) → is_row line ≡ true → slice_index h 0 ≡ 46 → heads h line ≡ false
-no_heads h line row dot = elim (cases_Bool (heads h line)) [
-  | inl t ↦ absurd (both_ways (is_row line) (ap not (eq-eqb _ 46 (ap (λ (w : Word). slice_index w 0) ((bytes_eq-Decides (word line 0) h).0 t) ∙ dot))) row)
-  | inr f ↦ f
-]
 
 pub stands_row : (before : List (List Word)) (line i o d : List Word) → is_row line ≡ true → Stands before i o d → Stands (before ++ line ∷ []) i o d
 stands_row before line i o d row h =

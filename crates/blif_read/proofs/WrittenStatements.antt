@@ -13,9 +13,10 @@ use Rattle.ae_net.specs.Valid.{IsGate}
 use Rattle.ae_net.specs.Blif.{name_of, row_words, gate_lines}
 use Rattle.blif_read.specs.Build.{row_cube, is_on}
 use Rattle.blif_read.specs.Says.{gate_of, gates_of}
+use Rattle.blif_read.proofs.Steps.{no_heads}
 use Rattle.blif_read.proofs.WrittenFine.{gate_words}
 use Rattle.blif_read.proofs.WrittenGates.{AreValid, named}
-use Rattle.blif_read.proofs.WrittenLines.{no_heads, gate_name-snoc, pin_names-snoc}
+use Rattle.blif_read.proofs.WrittenLines.{gate_name-snoc, pin_names-snoc}
 use Rattle.blif_read.proofs.WrittenRows.{row_chars, rows_back, on_back, is_row-row_words, concat-row_words}
 
 abbrev pub end_lines : List (List Word)

@@ -63,12 +63,15 @@ with_end r cover = record { pins = cover.pins; end_char = Some (unwrap_or cover.
 unfoldable pub with_line : Seen → List Word → Seen
 with_line seen line =
     let args = drop 1 line in
-    if heads (codes ".model") line then record seen { has_model = true; model = slice_get args 0; cover = None }
-    else if heads (codes ".end") line then record seen { ended = true; cover = None }
-    else if heads (codes ".inputs") line then record seen { inputs = seen.inputs ++ args; cover = None }
-    else if heads (codes ".outputs") line then record seen { outputs = seen.outputs ++ args; cover = None }
-    else if heads (codes ".names") line then record seen { driven = seen.driven ++ words.gate_name args ∷ []; cover = Some (record { pins = length args - 1; end_char = None }) }
-    else if is_row line then record seen { cover = option_map (with_end (concat line)) seen.cover } else record seen { cover = None }
+    record {
+      ended = heads (codes ".end") line || seen.ended;
+      has_model = heads (codes ".model") line || seen.has_model;
+      model = if heads (codes ".model") line then slice_get args 0 else seen.model;
+      inputs = if heads (codes ".inputs") line then seen.inputs ++ args else seen.inputs;
+      outputs = if heads (codes ".outputs") line then seen.outputs ++ args else seen.outputs;
+      driven = if heads (codes ".names") line then seen.driven ++ words.gate_name args ∷ [] else seen.driven;
+      cover = if is_row line then option_map (with_end (concat line)) seen.cover else open_cover (line ∷ []);
+    }
 
 -- ---- answers
 
