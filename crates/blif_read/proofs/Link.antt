@@ -1,8 +1,8 @@
 -- The order by names is the order by places.
-use Rattle.std.proofs.Common.{◌≡◌, ℕ, zero, suc, ◌+◌, ◌-◌, ◌<◌, ◌≤◌, Bool, true, false, not, cond, ◌||◌, ◌&&◌, eqb, ltb, Option, Some, None, List, [], ◌∷◌, ◌++◌, length, map, get_or, refl, sym, ap, ◌∙◌, arith, inl, inr, ◌⊎◌}
+use Rattle.std.proofs.Common.{◌≡◌, ℕ, zero, suc, ◌+◌, ◌<◌, ◌≤◌, Bool, true, not, cond, ◌||◌, ◌&&◌, eqb, Option, Some, None, List, [], ◌∷◌, ◌++◌, length, map, get_or, refl, sym, ap, ◌∙◌, arith, inl, inr, ◌⊎◌}
 use Rattle.std.specs.Prelude.{bytes_eq, option_map}
 use Rattle.std.specs.List.{find, list_all, AllByRecursion, range_with_len}
-use Rattle.std.proofs.lemmas.Bool.{cases_Bool, or_left, cond-true, cond-false, lt-ltb, le-ltb}
+use Rattle.std.proofs.lemmas.Bool.{cases_Bool, or_left, cond-true, cond-false}
 use Rattle.std.proofs.lemmas.List.{map-append, length-map, get_or-map, same_lists, get_or_default}
 use Rattle.std.proofs.lemmas.List.Elements.{All-from_recursion}
 use Rattle.std.proofs.lemmas.List.FromFn.{length-map-range_with_len, get_or-map-range_with_len}
@@ -13,16 +13,13 @@ use Rattle.ae_net.specs.Named.{NamedGate, place_of}
 use Rattle.blif_read.specs.Says as names
 use Rattle.blif_read.specs.Says.{outs}
 use Rattle.blif_read.specs.Build.{gates_among}
-use Rattle.blif_read.proofs.Drafts.{pins_by}
-use Rattle.blif_read.proofs.Tables.{place_of-append}
-use Rattle.blif_read.proofs.Places.{place_at, same_name, AllBelow, below_more}
+use Rattle.blif_read.proofs.Places.{place_at, place_low, place_high, same_name, AllBelow, below_more}
 use Rattle.blif_order.specs.Order as order
 use Rattle.blif_order.proofs.Steps as steps
 
 -- the places of the gates that the pins name; an input has none
 abbrev pub waits_of : List (List ℕ) → List (List ℕ) → List (List ℕ) → List ℕ
-waits_of inputs names [] = []
-waits_of inputs names (pin ∷ pins) = cond (is_among pin inputs) (waits_of inputs names pins) (place_of pin names ∷ waits_of inputs names pins)
+waits_of inputs names pins = gates_among (length inputs) (map (λ w. place_of w (inputs ++ names)) pins)
 
 -- for each gate those that it waits for
 abbrev pub needs_of : List (List ℕ) → List NamedGate → List (List ℕ)
@@ -90,7 +87,7 @@ ready_same inputs cs placed (pin ∷ pins) apart below known =
     elim (cases_Bool (is_among pin inputs)) [
       | inl t ↦
           ap (λ (b : Bool). b && list_all (λ p. is_among p (inputs ++ now)) pins) (parts ∙ or_left (is_among pin inputs) (is_among pin now) t)
-          ∙ rest ∙ ap (list_all (order.is_placed placed)) (sym (cond-true (is_among pin inputs) (waits_of inputs (outs cs) pins) (place_of pin (outs cs) ∷ waits_of inputs (outs cs) pins) t))
+          ∙ rest ∙ ap (list_all (order.is_placed placed)) (sym (cond-true _ _ _ (place_low pin inputs (outs cs) t).1))
       | inr f ↦
           (let gate : is_among pin (outs cs) ≡ true = sym (ap (λ (b : Bool). b || is_among pin (outs cs)) f) ∙ sym (list_any-append (bytes_eq pin) inputs (outs cs)) ∙ known.0 in
           let at = place_at pin (outs cs) gate in
@@ -98,7 +95,7 @@ ready_same inputs cs placed (pin ∷ pins) apart below known =
           let here : is_among pin now ≡ order.is_placed placed j = ap (λ (w : List ℕ). is_among w now) (sym at.1) ∙ among_placed cs placed j apart below (omega (arith, at.0)) in
           ap (λ (b : Bool). b && list_all (λ p. is_among p (inputs ++ now)) pins) (parts ∙ ap (λ (b : Bool). b || is_among pin now) f ∙ here)
           ∙ ap (λ (b : Bool). order.is_placed placed j && b) rest
-          ∙ ap (list_all (order.is_placed placed)) (sym (cond-false (is_among pin inputs) (waits_of inputs (outs cs) pins) (j ∷ waits_of inputs (outs cs) pins) f)))
+          ∙ ap (list_all (order.is_placed placed)) (sym (cond-false _ _ _ (place_high pin inputs (outs cs) f).1 ∙ ap (λ (k : ℕ). k ∷ waits_of inputs (outs cs) pins) (place_high pin inputs (outs cs) f).0)))
     ]
 
 -- ---- one step, and all
@@ -168,32 +165,3 @@ pub one_order : (inputs : List (List ℕ)) (cs : List NamedGate) → IsDistinct 
 one_order inputs cs apart known =
     place_same inputs cs (length cs) [] apart tt known
     ∙ ap (λ n. map (gate_at cs) (order.place (needs_of inputs cs) n [])) (sym (length-map cs (λ (u : NamedGate). waits_of inputs (outs cs) u.pins)))
-
--- ---- those that a draft waits for
-
-gates_same : (inputs ws pins : List (List ℕ)) → AllByRecursion (λ pin. is_among pin (inputs ++ ws) ≡ true) pins → gates_among (length inputs) (map (λ w. place_of w (inputs ++ ws)) pins) ≡ waits_of inputs ws pins
-gates_same inputs ws [] h = refl
-gates_same inputs ws (pin ∷ pins) h =
-    let n = length inputs in
-    let rest = gates_same inputs ws pins h.1 in
-    let at = place_of-append pin inputs ws in
-    elim (cases_Bool (is_among pin inputs)) [
-      | inl t ↦
-          (let here : place_of pin (inputs ++ ws) ≡ place_of pin inputs = at ∙ cond-true _ _ _ t in
-          let low : ltb (place_of pin (inputs ++ ws)) n ≡ true = lt-ltb _ n (omega (arith, here, (place_at pin inputs t).0)) in
-          rw (low, t) rest)
-      | inr f ↦
-          (let here : place_of pin (inputs ++ ws) ≡ n + place_of pin ws = at ∙ cond-false _ _ _ f in
-          let high : ltb (place_of pin (inputs ++ ws)) n ≡ false = le-ltb _ n (omega (arith, here)) in
-          let less : place_of pin (inputs ++ ws) - n ≡ place_of pin ws = omega (arith, here) in
-          rw (high, f) (ap (λ (k : ℕ). k ∷ gates_among n (map (λ w. place_of w (inputs ++ ws)) pins)) less ∙ ap (λ (ks : List ℕ). place_of pin ws ∷ ks) rest))
-    ]
-
--- each pin of each of these gates
-needs_each : (inputs ws : List (List ℕ)) (cs : List NamedGate) → AreKnown (inputs ++ ws) cs → map (gates_among (length inputs)) (map (pins_by (inputs ++ ws)) cs) ≡ map (λ c. waits_of inputs ws c.pins) cs
-needs_each inputs ws [] h = refl
-needs_each inputs ws (c ∷ cs) h =
-    ap (λ (k : List ℕ). k ∷ map (gates_among (length inputs)) (map (pins_by (inputs ++ ws)) cs)) (gates_same inputs ws c.pins h.0) ∙ ap (λ (ks : List (List ℕ)). waits_of inputs ws c.pins ∷ ks) (needs_each inputs ws cs h.1)
-
-pub needs_same : (inputs : List (List ℕ)) (cs : List NamedGate) → AreKnown (inputs ++ outs cs) cs → map (gates_among (length inputs)) (map (pins_by (inputs ++ outs cs)) cs) ≡ needs_of inputs cs
-needs_same inputs cs h = needs_each inputs (outs cs) cs h

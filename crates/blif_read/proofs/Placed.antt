@@ -2,7 +2,7 @@
 use Rattle.std.proofs.Common.{◌≡◌, ℕ, zero, suc, ◌+◌, ◌-◌, ◌<◌, ◌≤◌, Bool, true, false, not, cond, ◌||◌, eqb, ltb, Option, Some, None, List, [], ◌∷◌, ◌++◌, length, map, get_or, All, refl, sym, ap, subst, ◌∙◌, arith, inl, inr}
 use Rattle.std.specs.Prelude.{bytes_eq, position, slice_get, is_none, is_some, unwrap_or}
 use Rattle.std.specs.List.{find, list_any, position_or_len}
-use Rattle.std.proofs.lemmas.Bool.{cases_Bool, cond-true, cond-false, lt-ltb, le-ltb, ltb-true, ltb-false, both_ways}
+use Rattle.std.proofs.lemmas.Bool.{cases_Bool, cond-true, cond-false, ltb-true, ltb-false, both_ways}
 use Rattle.std.proofs.lemmas.List.{length-map, length_push, get_or-map, get_or_default}
 use Rattle.std.proofs.lemmas.Option.{slice_get-get_or, slice_get_past}
 use Rattle.std.proofs.lemmas.List.Folds.{find_at, list_any-append, list_any_at}
@@ -14,7 +14,7 @@ use Rattle.blif_read.specs.Build.{rank_in, renumbered, IsRankBelow, draft_at}
 use Rattle.blif_read.specs.declared.draft.Draft.{Draft}
 use Rattle.blif_read.proofs.Ranks.{any_within}
 use Rattle.blif_read.proofs.Tables.{place_of-append}
-use Rattle.blif_read.proofs.Places.{place_at, same_name, AllBelow, below_more}
+use Rattle.blif_read.proofs.Places.{place_at, place_low, place_high, same_name, AllBelow, below_more}
 use Rattle.blif_read.proofs.Link.{gate_at, blank, out_at, among_placed, next_below, cases_Option}
 use Rattle.blif_order.specs.Order as by_place
 use Rattle.blif_order.proofs.Steps as steps
@@ -143,24 +143,18 @@ pub renumber_same : (inputs : List (List ℕ)) (cs : List NamedGate) (order : Li
     → is_among w (inputs ++ outs cs) ≡ true → renumbered (length inputs) ranks (place_of w (inputs ++ outs cs)) ≡ place_of w (inputs ++ outs (map (gate_at cs) order))
 renumber_same inputs cs order ranks w apart r all known =
     let n = length inputs in
-    let old = place_of-append w inputs (outs cs) in
     let new = place_of-append w inputs (outs (map (gate_at cs) order)) in
     let size : length (outs cs) ≡ length cs = length-map cs (λ (c : NamedGate). c.out) in
     elim (cases_Bool (is_among w inputs)) [
-      | inl t ↦
-          (let before : place_of w (inputs ++ outs cs) ≡ place_of w inputs = old ∙ cond-true _ _ _ t in
-          let low : ltb (place_of w (inputs ++ outs cs)) n ≡ true = lt-ltb _ n (omega (arith, before, (place_at w inputs t).0)) in
-          cond-true _ _ _ low ∙ before ∙ sym (new ∙ cond-true _ _ _ t))
+      | inl t ↦ (let low = place_low w inputs (outs cs) t in cond-true _ _ _ low.1 ∙ low.0 ∙ sym (new ∙ cond-true _ _ _ t))
       | inr f ↦
           (let gate : is_among w (outs cs) ≡ true = sym (ap (λ (b : Bool). b || is_among w (outs cs)) f) ∙ sym (list_any-append (bytes_eq w) inputs (outs cs)) ∙ known in
           let g = place_of w (outs cs) in
           let at = place_at w (outs cs) gate in
           let lt : g < length cs = omega (arith, at.0) in
-          let before : place_of w (inputs ++ outs cs) ≡ n + g = old ∙ cond-false _ _ _ f in
-          let high : ltb (place_of w (inputs ++ outs cs)) n ≡ false = le-ltb _ n (omega (arith, before)) in
-          let less : place_of w (inputs ++ outs cs) - n ≡ g = omega (arith, before) in
+          let high = place_high w inputs (outs cs) f in
           let k = some_rank (rank_in order g) (all g lt) in
-          let rank : get_or ranks (place_of w (inputs ++ outs cs) - n) None ≡ Some k.0 = ap (λ i. get_or ranks i None) less ∙ r.rank g ∙ k.1 in
+          let rank : get_or ranks (place_of w (inputs ++ outs cs) - n) None ≡ Some k.0 = ap (λ i. get_or ranks i None) high.0 ∙ r.rank g ∙ k.1 in
           let after : place_of w (outs (map (gate_at cs) order)) ≡ k.0 = place_ordered cs order w g apart r.below lt at.1 ∙ (rank_below order g k.0 k.1).0 in
-          cond-false _ _ _ high ∙ ap (λ (o : Option ℕ). n + unwrap_or o 0) rank ∙ ap (λ m. n + m) (sym after) ∙ sym (new ∙ cond-false _ _ _ f))
+          cond-false _ _ _ high.1 ∙ ap (λ (o : Option ℕ). n + unwrap_or o 0) rank ∙ ap (λ m. n + m) (sym after) ∙ sym (new ∙ cond-false _ _ _ f))
     ]

@@ -3,9 +3,8 @@ use Rattle.std.proofs.Common.{◌≡◌, ℕ, ◌+◌, ◌-◌, ◌<◌, ◌≤�
 use Rattle.std.specs.Prelude.{bytes_eq, filter, position, is_none, unwrap_or, slice_get, slice_index_or, codes}
 use Rattle.std.specs.List.{find, flat_map, AllByRecursion}
 use Rattle.std.specs.Option.{option_or, option_map}
-use Rattle.std.proofs.lemmas.Bool.{cases_Bool, eq-eqb, ne_eqb, false≢true}
+use Rattle.std.proofs.lemmas.Bool.{cases_Bool, cases_lt, lt-ltb, le-ltb, eq-eqb, ne_eqb, false≢true}
 use Rattle.std.proofs.lemmas.List.{length-map, length-take-le, get_or-map, drop_more}
-use Rattle.std.proofs.lemmas.List.Folds.{list_any-append}
 use Rattle.std.proofs.lemmas.List.Elements.{All-append, All-weaker, All-from_recursion, recursion_from_All}
 use Rattle.std.proofs.lemmas.Slice.Eq.{bytes_eq-Decides}
 use Rattle.ae_base.specs.Cube.{Product}
@@ -39,7 +38,7 @@ use Rattle.blif_read.specs.Words.{is_name_under}
 use Rattle.blif_read.proofs.Drafts.{AreOf, drafts_are, pins_by, gate_by, number_by}
 use Rattle.blif_read.proofs.Gates.{IsFit, gates_fit}
 use Rattle.blif_read.proofs.Known.{reads_known, shows_known, names_known}
-use Rattle.blif_read.proofs.Link.{gate_at, blank, out_at, AreKnown, known_at, waits_of, needs_of, needs_same, one_order}
+use Rattle.blif_read.proofs.Link.{gate_at, blank, out_at, AreKnown, known_at, waits_of, needs_of, one_order}
 use Rattle.blif_read.proofs.Network.{IsFine, ArePlaced, AreParts, few_lines, are_placed, is_valid}
 use Rattle.blif_read.proofs.Placed.{order_below, order_short, AreRanks, ranks_below, left, one_left, none_left, renumber_same}
 use Rattle.blif_read.proofs.Places.{place_bound, AllBelow}
@@ -150,28 +149,28 @@ size_is lines seen drafts h = (
 needs_are : (lines : List WordLine) (seen : Seen) (drafts : List Draft) → AreDrafted lines seen drafts → map (λ d. gates_among (length seen.inputs) d.pins) drafts ≡ needs_of seen.inputs (gates lines)
 needs_are lines seen drafts h =
     let n = length seen.inputs in
+    let cs = gates lines in
     map_map (gates_among n) (λ (d : Draft). d.pins) drafts ∙ ap (map (gates_among n)) (of_is lines seen drafts h).pins_are
-    ∙ ap (λ (ws : List (List ℕ)). map (gates_among n) (map (pins_by (seen.inputs ++ ws)) (gates lines))) (sym (outs_are lines seen h.faultless))
-    ∙ needs_same seen.inputs (gates lines) (known_are lines seen drafts h)
+    ∙ ap (λ (ws : List (List ℕ)). map (gates_among n) (map (pins_by (seen.inputs ++ ws)) cs)) (sym (outs_are lines seen h.faultless)) ∙ sym (map_map (gates_among n) (pins_by (seen.inputs ++ outs cs)) cs)
 
-gates_bound : (i ws pins : List (List ℕ)) → AllByRecursion (λ pin. is_among pin (i ++ ws) ≡ true) pins → AllByRecursion (λ d. d < length ws) (waits_of i ws pins) × (length (waits_of i ws pins) ≤ length pins)
-gates_bound i ws [] h = (tt, omega arith)
-gates_bound i ws (pin ∷ pins) h =
-    let rest = gates_bound i ws pins h.1 in
-    elim (cases_Bool (is_among pin i)) [
-      | inl t ↦ rw t (rest.0, omega (arith, rest.1))
-      | inr f ↦
-          (let gate : is_among pin ws ≡ true = sym (ap (λ (b : Bool). b || is_among pin ws) f) ∙ sym (list_any-append (bytes_eq pin) i ws) ∙ h.0 in
-          rw f ((place_bound pin ws gate, rest.0), omega (arith, rest.1)))
-    ]
+among_bound : (n m : ℕ) (ss : List ℕ) → AllByRecursion (λ s. s < n + m) ss → AllByRecursion (λ d. d < m) (gates_among n ss) × (length (gates_among n ss) ≤ length ss)
+among_bound n m [] h = (tt, omega arith)
+among_bound n m (s ∷ ss) h =
+    let rest = among_bound n m ss h.1 in
+    elim (cases_lt s n) [ inl lt ↦ rw (lt-ltb s n lt) (rest.0, omega (arith, rest.1)) | inr le ↦ rw (le-ltb s n le) ((omega (arith, h.0, le), rest.0), omega (arith, rest.1)) ]
+
+pins_bound : (known : List (List ℕ)) (pins : List (List ℕ)) → AllByRecursion (λ pin. is_among pin known ≡ true) pins → AllByRecursion (λ s. s < length known) (map (λ w. place_of w known) pins)
+pins_bound known [] h = tt
+pins_bound known (pin ∷ pins) h = (place_bound pin known h.0, pins_bound known pins h.1)
 
 needs_bound : (limits : NetLimits) (i ws : List (List ℕ)) (cs : List NamedGate) → AreKnown (i ++ ws) cs → AllByRecursion (IsFit limits) cs
     → AllByRecursion (λ need. length need < 2 ^ 32) (map (λ c. waits_of i ws c.pins) cs) × AllByRecursion (λ need. All (λ d. d < length ws) need) (map (λ c. waits_of i ws c.pins) cs)
 needs_bound limits i ws [] h f = (tt, tt)
 needs_bound limits i ws (c ∷ cs) h f =
-    let here = gates_bound i ws c.pins h.0 in
+    let pins = pins_by (i ++ ws) c in
+    let here = among_bound (length i) (length ws) pins (subst (λ n. AllByRecursion (λ s. s < n) pins) (length-append i ws) (pins_bound (i ++ ws) c.pins h.0)) in
     let rest = needs_bound limits i ws cs h.1 f.1 in
-    ((omega (arith, here.1, f.0.few), rest.0), (All-from_recursion (λ d. d < length ws) (waits_of i ws c.pins) here.0, rest.1))
+    ((omega (arith, here.1, length-map c.pins (λ w. place_of w (i ++ ws)), f.0.few), rest.0), (All-from_recursion (λ d. d < length ws) (waits_of i ws c.pins) here.0, rest.1))
 
 -- the needs can be put in order
 pub needs_fit : (lines : List WordLine) (seen : Seen) (drafts : List Draft) (needs : List (List ℕ)) → AreDrafted lines seen drafts → needs ≡ map (λ d. gates_among (length seen.inputs) d.pins) drafts
@@ -217,10 +216,6 @@ order_within lines seen drafts order h e =
     )
 
 -- ---- what can be built
-
-pins_bound : (known : List (List ℕ)) (pins : List (List ℕ)) → AllByRecursion (λ pin. is_among pin known ≡ true) pins → AllByRecursion (λ s. s < length known) (map (λ w. place_of w known) pins)
-pins_bound known [] h = tt
-pins_bound known (pin ∷ pins) h = (place_bound pin known h.0, pins_bound known pins h.1)
 
 covers_bound : (limits : NetLimits) (known : List (List ℕ)) (cs : List NamedGate) → AreKnown known cs → AllByRecursion (IsFit limits) cs
     → AllByRecursion (λ c. length (pins_by known c) ≤ PINS) cs × AllByRecursion (λ c. All (λ s. s < length known) (pins_by known c)) cs
