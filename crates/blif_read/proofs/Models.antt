@@ -2,7 +2,9 @@
 use Rattle.std.proofs.Common.{◌≡◌, true, None, List, [], ◌∷◌, ◌++◌, drop, refl, inl, inr}
 use Rattle.std.specs.Prelude.{filter, slice_index_or, codes}
 use Rattle.std.specs.List.{list_all, flat_map, AllByRecursion}
-use Rattle.std.proofs.lemmas.Bool.{cases_Bool, and_parts}
+use Rattle.std.proofs.lemmas.Bool.{cases_Bool}
+use Rattle.std.proofs.lemmas.List.Elements.{recursion_from_All}
+use Rattle.std.proofs.lemmas.List.Sums.{AllPass-from_list_all}
 use Rattle.ae_base.specs.Name.{is_name}
 use Rattle.ae_base.proofs.Distinct.{each-append}
 use Rattle.ae_lex.specs.First.{first_fault}
@@ -19,8 +21,7 @@ abbrev AreNames : List Word → Type 0
 AreNames ws = AllByRecursion (λ w. is_name w ≡ true) ws
 
 each_name : (limits : NetLimits) (ws : List Word) → list_all (is_name_under limits) ws ≡ true → AreNames ws
-each_name limits [] h = tt
-each_name limits (w ∷ ws) h = let p = and_parts (is_name_under limits w) (list_all (is_name_under limits) ws) h in (name_under limits w p.0, each_name limits ws p.1)
+each_name limits ws h = recursion_from_All (λ w. is_name w ≡ true) ws (λ k d lt. name_under limits _ (AllPass-from_list_all (is_name_under limits) ws h k d lt))
 
 models_fine : (limits : NetLimits) (done : List (List Word)) (lines : List WordLine) → first_fault (faults limits) done lines ≡ None → AreNames (flat_map (drop 1) (filter (heads (codes ".model")) (words_of lines)))
 models_fine limits done [] h = tt

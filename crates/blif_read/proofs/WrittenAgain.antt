@@ -1,8 +1,7 @@
 -- The text of a network says the network.
 use Rattle.std.proofs.Common.{◌≡◌, ℕ, suc, ◌+◌, ◌<◌, ◌≤◌, true, false, not, ◌&&◌, None, Ok, List, [], ◌∷◌, ◌++◌, length, map, drop, codes, get_or, refl, sym, ap, ap₂, subst, ◌∙◌, arith}
-use Rattle.std.specs.Prelude.{All, filter, bytes_eq}
+use Rattle.std.specs.Prelude.{All, filter}
 use Rattle.std.specs.List.{flat_map, AllByRecursion}
-use Rattle.std.proofs.lemmas.Bool.{or_left, or_right}
 use Rattle.std.proofs.lemmas.List.{append_assoc, append-nil, length-append, length-map, get_or_append_left}
 use Rattle.std.proofs.lemmas.List.Elements.{recursion_from_All}
 use Rattle.ae_base.specs.Name.{is_name}
@@ -22,14 +21,14 @@ use Rattle.blif_read.specs.declared.fault.BlifFault.TheVariants as fault
 use Rattle.ae_lex.specs.First.{first_of, first_fault}
 use Rattle.ae_lex.specs.Heads.{heads}
 use Rattle.ae_lex.specs.Reads.{words_of}
-use Rattle.blif_read.proofs.Steps.{among_both, words_more}
+use Rattle.blif_read.proofs.Steps.{words_more}
 use Rattle.ae_net.specs.Named.{gate_of, net_of, place_of}
 use Rattle.blif_read.specs.Says.{some_unknown, inputs_of, outputs_of, gates_of, declared_faults, faults, blif_says}
 use Rattle.blif_read.specs.Words.{gate_name, pin_names}
 use Rattle.blif_read.specs.Build.{undefined_pin, undefined_output, placed, unplaced, lines_say}
 use Rattle.blif_read.proofs.Whole.{text_says}
 use Rattle.blif_read.proofs.Places.{AllBelow}
-use Rattle.blif_read.proofs.WrittenNames.{AreFresh, bytes_same, not_among, fresh, fresh_split, names_apart, places_back, signals_apart}
+use Rattle.blif_read.proofs.WrittenNames.{AreFresh, not_among, fresh, fresh_split, names_apart, places_back, signals_apart, each_among}
 use Rattle.blif_read.proofs.WrittenPlacing.{placed_in_order}
 use Rattle.blif_read.proofs.WrittenLines.{AreFine, fine_lines, Stands, declared_fine, gate_name-snoc, pin_names-snoc, where_no, whole}
 use Rattle.blif_read.proofs.WrittenStatements.{end_lines, any_gates, gates_read}
@@ -142,14 +141,9 @@ pins_known : (names : List (List ℕ)) (gates : List Gate) → AllByRecursion (�
 pins_known names [] h = tt
 pins_known names (gate ∷ gates) h = (ap (some_unknown names) (pin_names-snoc (map (name_of names) gate.pins) gate.out) ∙ none_unknown names gate.pins h.0, pins_known names gates h.1)
 
-all_among : (names done : List (List ℕ)) (gates : List Gate) (all : List (List ℕ)) → all ≡ done ++ map (λ gate. gate.out) gates → AllByRecursion (λ gate. not (is_among (gate_name (gate_words names gate)) all) ≡ false) gates
-all_among names done [] all e = tt
-all_among names done (gate ∷ gates) all e =
-    let outs = map (λ gate. gate.out) gates in (
-      ap (λ (w : List ℕ). not (is_among w all)) (gate_name-snoc (map (name_of names) gate.pins) gate.out)
-          ∙ ap not (ap (is_among gate.out) e ∙ among_both gate.out done (gate.out ∷ outs) ∙ or_right _ _ (or_left (bytes_eq gate.out gate.out) _ (bytes_same gate.out))),
-      all_among names (done ++ gate.out ∷ []) gates all (e ∙ sym (append_assoc done (gate.out ∷ []) outs)),
-    )
+all_among : (names all : List (List ℕ)) (gates : List Gate) → AllByRecursion (λ w. is_among w all ≡ true) (map (λ gate. gate.out) gates) → AllByRecursion (λ gate. not (is_among (gate_name (gate_words names gate)) all) ≡ false) gates
+all_among names all [] h = tt
+all_among names all (gate ∷ gates) h = (ap (λ (w : List ℕ). not (is_among w all)) (gate_name-snoc (map (name_of names) gate.pins) gate.out) ∙ ap not h.0, all_among names all gates h.1)
 
 none_shown : (names : List (List ℕ)) (gates : List Gate) → AllByRecursion (λ gate. (heads (codes ".outputs") (codes ".names" ∷ gate_words names gate) && some_unknown names (gate_words names gate)) ≡ false) gates
 none_shown names [] = tt
@@ -177,7 +171,7 @@ net_lines_say n last v k =
     let shows : undefined_output names lines ≡ None = where_no (codes ".outputs") (some_unknown names) fault.Undefined 1 (net_lines n)
     (rw (none_unknown names n.outputs k.outputs) (any_gates (codes ".outputs") (some_unknown names) names n.gates refl refl (none_shown names n.gates))) in
     let placed_all : unplaced outs lines ≡ None = where_no (codes ".names") (λ args. not (is_among (gate_name args) outs)) fault.Cycle 1 (net_lines n)
-    (any_gates (codes ".names") (λ args. not (is_among (gate_name args) outs)) names n.gates refl refl (all_among names [] n.gates outs refl)) in
+    (any_gates (codes ".names") (λ args. not (is_among (gate_name args) outs)) names n.gates refl refl (all_among names outs n.gates (each_among outs))) in
     whole last lines (net_lines n) n.model n.inputs shown outs gs (words_numbered 1 (net_lines n)) inputs outputs read outs_are refl v.some_input some reads shows order placed_all
 
 -- ---- the network again

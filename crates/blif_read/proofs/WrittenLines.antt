@@ -5,6 +5,8 @@ use Rattle.std.specs.List.{concat, list_any, list_all, AllByRecursion}
 use Rattle.std.specs.Option.{option_or}
 use Rattle.std.proofs.lemmas.Bool.{or_from, or_parts, and_from, le-ltb, lt-leb, ne_eqb, eq-eqb}
 use Rattle.std.proofs.lemmas.List.{append_assoc, append-nil, length-append, get_or_at, take_at}
+use Rattle.std.proofs.lemmas.List.Elements.{All-from_recursion}
+use Rattle.std.proofs.lemmas.List.Sums.{list_all-from_AllPass}
 use Rattle.std.proofs.lemmas.List.Folds.{list_any-append, list_all-append}
 use Rattle.ae_base.specs.declared.limits.TheConstants.{PINS, GATES}
 use Rattle.ae_lex.specs.First.{first_of, first_fault, at_line}
@@ -108,15 +110,11 @@ pin_names-snoc ws w =
     let e : length (ws ++ w ∷ []) - 1 ≡ length ws = omega (arith, length-append ws (w ∷ [])) in
     ap (λ k. take k (ws ++ w ∷ [])) e ∙ take_at ws (w ∷ []) (length ws) refl
 
-all_names : (limits : NetLimits) (ws : List (List ℕ)) → AllByRecursion (λ w. is_name_under limits w ≡ true) ws → list_all (is_name_under limits) ws ≡ true
-all_names limits [] h = refl
-all_names limits (w ∷ ws) h = and_from (is_name_under limits w) (list_all (is_name_under limits) ws) h.0 (all_names limits ws h.1)
-
 pub names_fine : (limits : NetLimits) (inputs driven ws : List (List ℕ)) (w : List ℕ) → AllByRecursion (λ w. is_name_under limits w ≡ true) ws → is_name_under limits w ≡ true → length ws ≤ PINS → length driven < GATES → is_among w (inputs ++ driven) ≡ false
     → first_of (names_faults limits inputs driven (ws ++ w ∷ [])) ≡ None
 names_fine limits inputs driven ws w pins out few room fresh =
     let some : eqb (length (ws ++ w ∷ [])) 0 ≡ false = ne_eqb _ 0 (λ e. omega (arith, length-append ws (w ∷ []), e)) in
-    let all : list_all (is_name_under limits) (ws ++ w ∷ []) ≡ true = list_all-append (is_name_under limits) ws (w ∷ []) ∙ and_from _ _ (all_names limits ws pins) (and_from (is_name_under limits w) true out refl) in
+    let all : list_all (is_name_under limits) (ws ++ w ∷ []) ≡ true = list_all-append (is_name_under limits) ws (w ∷ []) ∙ and_from _ _ (list_all-from_AllPass (is_name_under limits) ws (All-from_recursion (λ v. is_name_under limits v ≡ true) ws pins)) (and_from (is_name_under limits w) true out refl) in
     let narrow : ltb PINS (length (ws ++ w ∷ []) - 1) ≡ false = le-ltb PINS (length (ws ++ w ∷ []) - 1) (omega (arith, length-append ws (w ∷ []), few)) in
     let free : leb GATES (length driven) ≡ false = lt-leb GATES (length driven) room in
     rw (some, all, narrow, free, gate_name-snoc ws w, fresh) refl

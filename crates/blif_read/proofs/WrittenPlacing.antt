@@ -1,15 +1,16 @@
 -- Gates that stand in an order are placed in that order.
-use Rattle.std.proofs.Common.{◌≡◌, ℕ, suc, Bool, true, false, not, Some, List, [], ◌∷◌, ◌++◌, length, refl, sym, ap, subst, ◌∙◌}
+use Rattle.std.proofs.Common.{◌≡◌, ℕ, Bool, true, false, not, Some, List, [], ◌∷◌, ◌++◌, length, refl, sym, ap, subst, ◌∙◌}
 use Rattle.std.specs.Prelude.{bytes_eq}
 use Rattle.std.specs.List.{find, list_all, AllByRecursion}
-use Rattle.std.proofs.lemmas.Bool.{cond-true, cond-false, and_left, and_from, or_left, or_right, or_parts}
+use Rattle.std.proofs.lemmas.Bool.{cond-true, cond-false, and_left, and_from, or_parts}
 use Rattle.std.proofs.lemmas.List.{append_assoc, append-nil, map-append}
 use Rattle.std.proofs.lemmas.List.Folds.{list_any-append}
 use Rattle.ae_base.specs.Twins.{is_among}
 use Rattle.ae_net.specs.Named.{NamedGate}
 use Rattle.blif_read.specs.Says.{outs, can_go, place}
 use Rattle.blif_read.specs.Build.{placed}
-use Rattle.blif_read.proofs.WrittenNames.{AreFresh, bytes_same}
+use Rattle.blif_read.proofs.Link.{place_some}
+use Rattle.blif_read.proofs.WrittenNames.{AreFresh, each_among}
 
 -- each pin is one of the known names
 abbrev is_ready : List (List ℕ) → NamedGate → Bool
@@ -24,26 +25,15 @@ find_skip : (p : NamedGate → Bool) (xs : List NamedGate) (c : NamedGate) (rest
 find_skip p [] c rest h e = cond-true (p c) (Some c) (find p rest) e
 find_skip p (x ∷ xs) c rest h e = cond-false (p x) (Some x) (find p (xs ++ c ∷ rest)) h.0 ∙ find_skip p xs c rest h.1 e
 
-still_among : (xs more : List NamedGate) (names : List (List ℕ)) → names ≡ outs more ++ outs xs → AllByRecursion (λ x. is_among x.out names ≡ true) xs
-still_among [] more names e = tt
-still_among (x ∷ xs) more names e = (
-  ap (is_among x.out) e ∙ list_any-append (bytes_eq x.out) (outs more) (outs (x ∷ xs)) ∙ or_right (is_among x.out (outs more)) (is_among x.out (outs (x ∷ xs))) (or_left (bytes_eq x.out x.out) (is_among x.out (outs xs)) (bytes_same x.out)),
-  still_among xs (more ++ x ∷ []) names (e ∙ sym (append_assoc (outs more) (x.out ∷ []) (outs xs)) ∙ ap (λ (ws : List (List ℕ)). ws ++ outs xs) (sym (map-append (λ (c : NamedGate). c.out) more (x ∷ [])))),
-)
-
-gone : (inputs : List (List ℕ)) (done xs : List NamedGate) → AllByRecursion (λ x. is_among x.out (outs done) ≡ true) xs → AllByRecursion (λ x. can_go inputs done x ≡ false) xs
+gone : (inputs : List (List ℕ)) (done xs : List NamedGate) → AllByRecursion (λ w. is_among w (outs done) ≡ true) (outs xs) → AllByRecursion (λ x. can_go inputs done x ≡ false) xs
 gone inputs done [] h = tt
 gone inputs done (x ∷ xs) h = (and_left (not (is_among x.out (outs done))) (is_ready (inputs ++ outs done) x) (ap not h.0), gone inputs done xs h.1)
-
-place_some : (inputs : List (List ℕ)) (cs : List NamedGate) (steps : ℕ) (done : List NamedGate) (c : NamedGate) → find (can_go inputs done) cs ≡ Some c → place inputs cs (suc steps) done ≡ place inputs cs steps (done ++ c ∷ [])
-unfolding place
-place_some inputs cs steps done c e = rw (e, place) refl
 
 place_rest : (inputs : List (List ℕ)) (cs done rest : List NamedGate) → cs ≡ done ++ rest → IsInOrder (inputs ++ outs done) rest → AreFresh (outs done) (outs rest) → place inputs cs (length rest) done ≡ cs
 unfolding place
 place_rest inputs cs done [] e h f = sym (e ∙ append-nil done)
 place_rest inputs cs done (c ∷ rest) e h f =
-    let found : find (can_go inputs done) cs ≡ Some c = ap (find (can_go inputs done)) e ∙ find_skip (can_go inputs done) done c rest (gone inputs done done (still_among done [] (outs done) refl)) (and_from (not (is_among c.out (outs done))) (is_ready (inputs ++ outs done) c) (ap not f.0) h.0) in
+    let found : find (can_go inputs done) cs ≡ Some c = ap (find (can_go inputs done)) e ∙ find_skip (can_go inputs done) done c rest (gone inputs done done (each_among (outs done))) (and_from (not (is_among c.out (outs done))) (is_ready (inputs ++ outs done) c) (ap not f.0) h.0) in
     let names : outs (done ++ c ∷ []) ≡ outs done ++ c.out ∷ [] = map-append (λ (x : NamedGate). x.out) done (c ∷ []) in
     let known : inputs ++ outs (done ++ c ∷ []) ≡ (inputs ++ outs done) ++ c.out ∷ [] = ap (λ (ws : List (List ℕ)). inputs ++ ws) names ∙ sym (append_assoc inputs (outs done) (c.out ∷ [])) in
     place_some inputs cs (length rest) done c found
