@@ -1,47 +1,34 @@
--- Cubes of rows.
-use Rattle.std.proofs.Common.{◌≡◌, ℕ, ◌+◌, ◌<◌, true, false, eqb, ltb, List, [], ◌∷◌, ◌++◌, length, get_or, drop, map, Some, None, refl, sym, ap, ◌∙◌, arith}
+-- Rows at the front of lines.
+use Rattle.std.proofs.Common.{◌≡◌, ℕ, suc, ◌+◌, ◌<◌, Bool, true, false, not, cond, List, [], ◌∷◌, ◌++◌, length, get_or, take, drop, map, Some, None, refl, sym, ap, ◌∙◌, arith}
+use Rattle.std.specs.List.{concat, prefix_len}
 use Rattle.std.proofs.lemmas.List.{append-nil, append_assoc}
-use Rattle.std.proofs.lemmas.Bool.{and_parts, and_right, eqb-true, ne_eqb}
-use Rattle.ae_base.specs.Mask.{has, where_below}
+use Rattle.std.proofs.lemmas.Option.{cond_some}
 use Rattle.ae_base.specs.Cube.{Product}
-use Rattle.ae_base.proofs.Sets.{has-where_below}
+use Rattle.ae_lex.specs.Heads.{is_row}
+use Rattle.ae_lex.specs.Reads.{words_of}
 use Rattle.ae_lex.specs.Words.{WordLine}
-use Rattle.blif_read.specs.Statement.{Said, said}
-use Rattle.blif_read.specs.Statement.Said.{Model, Inputs, Outputs, Names, End, Unsupported, Unknown, Row}
-use Rattle.blif_read.specs.Lines.{rows_at, row_cube}
-use Rattle.blif_read.specs.Step.{says_of}
-use Rattle.blif_read.specs.Build.{row_chars, rows_of}
-use Rattle.blif_read.proofs.Reading.{rest_more}
+use Rattle.blif_read.specs.Build.{row_chars, rows_of, row_cube}
+use Rattle.blif_read.proofs.Drafts.{rest_more}
 
--- ---- rows at the front
+rows_cons : (line : WordLine) (lines : List WordLine) → rows_of (line ∷ lines) ≡ cond (is_row line.words) (concat line.words ∷ rows_of lines) []
+rows_cons line lines = pick (is_row line.words)
+  where
+    pick : (b : Bool) → map concat (take (cond (not (not b)) (1 + prefix_len (λ l. not (not (is_row l))) (words_of lines)) 0) (line.words ∷ words_of lines)) ≡ cond b (concat line.words ∷ rows_of lines) []
+    pick true = (let k = prefix_len (λ l. not (not (is_row l))) (words_of lines) in let more : 1 + k ≡ suc k = omega arith in ap (λ j. map concat (take j (line.words ∷ words_of lines))) more)
+    pick false = refl
 
-onto_row : (s : Said) (r : List ℕ) (rest : List Said) → row_chars s ≡ Some r → rows_at (s ∷ rest) ≡ r ∷ rows_at rest
-onto_row (Row q) r rest h = (let e : q ≡ r = cc in ap (λ (x : List ℕ). x ∷ rows_at rest) e)
-onto_row (Model ws) r rows h = absurd cc
-onto_row (Inputs ws) r rows h = absurd cc
-onto_row (Outputs ws) r rows h = absurd cc
-onto_row (Names ws) r rows h = absurd cc
-onto_row End r rows h = absurd cc
-onto_row Unsupported r rows h = absurd cc
-onto_row Unknown r rows h = absurd cc
-
-onto_none : (s : Said) (rest : List Said) → row_chars s ≡ None → rows_at (s ∷ rest) ≡ []
-onto_none (Row q) rows h = absurd cc
-onto_none (Model ws) rows h = refl
-onto_none (Inputs ws) rows h = refl
-onto_none (Outputs ws) rows h = refl
-onto_none (Names ws) rows h = refl
-onto_none End rows h = refl
-onto_none Unsupported rows h = refl
-onto_none Unknown rows h = refl
-
-pub rows_more : (pins : ℕ) (all : List WordLine) (k : ℕ) (line : WordLine) (rows cubes : List Product) (r : List ℕ) → k < length all → get_or all k line ≡ line → row_chars (said line.words) ≡ Some r
+pub rows_more : (pins : ℕ) (all : List WordLine) (k : ℕ) (line : WordLine) (rows cubes : List Product) (r : List ℕ) → k < length all → get_or all k line ≡ line → row_chars line.words ≡ Some r
     → rows ++ map (row_cube pins) (rows_of (drop k all)) ≡ cubes → (rows ++ row_cube pins r ∷ []) ++ map (row_cube pins) (rows_of (drop (k + 1) all)) ≡ cubes
 rows_more pins all k line rows cubes r lt e h t =
+    let p = cond_some (is_row line.words) (concat line.words) r h in
     append_assoc rows (row_cube pins r ∷ []) (map (row_cube pins) (rows_of (drop (k + 1) all)))
-    ∙ ap (λ (rs : List (List ℕ)). rows ++ map (row_cube pins) rs) (sym (onto_row (said line.words) r (says_of (drop (k + 1) all)) h) ∙ ap rows_of (sym (rest_more all k line lt e))) ∙ t
+    ∙ ap (λ (rs : List (List ℕ)). rows ++ map (row_cube pins) rs) (sym (ap rows_of (rest_more all k line lt e) ∙ rows_cons line (drop (k + 1) all) ∙ ap (λ (b : Bool). cond b (concat line.words ∷ rows_of (drop (k + 1) all)) []) p.0 ∙ ap (λ (x : List ℕ). x ∷ rows_of (drop (k + 1) all)) p.1)) ∙ t
 
-pub rows_stop : (pins : ℕ) (all : List WordLine) (k : ℕ) (line : WordLine) (rows cubes : List Product) → k < length all → get_or all k line ≡ line → row_chars (said line.words) ≡ None
+pub rows_stop : (pins : ℕ) (all : List WordLine) (k : ℕ) (line : WordLine) (rows cubes : List Product) → k < length all → get_or all k line ≡ line → row_chars line.words ≡ None
     → rows ++ map (row_cube pins) (rows_of (drop k all)) ≡ cubes → rows ≡ cubes
 rows_stop pins all k line rows cubes lt e h t =
-    sym (append-nil rows) ∙ ap (λ (rs : List (List ℕ)). rows ++ map (row_cube pins) rs) (sym (onto_none (said line.words) (says_of (drop (k + 1) all)) h) ∙ ap rows_of (sym (rest_more all k line lt e))) ∙ t
+    sym (append-nil rows) ∙ ap (λ (rs : List (List ℕ)). rows ++ map (row_cube pins) rs) (sym (ap rows_of (rest_more all k line lt e) ∙ rows_cons line (drop (k + 1) all) ∙ none (is_row line.words) h)) ∙ t
+  where
+    none : (b : Bool) → cond b (Some (concat line.words)) None ≡ None → cond b (concat line.words ∷ rows_of (drop (k + 1) all)) [] ≡ []
+    none true h = absurd cc
+    none false h = refl

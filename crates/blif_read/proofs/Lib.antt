@@ -1,5 +1,4 @@
 pub mod Examples
-pub mod Undefined
 pub mod WrittenAgain
 pub mod WrittenFine
 pub mod WrittenGates
@@ -12,10 +11,8 @@ pub mod WrittenStatements
 pub mod Steps
 pub mod Tables
 pub mod Words
-pub mod Heads
-pub mod Reading
 pub mod Sound
-pub mod Covers
+pub mod Gates
 pub mod Signals
 pub mod Drafts
 pub mod Ranks
@@ -24,10 +21,7 @@ pub mod Places
 pub mod Link
 pub mod Known
 pub mod Placed
-pub mod Ordered
-pub mod Nets
 pub mod Network
 pub mod Models
 pub mod Whole
 pub mod Said
-pub mod Bridge

@@ -1,41 +1,38 @@
 -- The order by names is the order by places.
-use Rattle.std.proofs.Common.{◌≡◌, ℕ, zero, suc, ◌+◌, ◌-◌, ◌<◌, ◌≤◌, Bool, true, false, not, cond, ◌||◌, ◌&&◌, eqb, ltb, Option, Some, None, List, [], ◌∷◌, ◌++◌, length, map, get_or, refl, sym, ap, ◌∙◌, arith, inl, inr, ◌⊎◌}
+use Rattle.std.proofs.Common.{◌≡◌, ℕ, zero, suc, ◌+◌, ◌<◌, ◌≤◌, Bool, true, not, cond, ◌||◌, ◌&&◌, eqb, Option, Some, None, List, [], ◌∷◌, ◌++◌, length, map, get_or, refl, sym, ap, ◌∙◌, arith, inl, inr, ◌⊎◌}
 use Rattle.std.specs.Prelude.{bytes_eq, option_map}
 use Rattle.std.specs.List.{find, list_all, AllByRecursion, range_with_len}
-use Rattle.std.proofs.lemmas.Bool.{cases_Bool, or_left, cond-true, cond-false, lt-ltb, le-ltb}
+use Rattle.std.proofs.lemmas.Bool.{cases_Bool, or_left, cond-true, cond-false}
 use Rattle.std.proofs.lemmas.List.{map-append, length-map, get_or-map, same_lists, get_or_default}
 use Rattle.std.proofs.lemmas.List.Elements.{All-from_recursion}
 use Rattle.std.proofs.lemmas.List.FromFn.{length-map-range_with_len, get_or-map-range_with_len}
 use Rattle.std.proofs.lemmas.List.Folds.{list_any-append}
 use Rattle.ae_net.specs.Valid.{IsDistinct}
 use Rattle.ae_base.specs.Twins.{is_among}
-use Rattle.blif_read.specs.Placing as names
-use Rattle.blif_read.specs.Placing.{Unplaced, outs}
-use Rattle.ae_net.specs.Named.{place_of}
+use Rattle.ae_net.specs.Named.{NamedGate, place_of}
+use Rattle.blif_read.specs.Says as names
+use Rattle.blif_read.specs.Says.{outs}
 use Rattle.blif_read.specs.Build.{gates_among}
-use Rattle.blif_read.proofs.Drafts.{pins_by}
-use Rattle.blif_read.proofs.Tables.{place_of-append}
-use Rattle.blif_read.proofs.Places.{place_at, same_name, AllBelow, below_more}
+use Rattle.blif_read.proofs.Places.{place_at, place_low, place_high, same_name, AllBelow, below_more}
 use Rattle.blif_order.specs.Order as order
 use Rattle.blif_order.proofs.Steps as steps
 
 -- the places of the gates that the pins name; an input has none
-abbrev pub gates_of : List (List ℕ) → List (List ℕ) → List (List ℕ) → List ℕ
-gates_of inputs names [] = []
-gates_of inputs names (pin ∷ pins) = cond (is_among pin inputs) (gates_of inputs names pins) (place_of pin names ∷ gates_of inputs names pins)
+abbrev pub waits_of : List (List ℕ) → List (List ℕ) → List (List ℕ) → List ℕ
+waits_of inputs names pins = gates_among (length inputs) (map (λ w. place_of w (inputs ++ names)) pins)
 
 -- for each gate those that it waits for
-abbrev pub needs_of : List (List ℕ) → List Unplaced → List (List ℕ)
-needs_of inputs cs = map (λ c. gates_of inputs (outs cs) c.pins) cs
+abbrev pub needs_of : List (List ℕ) → List NamedGate → List (List ℕ)
+needs_of inputs cs = map (λ c. waits_of inputs (outs cs) c.pins) cs
 
-abbrev pub blank : Unplaced
-blank = record { number = 0; pins = []; out = []; rows = [] }
+abbrev pub blank : NamedGate
+blank = names.gate_of [] []
 
-abbrev pub gate_at : List Unplaced → ℕ → Unplaced
+abbrev pub gate_at : List NamedGate → ℕ → NamedGate
 gate_at cs i = get_or cs i blank
 
 -- every pin is one of these names
-abbrev pub AreKnown : List (List ℕ) → List Unplaced → Type 0
+abbrev pub AreKnown : List (List ℕ) → List NamedGate → Type 0
 AreKnown known cs = AllByRecursion (λ c. AllByRecursion (λ pin. is_among pin known ≡ true) c.pins) cs
 
 -- ---- find
@@ -60,37 +57,37 @@ find_in p (suc n) a k e = elim (cases_Bool (p a)) [
   | inr f ↦ (let r = find_in p n (a + 1) k (sym (cond-false (p a) (Some a) (find p (range_with_len (a + 1) n)) f) ∙ e) in omega arith)
 ]
 
-whole_list : (cs : List Unplaced) → map (gate_at cs) (range_with_len 0 (length cs)) ≡ cs
+whole_list : (cs : List NamedGate) → map (gate_at cs) (range_with_len 0 (length cs)) ≡ cs
 whole_list cs = same_lists _ _ (length-map-range_with_len (gate_at cs) 0 (length cs)) (λ k d h.
     let lt : k < length cs = omega (arith, length-map-range_with_len (gate_at cs) 0 (length cs)) in
     get_or-map-range_with_len (gate_at cs) 0 (length cs) k k d lt (omega arith) ∙ get_or_default cs k blank d lt)
 
 -- ---- names and places
 
-pub out_at : (cs : List Unplaced) (i : ℕ) → i < length cs → (gate_at cs i).out ≡ get_or (outs cs) i []
-out_at cs i h = sym (get_or-map (λ (c : Unplaced). c.out) cs i blank [] h)
+pub out_at : (cs : List NamedGate) (i : ℕ) → i < length cs → (gate_at cs i).out ≡ get_or (outs cs) i []
+out_at cs i h = sym (get_or-map (λ (c : NamedGate). c.out) cs i blank [] h)
 
-pub among_placed : (cs : List Unplaced) (placed : List ℕ) (j : ℕ) → IsDistinct (outs cs) → AllBelow (length cs) placed → j < length cs → is_among (get_or (outs cs) j []) (outs (map (gate_at cs) placed)) ≡ order.is_placed placed j
+pub among_placed : (cs : List NamedGate) (placed : List ℕ) (j : ℕ) → IsDistinct (outs cs) → AllBelow (length cs) placed → j < length cs → is_among (get_or (outs cs) j []) (outs (map (gate_at cs) placed)) ≡ order.is_placed placed j
 among_placed cs [] j apart below lt = refl
 among_placed cs (i ∷ placed) j apart below lt =
-    let size : length (outs cs) ≡ length cs = length-map cs (λ (c : Unplaced). c.out) in
+    let size : length (outs cs) ≡ length cs = length-map cs (λ (c : NamedGate). c.out) in
     let w = get_or (outs cs) j [] in
     ap (λ (v : List ℕ). bytes_eq w v || is_among w (outs (map (gate_at cs) placed))) (out_at cs i below.0)
     ∙ ap (λ (b : Bool). b || is_among w (outs (map (gate_at cs) placed))) (same_name (outs cs) j i apart (omega arith) (omega (arith, below.0)))
     ∙ ap (λ (b : Bool). eqb i j || b) (among_placed cs placed j apart below.1 lt)
 
-ready_same : (inputs : List (List ℕ)) (cs : List Unplaced) (placed : List ℕ) (pins : List (List ℕ)) → IsDistinct (outs cs) → AllBelow (length cs) placed → AllByRecursion (λ pin. is_among pin (inputs ++ outs cs) ≡ true) pins
-    → list_all (λ pin. is_among pin (inputs ++ outs (map (gate_at cs) placed))) pins ≡ list_all (order.is_placed placed) (gates_of inputs (outs cs) pins)
+ready_same : (inputs : List (List ℕ)) (cs : List NamedGate) (placed : List ℕ) (pins : List (List ℕ)) → IsDistinct (outs cs) → AllBelow (length cs) placed → AllByRecursion (λ pin. is_among pin (inputs ++ outs cs) ≡ true) pins
+    → list_all (λ pin. is_among pin (inputs ++ outs (map (gate_at cs) placed))) pins ≡ list_all (order.is_placed placed) (waits_of inputs (outs cs) pins)
 ready_same inputs cs placed [] apart below known = refl
 ready_same inputs cs placed (pin ∷ pins) apart below known =
     let now = outs (map (gate_at cs) placed) in
-    let size : length (outs cs) ≡ length cs = length-map cs (λ (c : Unplaced). c.out) in
+    let size : length (outs cs) ≡ length cs = length-map cs (λ (c : NamedGate). c.out) in
     let parts : is_among pin (inputs ++ now) ≡ (is_among pin inputs || is_among pin now) = list_any-append (bytes_eq pin) inputs now in
     let rest = ready_same inputs cs placed pins apart below known.1 in
     elim (cases_Bool (is_among pin inputs)) [
       | inl t ↦
           ap (λ (b : Bool). b && list_all (λ p. is_among p (inputs ++ now)) pins) (parts ∙ or_left (is_among pin inputs) (is_among pin now) t)
-          ∙ rest ∙ ap (list_all (order.is_placed placed)) (sym (cond-true (is_among pin inputs) (gates_of inputs (outs cs) pins) (place_of pin (outs cs) ∷ gates_of inputs (outs cs) pins) t))
+          ∙ rest ∙ ap (list_all (order.is_placed placed)) (sym (cond-true _ _ _ (place_low pin inputs (outs cs) t).1))
       | inr f ↦
           (let gate : is_among pin (outs cs) ≡ true = sym (ap (λ (b : Bool). b || is_among pin (outs cs)) f) ∙ sym (list_any-append (bytes_eq pin) inputs (outs cs)) ∙ known.0 in
           let at = place_at pin (outs cs) gate in
@@ -98,30 +95,30 @@ ready_same inputs cs placed (pin ∷ pins) apart below known =
           let here : is_among pin now ≡ order.is_placed placed j = ap (λ (w : List ℕ). is_among w now) (sym at.1) ∙ among_placed cs placed j apart below (omega (arith, at.0)) in
           ap (λ (b : Bool). b && list_all (λ p. is_among p (inputs ++ now)) pins) (parts ∙ ap (λ (b : Bool). b || is_among pin now) f ∙ here)
           ∙ ap (λ (b : Bool). order.is_placed placed j && b) rest
-          ∙ ap (list_all (order.is_placed placed)) (sym (cond-false (is_among pin inputs) (gates_of inputs (outs cs) pins) (j ∷ gates_of inputs (outs cs) pins) f)))
+          ∙ ap (list_all (order.is_placed placed)) (sym (cond-false _ _ _ (place_high pin inputs (outs cs) f).1 ∙ ap (λ (k : ℕ). k ∷ waits_of inputs (outs cs) pins) (place_high pin inputs (outs cs) f).0)))
     ]
 
 -- ---- one step, and all
 
-pub known_at : (known : List (List ℕ)) (cs : List Unplaced) (i : ℕ) → AreKnown known cs → i < length cs → AllByRecursion (λ pin. is_among pin known ≡ true) (gate_at cs i).pins
+pub known_at : (known : List (List ℕ)) (cs : List NamedGate) (i : ℕ) → AreKnown known cs → i < length cs → AllByRecursion (λ pin. is_among pin known ≡ true) (gate_at cs i).pins
 known_at known cs i h lt = All-from_recursion (λ c. AllByRecursion (λ pin. is_among pin known ≡ true) c.pins) cs h i blank lt
 
-go_same : (inputs : List (List ℕ)) (cs : List Unplaced) (placed : List ℕ) (i : ℕ) → IsDistinct (outs cs) → AllBelow (length cs) placed → AreKnown (inputs ++ outs cs) cs → i < length cs
+go_same : (inputs : List (List ℕ)) (cs : List NamedGate) (placed : List ℕ) (i : ℕ) → IsDistinct (outs cs) → AllBelow (length cs) placed → AreKnown (inputs ++ outs cs) cs → i < length cs
     → names.can_go inputs (map (gate_at cs) placed) (gate_at cs i) ≡ order.can_go (needs_of inputs cs) placed i
 go_same inputs cs placed i apart below known lt =
     let now = outs (map (gate_at cs) placed) in
     let c = gate_at cs i in
-    let waits : get_or (needs_of inputs cs) i [] ≡ gates_of inputs (outs cs) c.pins = get_or-map (λ (u : Unplaced). gates_of inputs (outs cs) u.pins) cs i blank [] lt in
+    let waits : get_or (needs_of inputs cs) i [] ≡ waits_of inputs (outs cs) c.pins = get_or-map (λ (u : NamedGate). waits_of inputs (outs cs) u.pins) cs i blank [] lt in
     ap (λ (w : List ℕ). not (is_among w now) && list_all (λ pin. is_among pin (inputs ++ now)) c.pins) (out_at cs i lt)
     ∙ ap (λ (b : Bool). not b && list_all (λ pin. is_among pin (inputs ++ now)) c.pins) (among_placed cs placed i apart below lt)
     ∙ ap (λ (b : Bool). not (order.is_placed placed i) && b) (ready_same inputs cs placed c.pins apart below (known_at (inputs ++ outs cs) cs i known lt) ∙ ap (list_all (order.is_placed placed)) (sym waits))
 
-next_same : (inputs : List (List ℕ)) (cs : List Unplaced) (placed : List ℕ) → IsDistinct (outs cs) → AllBelow (length cs) placed → AreKnown (inputs ++ outs cs) cs
+next_same : (inputs : List (List ℕ)) (cs : List NamedGate) (placed : List ℕ) → IsDistinct (outs cs) → AllBelow (length cs) placed → AreKnown (inputs ++ outs cs) cs
     → find (names.can_go inputs (map (gate_at cs) placed)) cs ≡ option_map (gate_at cs) (order.next (needs_of inputs cs) placed)
 unfolding order.next
 next_same inputs cs placed apart below known =
     let p = names.can_go inputs (map (gate_at cs) placed) in
-    let size : length (needs_of inputs cs) ≡ length cs = length-map cs (λ (u : Unplaced). gates_of inputs (outs cs) u.pins) in
+    let size : length (needs_of inputs cs) ≡ length cs = length-map cs (λ (u : NamedGate). waits_of inputs (outs cs) u.pins) in
     ap (find p) (sym (whole_list cs)) ∙ find_map p (gate_at cs) (range_with_len 0 (length cs))
     ∙ ap (option_map (gate_at cs)) (find_same (λ j. p (gate_at cs j)) (order.can_go (needs_of inputs cs) placed) (length cs) 0 (λ j x y. go_same inputs cs placed j apart below known (omega arith))
     ∙ ap (λ n. find (order.can_go (needs_of inputs cs) placed) (range_with_len 0 n)) (sym size))
@@ -134,21 +131,21 @@ pub cases_Option : {X : Type 0} (o : Option X) → (o ≡ None) ⊎ ((k : X) × 
 cases_Option None = inl refl
 cases_Option (Some k) = inr (k, refl)
 
-place_some : (inputs : List (List ℕ)) (cs : List Unplaced) (steps : ℕ) (done : List Unplaced) (c : Unplaced) → find (names.can_go inputs done) cs ≡ Some c → names.place inputs cs (suc steps) done ≡ names.place inputs cs steps (done ++ c ∷ [])
+pub place_some : (inputs : List (List ℕ)) (cs : List NamedGate) (steps : ℕ) (done : List NamedGate) (c : NamedGate) → find (names.can_go inputs done) cs ≡ Some c → names.place inputs cs (suc steps) done ≡ names.place inputs cs steps (done ++ c ∷ [])
 unfolding names.place
 place_some inputs cs steps done c e = rw (e, names.place) refl
 
-place_none : (inputs : List (List ℕ)) (cs : List Unplaced) (steps : ℕ) (done : List Unplaced) → find (names.can_go inputs done) cs ≡ None → names.place inputs cs (suc steps) done ≡ done
+pub place_none : (inputs : List (List ℕ)) (cs : List NamedGate) (steps : ℕ) (done : List NamedGate) → find (names.can_go inputs done) cs ≡ None → names.place inputs cs (suc steps) done ≡ done
 unfolding names.place
 place_none inputs cs steps done e = rw (e, names.place) refl
 
-place_same : (inputs : List (List ℕ)) (cs : List Unplaced) (n : ℕ) (placed : List ℕ) → IsDistinct (outs cs) → AllBelow (length cs) placed → AreKnown (inputs ++ outs cs) cs
+place_same : (inputs : List (List ℕ)) (cs : List NamedGate) (n : ℕ) (placed : List ℕ) → IsDistinct (outs cs) → AllBelow (length cs) placed → AreKnown (inputs ++ outs cs) cs
     → names.place inputs cs n (map (gate_at cs) placed) ≡ map (gate_at cs) (order.place (needs_of inputs cs) n placed)
 unfolding names.place order.place
 place_same inputs cs zero placed apart below known = refl
 place_same inputs cs (suc n) placed apart below known =
     let needs = needs_of inputs cs in
-    let size : length needs ≡ length cs = length-map cs (λ (u : Unplaced). gates_of inputs (outs cs) u.pins) in
+    let size : length needs ≡ length cs = length-map cs (λ (u : NamedGate). waits_of inputs (outs cs) u.pins) in
     let same = next_same inputs cs placed apart below known in
     elim (cases_Option (order.next needs placed)) [
       | inl e ↦
@@ -163,37 +160,8 @@ place_same inputs cs (suc n) placed apart below known =
     ]
 
 -- Where the gates have different names and each pin is an input or a gate, the order by names is the order by places.
-pub one_order : (inputs : List (List ℕ)) (cs : List Unplaced) → IsDistinct (outs cs) → AreKnown (inputs ++ outs cs) cs
+pub one_order : (inputs : List (List ℕ)) (cs : List NamedGate) → IsDistinct (outs cs) → AreKnown (inputs ++ outs cs) cs
     → names.place inputs cs (length cs) [] ≡ map (gate_at cs) (order.order_of (needs_of inputs cs))
 one_order inputs cs apart known =
     place_same inputs cs (length cs) [] apart tt known
-    ∙ ap (λ n. map (gate_at cs) (order.place (needs_of inputs cs) n [])) (sym (length-map cs (λ (u : Unplaced). gates_of inputs (outs cs) u.pins)))
-
--- ---- those that a draft waits for
-
-gates_same : (inputs ws pins : List (List ℕ)) → AllByRecursion (λ pin. is_among pin (inputs ++ ws) ≡ true) pins → gates_among (length inputs) (map (λ w. place_of w (inputs ++ ws)) pins) ≡ gates_of inputs ws pins
-gates_same inputs ws [] h = refl
-gates_same inputs ws (pin ∷ pins) h =
-    let n = length inputs in
-    let rest = gates_same inputs ws pins h.1 in
-    let at = place_of-append pin inputs ws in
-    elim (cases_Bool (is_among pin inputs)) [
-      | inl t ↦
-          (let here : place_of pin (inputs ++ ws) ≡ place_of pin inputs = at ∙ cond-true _ _ _ t in
-          let low : ltb (place_of pin (inputs ++ ws)) n ≡ true = lt-ltb _ n (omega (arith, here, (place_at pin inputs t).0)) in
-          rw (low, t) rest)
-      | inr f ↦
-          (let here : place_of pin (inputs ++ ws) ≡ n + place_of pin ws = at ∙ cond-false _ _ _ f in
-          let high : ltb (place_of pin (inputs ++ ws)) n ≡ false = le-ltb _ n (omega (arith, here)) in
-          let less : place_of pin (inputs ++ ws) - n ≡ place_of pin ws = omega (arith, here) in
-          rw (high, f) (ap (λ (k : ℕ). k ∷ gates_among n (map (λ w. place_of w (inputs ++ ws)) pins)) less ∙ ap (λ (ks : List ℕ). place_of pin ws ∷ ks) rest))
-    ]
-
--- each pin of each of these covers
-needs_each : (inputs ws : List (List ℕ)) (cs : List Unplaced) → AreKnown (inputs ++ ws) cs → map (gates_among (length inputs)) (map (pins_by (inputs ++ ws)) cs) ≡ map (λ c. gates_of inputs ws c.pins) cs
-needs_each inputs ws [] h = refl
-needs_each inputs ws (c ∷ cs) h =
-    ap (λ (k : List ℕ). k ∷ map (gates_among (length inputs)) (map (pins_by (inputs ++ ws)) cs)) (gates_same inputs ws c.pins h.0) ∙ ap (λ (ks : List (List ℕ)). gates_of inputs ws c.pins ∷ ks) (needs_each inputs ws cs h.1)
-
-pub needs_same : (inputs : List (List ℕ)) (cs : List Unplaced) → AreKnown (inputs ++ outs cs) cs → map (gates_among (length inputs)) (map (pins_by (inputs ++ outs cs)) cs) ≡ needs_of inputs cs
-needs_same inputs cs h = needs_each inputs (outs cs) cs h
+    ∙ ap (λ n. map (gate_at cs) (order.place (needs_of inputs cs) n [])) (sym (length-map cs (λ (u : NamedGate). waits_of inputs (outs cs) u.pins)))

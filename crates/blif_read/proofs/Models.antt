@@ -1,58 +1,42 @@
 -- The name of the model of lines without a fault.
-use Rattle.std.proofs.Common.{◌≡◌, ℕ, true, None, List, [], ◌∷◌, ◌++◌, refl, sym, ◌∙◌, inl, inr}
-use Rattle.std.specs.Prelude.{slice_index_or, codes}
-use Rattle.std.specs.List.{list_any, flat_map, AllByRecursion}
-use Rattle.std.proofs.lemmas.Bool.{cases_Bool, not-false}
+use Rattle.std.proofs.Common.{◌≡◌, true, None, List, [], ◌∷◌, ◌++◌, drop, refl, inl, inr}
+use Rattle.std.specs.Prelude.{filter, slice_index_or, codes}
+use Rattle.std.specs.List.{list_all, flat_map, AllByRecursion}
+use Rattle.std.proofs.lemmas.Bool.{cases_Bool}
+use Rattle.std.proofs.lemmas.List.Elements.{recursion_from_All}
+use Rattle.std.proofs.lemmas.List.Sums.{AllPass-from_list_all}
 use Rattle.ae_base.specs.Name.{is_name}
 use Rattle.ae_base.proofs.Distinct.{each-append}
+use Rattle.ae_lex.specs.First.{first_fault}
+use Rattle.ae_lex.specs.Heads.{Word, heads}
+use Rattle.ae_lex.specs.Reads.{words_of}
 use Rattle.ae_lex.specs.Words.{WordLine}
 use Rattle.blif_read.specs.declared.fault.NetLimits.{NetLimits}
-use Rattle.blif_read.specs.Statement.{Said, said}
-use Rattle.blif_read.specs.Statement.Said.{Model, Inputs, Outputs, Names, End, Unsupported, Unknown, Row}
-use Rattle.blif_read.specs.Earlier.{is_model, is_end, model_words}
-use Rattle.blif_read.specs.Step.{line_fault_in, seen_by, line_fault, first_fault, is_model_name, says_of}
-use Rattle.blif_read.specs.Lines.{model_of}
-use Rattle.blif_read.proofs.Sound.{first_none, line_none}
+use Rattle.blif_read.specs.Words.{is_name_under}
+use Rattle.blif_read.specs.Says.{faults, model_of}
+use Rattle.blif_read.proofs.Sound.{line_none, model_none}
 use Rattle.blif_read.proofs.Words.{name_under}
 
-abbrev AreNames : List (List ℕ) → Type 0
+abbrev AreNames : List Word → Type 0
 AreNames ws = AllByRecursion (λ w. is_name w ≡ true) ws
 
-no_more : (limits : NetLimits) (ws : List (List ℕ)) → is_model_name limits ws ≡ true → AreNames ws
-no_more limits [] h = tt
-no_more limits (w ∷ []) h = (name_under limits w h, tt)
-no_more limits (w ∷ v ∷ ws) h = absurd cc
+each_name : (limits : NetLimits) (ws : List Word) → list_all (is_name_under limits) ws ≡ true → AreNames ws
+each_name limits ws h = recursion_from_All (λ w. is_name w ≡ true) ws (λ k d lt. name_under limits _ (AllPass-from_list_all (is_name_under limits) ws h k d lt))
 
-model_fine : (limits : NetLimits) (before : List Said) (ws : List (List ℕ)) → line_fault limits before (Model ws) ≡ None → AreNames ws
-unfolding line_fault line_fault_in seen_by
-model_fine limits before ws h = elim (cases_Bool (list_any is_end before)) [
-  | inl t ↦ (let bad = rw t at h in absurd cc)
-  | inr f ↦
-      (let g = rw f at h in
-      let a = first_none (list_any is_model before) _ _ g in
-      no_more limits ws (not-false _ (first_none _ _ _ a.1).0))
-]
-
-line_fine : (limits : NetLimits) (before : List Said) (s : Said) → line_fault limits before s ≡ None → AreNames (model_words s)
-line_fine limits before (Model ws) h = model_fine limits before ws h
-line_fine limits before (Inputs ws) h = tt
-line_fine limits before (Outputs ws) h = tt
-line_fine limits before (Names ws) h = tt
-line_fine limits before End h = tt
-line_fine limits before Unsupported h = tt
-line_fine limits before Unknown h = tt
-line_fine limits before (Row r) h = tt
-
-models_fine : (limits : NetLimits) (done : List Said) (lines : List WordLine) → first_fault limits done lines ≡ None → AreNames (flat_map model_words (says_of lines))
+models_fine : (limits : NetLimits) (done : List (List Word)) (lines : List WordLine) → first_fault (faults limits) done lines ≡ None → AreNames (flat_map (drop 1) (filter (heads (codes ".model")) (words_of lines)))
 models_fine limits done [] h = tt
 models_fine limits done (line ∷ lines) h =
     let p = line_none limits done line lines h in
-    each-append (λ w. is_name w ≡ true) (model_words (said line.words)) (flat_map model_words (says_of lines)) (line_fine limits done (said line.words) p.0) (models_fine limits (done ++ said line.words ∷ []) lines p.1)
+    let rest = models_fine limits (done ++ line.words ∷ []) lines p.1 in
+    elim (cases_Bool (heads (codes ".model") line.words)) [
+      | inl t ↦ rw t (each-append (λ w. is_name w ≡ true) (drop 1 line.words) _ (each_name limits (drop 1 line.words) (model_none limits done line.words t p.0)) rest)
+      | inr f ↦ rw f rest
+    ]
 
-first_named : (ws : List (List ℕ)) → AreNames ws → is_name (slice_index_or ws 0 (codes "unnamed")) ≡ true
+first_named : (ws : List Word) → AreNames ws → is_name (slice_index_or ws 0 (codes "unnamed")) ≡ true
 first_named [] h = refl
 first_named (w ∷ ws) h = h.0
 
 -- the name of the model is a name, given or not
-pub model_named : (limits : NetLimits) (lines : List WordLine) → first_fault limits [] lines ≡ None → is_name (model_of (says_of lines)) ≡ true
-model_named limits lines h = first_named (flat_map model_words (says_of lines)) (models_fine limits [] lines h)
+pub model_named : (limits : NetLimits) (lines : List WordLine) → first_fault (faults limits) [] lines ≡ None → is_name (model_of (words_of lines)) ≡ true
+model_named limits lines h = first_named _ (models_fine limits [] lines h)

@@ -1,177 +1,130 @@
--- The network of gates in the order of placing.
-use Rattle.std.proofs.Common.{◌≡◌, ℕ, zero, suc, ◌+◌, ◌-◌, ◌<◌, ◌≤◌, Bool, true, false, ◌||◌, eqb, ltb, Option, Some, List, [], ◌∷◌, ◌++◌, length, map, get_or, take, All, refl, sym, ap, subst, ◌∙◌, arith, inl, inr, length-append}
-use Rattle.std.specs.Prelude.{bytes_eq, slice_get, is_none}
-use Rattle.std.specs.List.{list_all, position_or_len, AllByRecursion}
-use Rattle.std.proofs.lemmas.Bool.{cases_Bool, cases_lt, cond-true, cond-false, and_parts, lt-ltb}
-use Rattle.std.proofs.lemmas.List.{length-map, length-take, get_or-map, get_or_append_left, get_or-append_right}
-use Rattle.std.proofs.lemmas.List.Elements.{All-weaker, All-from_recursion}
-use Rattle.std.proofs.lemmas.List.Folds.{list_any-append}
+-- The network of gates that are placed.
+use Rattle.std.proofs.Common.{◌≡◌, ℕ, zero, suc, ◌+◌, ◌<◌, ◌≤◌, Bool, true, false, not, Some, List, [], ◌∷◌, ◌++◌, length, map, get_or, take, drop, All, refl, sym, ap, subst, ◌∙◌, arith, inl, inr, length-append, append_assoc}
+use Rattle.std.specs.Prelude.{slice_get}
+use Rattle.std.specs.List.{find, list_all, AllByRecursion}
+use Rattle.std.proofs.lemmas.Bool.{cases_Bool, cases_lt, cond-true, cond-false, and_parts, not-true}
+use Rattle.std.proofs.lemmas.List.{length-map, length_push, length-take-le, map-append, get_or-map, get_or_push, get_or_append_left, take_all, take-append-le, take-append-drop}
+use Rattle.std.proofs.lemmas.List.Elements.{All-append, All-weaker, All-from_recursion}
+use Rattle.std.proofs.lemmas.List.Folds.{list_any_none}
 use Rattle.ae_base.specs.Name.{is_name}
-use Rattle.ae_base.specs.declared.limits.TheConstants.{NET_LINES}
-use Rattle.ae_base.proofs.Sets.{has-where_below, has-first, has-inside}
-use Rattle.ae_net.specs.declared.net.Gate.{Gate}
+use Rattle.ae_base.specs.Twins.{is_among}
+use Rattle.ae_base.specs.declared.limits.TheConstants.{NET_LINES, GATES}
+use Rattle.ae_base.proofs.Apart.{distinct_append}
+use Rattle.ae_base.proofs.Distinct.{each-append}
+use Rattle.ae_lex.specs.Heads.{Word}
+use Rattle.ae_net.specs.Named.{NamedGate, place_of, net_of}
+use Rattle.ae_net.specs.Named.{gate_of as gate_in}
 use Rattle.ae_net.specs.Valid.{IsDistinct, IsRowOf, IsGate, IsValid}
 use Rattle.blif_read.specs.declared.fault.NetLimits.{NetLimits}
 use Rattle.blif_read.specs.declared.fault.NetLimits.TheVariants.{Source, Written}
 use Rattle.blif_read.specs.Words.{most_lines, is_name_under}
-use Rattle.ae_base.specs.Twins.{is_among}
-use Rattle.blif_read.specs.Placing.{Unplaced, outs}
-use Rattle.ae_net.specs.Named.{place_of}
-use Rattle.blif_read.specs.Lines.{row_cube, is_on}
-use Rattle.blif_read.proofs.Nets.{gate_in, net_in}
-use Rattle.blif_read.specs.Build.{rank_in}
+use Rattle.blif_read.specs.Limits.{KeepsLimits}
+use Rattle.blif_read.specs.Says.{outs, can_go, place}
 use Rattle.blif_read.proofs.Words.{name_under}
-use Rattle.ae_base.proofs.ReadBack.{cube_over}
-use Rattle.blif_read.proofs.Sound.{IsSound, apart_at}
-use Rattle.blif_read.proofs.Covers.{IsFit}
-use Rattle.blif_read.proofs.Tables.{place_of-append, place_within}
-use Rattle.blif_read.proofs.WrittenNames.{names_apart}
-use Rattle.blif_read.proofs.Places.{place_at, AllBelow}
-use Rattle.blif_read.proofs.Link.{gate_at, blank, out_at, AreKnown, known_at, gates_of, needs_of}
-use Rattle.blif_read.proofs.Placed.{AreRanks, place_ordered, rank_below, some_rank}
-use Rattle.blif_read.proofs.Ordered.{IsOrder, place_in_front}
-use Rattle.blif_order.specs.Order as by_place
+use Rattle.blif_read.proofs.Sound.{IsSound, distinct_push}
+use Rattle.blif_read.proofs.Gates.{IsFit}
+use Rattle.blif_read.proofs.Steps.{among_both}
+use Rattle.blif_read.proofs.Tables.{place_of-append}
+use Rattle.blif_read.proofs.Places.{place_at, place_bound}
+use Rattle.blif_read.proofs.Link.{blank, cases_Option, place_some, place_none}
 
--- ---- rows
+-- ---- gates that are placed
 
-row_of_pins : (k : ℕ) (r : List ℕ) → IsRowOf k (row_cube k r)
-row_of_pins k r =
-    let over = cube_over k (take k r) (omega (arith, length-take k r)) in
-    record { is_product = over.0; pos = over.1; neg = over.2 }
+-- a gate that can be one of a network with these inputs
+abbrev pub IsFine : NetLimits → List Word → NamedGate → Type 0
+IsFine limits i g = IsFit limits g × (is_among g.out i ≡ false)
 
-rows_of_pins : (k : ℕ) (rows : List (List ℕ)) → AllByRecursion (IsRowOf k) (map (row_cube k) rows)
-rows_of_pins k [] = tt
-rows_of_pins k (r ∷ rows) = (row_of_pins k r, rows_of_pins k rows)
+-- the pins of the gate at a place are inputs and gates before it
+abbrev IsReady : List Word → List NamedGate → ℕ → Type 0
+IsReady i gs k = list_all (λ pin. is_among pin (i ++ outs (take k gs))) (get_or gs k blank).pins ≡ true
 
-some_row : (rows : List (List ℕ)) → is_on rows ≡ false → 0 < length rows
-some_row [] h = absurd cc
-some_row (r ∷ rows) h = omega arith
+pub record ArePlaced (limits : NetLimits) (i : List Word) (gs : List NamedGate) : Type 0 where
+  pub apart : IsDistinct (outs gs)
+  pub fine : AllByRecursion (IsFine limits i) gs
+  pub ready : (k : ℕ) → k < length gs → IsReady i gs k
 
--- ---- what is known of the gates and their order
+placed_push : (limits : NetLimits) (i : List Word) (gs : List NamedGate) (g : NamedGate) → ArePlaced limits i gs → IsFine limits i g → can_go i gs g ≡ true → ArePlaced limits i (gs ++ g ∷ [])
+placed_push limits i gs g h fine go =
+    let p = and_parts (not (is_among g.out (outs gs))) (list_all (λ pin. is_among pin (i ++ outs gs)) g.pins) go in
+    record {
+      apart = subst (λ (ws : List Word). IsDistinct ws) (sym (map-append (λ (u : NamedGate). u.out) gs (g ∷ []))) (distinct_push (outs gs) g.out h.apart (not-true _ p.0));
+      fine = each-append (IsFine limits i) gs (g ∷ []) h.fine (fine, tt);
+      ready = λ k lt. elim (cases_lt k (length gs)) [
+        | inl before ↦
+            ap (λ (us : List NamedGate). list_all (λ pin. is_among pin (i ++ outs us)) (get_or (gs ++ g ∷ []) k blank).pins) (take-append-le k gs (g ∷ []) (omega arith))
+            ∙ ap (λ (u : NamedGate). list_all (λ pin. is_among pin (i ++ outs (take k gs))) u.pins) (get_or_append_left gs (g ∷ []) blank k before) ∙ h.ready k before
+        | inr last ↦
+            ap (λ (us : List NamedGate). list_all (λ pin. is_among pin (i ++ outs us)) (get_or (gs ++ g ∷ []) k blank).pins) (take-append-le k gs (g ∷ []) (omega (arith, lt, length_push gs g)) ∙ take_all k gs last)
+            ∙ ap (λ (u : NamedGate). list_all (λ pin. is_among pin (i ++ outs gs)) u.pins) (get_or_push gs g blank k (omega (arith, lt, last, length_push gs g))) ∙ p.1
+      ];
+    }
 
-pub record IsPlaced (limits : NetLimits) (i o : List (List ℕ)) (cs : List Unplaced) (order : List ℕ) (ranks : List (Option ℕ)) : Type 0 where
-  pub sound : IsSound limits i o (outs cs)
-  pub fit : AllByRecursion (IsFit limits) cs
-  pub known : AreKnown (i ++ outs cs) cs
-  pub shown : AllByRecursion (λ w. is_among w (i ++ outs cs) ≡ true) o
-  pub ranked : AreRanks cs order ranks
-  pub ordered : IsOrder (needs_of i cs) order
-  pub all : (g : ℕ) → g < length cs → is_none (rank_in order g) ≡ false
-  pub some_input : 0 < length i
-  pub some_output : 0 < length o
+found_is : (Q : NamedGate → Type 0) (p : NamedGate → Bool) (cs : List NamedGate) (g : NamedGate) → AllByRecursion Q cs → find p cs ≡ Some g → (p g ≡ true) × Q g
+found_is Q p [] g h e = absurd cc
+found_is Q p (c ∷ cs) g h e = elim (cases_Bool (p c)) [
+  | inl t ↦ (let same : Some c ≡ Some g = sym (cond-true (p c) (Some c) (find p cs) t) ∙ e in let is : c ≡ g = cc in subst (λ (u : NamedGate). (p u ≡ true) × Q u) is (t, h.0))
+  | inr f ↦ found_is Q p cs g h.1 (sym (cond-false (p c) (Some c) (find p cs) f) ∙ e)
+]
 
-abbrev pub in_order : List Unplaced → List ℕ → List Unplaced
-in_order cs order = map (gate_at cs) order
+pub are_placed : (limits : NetLimits) (i : List Word) (cs : List NamedGate) (n : ℕ) (done : List NamedGate) → AllByRecursion (IsFine limits i) cs → ArePlaced limits i done → ArePlaced limits i (place i cs n done) × (length (place i cs n done) ≤ length done + n)
+unfolding place
+are_placed limits i cs zero done fine h = (h, omega arith)
+are_placed limits i cs (suc n) done fine h = elim (cases_Option (find (can_go i done) cs)) [
+  | inl e ↦ rw (place_none i cs n done e) (h, omega arith)
+  | inr (g, e) ↦
+      (let one = found_is (IsFine limits i) (can_go i done) cs g fine e in
+      let rest = are_placed limits i cs n (done ++ g ∷ []) fine (placed_push limits i done g h one.1 one.0) in
+      rw (place_some i cs n done g e) (rest.0, omega (arith, rest.1, length_push done g)))
+]
+
+-- ---- the places of pins and outputs
+
+-- of names that are among the first the places are among the first
+pins_earlier : (front back pins : List Word) → list_all (λ pin. is_among pin front) pins ≡ true → AllByRecursion (λ s. s < length front) (map (λ pin. place_of pin (front ++ back)) pins)
+pins_earlier front back [] h = tt
+pins_earlier front back (pin ∷ pins) h =
+    let p = and_parts (is_among pin front) (list_all (λ w. is_among w front) pins) h in
+    (omega (arith, place_of-append pin front back ∙ cond-true _ _ _ p.0, place_bound pin front p.0), pins_earlier front back pins p.1)
+
+-- a gate's name among the inputs and the gates
+port_at : (i os : List Word) (w : Word) → is_among w i ≡ false → is_among w os ≡ true → (length i ≤ place_of w (i ++ os)) × (place_of w (i ++ os) < length i + length os) × (get_or (i ++ os) (place_of w (i ++ os)) [] ≡ w)
+port_at i os w f t =
+    let at : place_of w (i ++ os) ≡ length i + place_of w os = place_of-append w i os ∙ cond-false _ _ _ f in
+    (omega (arith, at), omega (arith, at, place_bound w os t), (place_at w (i ++ os) (among_both w i os ∙ rw (f, t) refl)).1)
+
+-- ---- the network
 
 pub few_lines : (limits : NetLimits) → most_lines limits ≤ NET_LINES
 few_lines Source = omega arith
 few_lines Written = omega arith
 
-fit_at : (limits : NetLimits) (cs : List Unplaced) (g : ℕ) → AllByRecursion (IsFit limits) cs → g < length cs → IsFit limits (gate_at cs g)
-fit_at limits cs g h lt = All-from_recursion (IsFit limits) cs h g blank lt
+-- what is known of the inputs, the outputs and the gates of a network
+pub record AreParts (limits : NetLimits) (i o d : List Word) (gs : List NamedGate) : Type 0 where
+  pub sound : IsSound limits i o d
+  pub placed : ArePlaced limits i gs
+  pub few : length gs ≤ GATES
+  pub shown : AllByRecursion (λ w. is_among w (outs gs) ≡ true) o
+  pub some_input : 0 < length i
+  pub some_output : 0 < length o
 
-below_at : (n : ℕ) (ss : List ℕ) (k : ℕ) → AllBelow n ss → k < length ss → get_or ss k 0 < n
-below_at n ss k h lt = All-from_recursion (λ s. s < n) ss h k 0 lt
-
--- the names of the gates in order
-outs_ordered : (cs : List Unplaced) (order : List ℕ) → outs (in_order cs order) ≡ map (λ g. (gate_at cs g).out) order
-outs_ordered cs [] = refl
-outs_ordered cs (g ∷ order) = ap (λ (ws : List (List ℕ)). (gate_at cs g).out ∷ ws) (outs_ordered cs order)
-
-pub out_of_gates : (names : List (List ℕ)) (cs : List Unplaced) → map (λ gate. gate.out) (map (gate_in names) cs) ≡ outs cs
-out_of_gates names [] = refl
-out_of_gates names (c ∷ cs) = ap (λ (ws : List (List ℕ)). c.out ∷ ws) (out_of_gates names cs)
-
-ordered_at : (cs : List Unplaced) (order : List ℕ) (k : ℕ) (d : List ℕ) → k < length order → get_or (outs (in_order cs order)) k d ≡ (gate_at cs (get_or order k 0)).out
-ordered_at cs order k d lt = ap (λ (ws : List (List ℕ)). get_or ws k d) (outs_ordered cs order) ∙ get_or-map (λ g. (gate_at cs g).out) order k 0 d lt
-
-size_ordered : (cs : List Unplaced) (order : List ℕ) → length (outs (in_order cs order)) ≡ length order
-size_ordered cs order = ap length (outs_ordered cs order) ∙ length-map order (λ g. (gate_at cs g).out)
-
--- ---- no name stands twice
-
-outs_distinct : (cs : List Unplaced) (order : List ℕ) → IsDistinct (outs cs) → AllBelow (length cs) order → IsDistinct order → IsDistinct (outs (in_order cs order))
-outs_distinct cs order apart below distinct = λ a b d lt in'.
-    let size = size_ordered cs order in
-    let total : length (outs cs) ≡ length cs = length-map cs (λ (c : Unplaced). c.out) in
-    let in-b : b < length order = omega arith in
-    let in-a : a < length order = omega arith in
-    let ga = below_at (length cs) order a below in-a in
-    let gb = below_at (length cs) order b below in-b in
-    λ e. names_apart (outs cs) (get_or order a 0) (get_or order b 0) apart (omega (arith, ga)) (omega (arith, gb)) (distinct a b 0 lt in-b)
-    (sym (out_at cs (get_or order a 0) ga) ∙ sym (ordered_at cs order a d in-a) ∙ e ∙ ordered_at cs order b d in-b ∙ out_at cs (get_or order b 0) gb)
-
--- two lists without equal names, of which none is among the other
-both_distinct : (xs ys : List (List ℕ)) → IsDistinct xs → IsDistinct ys → All (λ y. is_among y xs ≡ false) ys → IsDistinct (xs ++ ys)
-both_distinct xs ys hx hy new = λ a b d lt in'.
-    let size = length-append xs ys in
-    elim (cases_lt b (length xs)) [
-      | inl low ↦ (let in-a : a < length xs = omega arith in
-          λ e. hx a b d lt low (sym (get_or_append_left xs ys d a in-a) ∙ e ∙ get_or_append_left xs ys d b low))
-      | inr high ↦ elim (cases_lt a (length xs)) [
-        | inl low ↦
-            (let in-b : b - length xs < length ys = omega arith in
-            λ e. apart_at (get_or ys (b - length xs) d) xs a d (new (b - length xs) d in-b) low (sym (get_or_append_left xs ys d a low) ∙ e ∙ get_or-append_right xs ys (length xs) b d refl high))
-        | inr up ↦
-            (let in-b : b - length xs < length ys = omega arith in
-            λ e. hy (a - length xs) (b - length xs) d (omega arith) in-b (sym (get_or-append_right xs ys (length xs) a d refl up) ∙ e ∙ get_or-append_right xs ys (length xs) b d refl high))
-      ]
-    ]
-
--- what holds of each name holds of each in order
-pub ordered_each : (Q : List ℕ → Type 0) (cs : List Unplaced) (order : List ℕ) → AllBelow (length cs) order → All Q (outs cs) → All Q (outs (in_order cs order))
-ordered_each Q cs order below each = λ k d lt.
-    let size = size_ordered cs order in
-    let total : length (outs cs) ≡ length cs = length-map cs (λ (c : Unplaced). c.out) in
-    let in-k : k < length order = omega arith in
-    let g = below_at (length cs) order k below in-k in
-    subst Q (sym (ordered_at cs order k d in-k ∙ out_at cs (get_or order k 0) g)) (each (get_or order k 0) [] (omega (arith, g)))
-
--- ---- the place of a name in the network
-
--- of a known name that is no input
-gate_place : (i : List (List ℕ)) (cs : List Unplaced) (order : List ℕ) (w : List ℕ) → IsDistinct (outs cs) → AllBelow (length cs) order → is_among w (i ++ outs cs) ≡ true → is_among w i ≡ false
-    → (place_of w (outs cs) < length cs) × (place_of w (i ++ outs (in_order cs order)) ≡ length i + position_or_len (λ h. eqb h (place_of w (outs cs))) order)
-gate_place i cs order w apart below known f =
-    let gate : is_among w (outs cs) ≡ true = sym (ap (λ (b : Bool). b || is_among w (outs cs)) f) ∙ sym (list_any-append (bytes_eq w) i (outs cs)) ∙ known in
-    let at = place_at w (outs cs) gate in
-    let lt : place_of w (outs cs) < length cs = omega (arith, at.0, length-map cs (λ (c : Unplaced). c.out)) in
-    (lt, place_of-append w i (outs (in_order cs order)) ∙ cond-false _ _ _ f ∙ ap (λ n. length i + n) (place_ordered cs order w (place_of w (outs cs)) apart below lt at.1))
-
--- pins of a gate whose needs are among the first k
-pins_earlier : (i : List (List ℕ)) (cs : List Unplaced) (order : List ℕ) (k : ℕ) (pins : List (List ℕ)) → IsDistinct (outs cs) → AllBelow (length cs) order → AllByRecursion (λ pin. is_among pin (i ++ outs cs) ≡ true) pins
-    → list_all (by_place.is_placed (take k order)) (gates_of i (outs cs) pins) ≡ true → AllByRecursion (λ s. s < length i + k) (map (λ pin. place_of pin (i ++ outs (in_order cs order))) pins)
-pins_earlier i cs order k [] apart below known h = tt
-pins_earlier i cs order k (pin ∷ pins) apart below known h = elim (cases_Bool (is_among pin i)) [
-  | inl t ↦
-      (let rest : list_all (by_place.is_placed (take k order)) (gates_of i (outs cs) pins) ≡ true = sym (ap (list_all (by_place.is_placed (take k order))) (cond-true (is_among pin i) (gates_of i (outs cs) pins) (place_of pin (outs cs) ∷ gates_of i (outs cs) pins) t)) ∙ h in
-      let here : place_of pin (i ++ outs (in_order cs order)) ≡ place_of pin i = place_of-append pin i (outs (in_order cs order)) ∙ cond-true _ _ _ t in
-      (omega (arith, here, (place_at pin i t).0), pins_earlier i cs order k pins apart below known.1 rest))
-  | inr f ↦
-      (let both = sym (ap (list_all (by_place.is_placed (take k order))) (cond-false (is_among pin i) (gates_of i (outs cs) pins) (place_of pin (outs cs) ∷ gates_of i (outs cs) pins) f)) ∙ h in
-      let p = and_parts (by_place.is_placed (take k order) (place_of pin (outs cs))) (list_all (by_place.is_placed (take k order)) (gates_of i (outs cs) pins)) both in
-      let here = gate_place i cs order pin apart below known.0 f in
-      (omega (arith, here.1, place_in_front (λ h. eqb h (place_of pin (outs cs))) order k p.0), pins_earlier i cs order k pins apart below known.1 p.1))
-]
-
--- ---- gates
-
-gate_valid : (limits : NetLimits) (i o : List (List ℕ)) (cs : List Unplaced) (order : List ℕ) (ranks : List (Option ℕ)) → IsPlaced limits i o cs order ranks → (k : ℕ) → k < length order
-    → IsGate (length i + k) (gate_in (i ++ outs (in_order cs order)) (gate_at cs (get_or order k 0)))
-gate_valid limits i o cs order ranks h k lt =
-    let g = get_or order k 0 in
-    let c = gate_at cs g in
-    let in' : g < length cs = below_at (length cs) order k h.ranked.below lt in
-    let fit = fit_at limits cs g h.fit in' in
-    let waits : by_place.waits (needs_of i cs) g ≡ gates_of i (outs cs) c.pins = get_or-map (λ (u : Unplaced). gates_of i (outs cs) u.pins) cs g blank [] in' in
-    let pins = pins_earlier i cs order k c.pins h.sound.driven_apart h.ranked.below (known_at (i ++ outs cs) cs g h.known in') (ap (list_all (by_place.is_placed (take k order))) (sym waits) ∙ h.ordered.ready k lt) in
-    let size : length (map (λ pin. place_of pin (i ++ outs (in_order cs order))) c.pins) ≡ length c.pins = length-map c.pins (λ pin. place_of pin (i ++ outs (in_order cs order))) in
+gate_valid : (limits : NetLimits) (i : List Word) (gs : List NamedGate) (k : ℕ) → ArePlaced limits i gs → k < length gs → IsGate (length i + k) (gate_in (i ++ outs gs) (get_or gs k blank))
+gate_valid limits i gs k h lt =
+    let g = get_or gs k blank in
+    let fit = (All-from_recursion (IsFine limits i) gs h.fine k blank lt).0 in
+    let front = i ++ outs (take k gs) in
+    let names : front ++ outs (drop k gs) ≡ i ++ outs gs =
+    append_assoc i (outs (take k gs)) (outs (drop k gs)) ∙ ap (λ (ws : List Word). i ++ ws) (sym (map-append (λ (u : NamedGate). u.out) (take k gs) (drop k gs)) ∙ ap outs (take-append-drop k gs)) in
+    let long : length front ≡ length i + k = omega (arith, length-append i (outs (take k gs)), length-map (take k gs) (λ (u : NamedGate). u.out), length-take-le k gs (omega arith)) in
+    let early : AllByRecursion (λ s. s < length i + k) (map (λ pin. place_of pin (i ++ outs gs)) g.pins) =
+    subst (λ n. AllByRecursion (λ s. s < n) (map (λ pin. place_of pin (i ++ outs gs)) g.pins)) long
+    (subst (λ (ws : List Word). AllByRecursion (λ s. s < length front) (map (λ pin. place_of pin ws) g.pins)) names (pins_earlier front (outs (drop k gs)) g.pins (h.ready k lt))) in
+    let size : length (map (λ pin. place_of pin (i ++ outs gs)) g.pins) ≡ length g.pins = length-map g.pins (λ pin. place_of pin (i ++ outs gs)) in
     record {
-      earlier = All-from_recursion (λ s. s < length i + k) _ pins;
-      named = name_under limits c.out fit.out;
+      earlier = All-from_recursion (λ s. s < length i + k) _ early;
+      named = name_under limits g.out fit.out;
       few_pins = omega (arith, fit.few, size);
-      rows = All-from_recursion (IsRowOf (length (map (λ pin. place_of pin (i ++ outs (in_order cs order))) c.pins))) (map (row_cube (length c.pins)) c.rows) (subst (λ n. AllByRecursion (IsRowOf n) (map (row_cube (length c.pins)) c.rows)) (sym size) (rows_of_pins (length c.pins) c.rows));
-      off_row = λ off. omega (arith, some_row c.rows off, length-map c.rows (row_cube (length c.pins)));
+      rows = All-from_recursion (IsRowOf (length (map (λ pin. place_of pin (i ++ outs gs)) g.pins))) g.rows (subst (λ n. AllByRecursion (IsRowOf n) g.rows) (sym size) fit.rows);
+      off_row = fit.off_row;
     }
 
 get_map : {X Y : Type 0} (f : X → Y) (xs : List X) (k : ℕ) (d : X) (y : Y) → slice_get (map f xs) k ≡ Some y → (k < length xs) × (y ≡ f (get_or xs k d))
@@ -179,61 +132,56 @@ get_map f [] k d y h = absurd cc
 get_map f (x ∷ xs) zero d y h = (let e : f x ≡ y = cc in (omega arith, sym e))
 get_map f (x ∷ xs) (suc k) d y h = (let r = get_map f xs k d y h in (omega (arith, r.0), r.1))
 
-pub gates_ordered : (names : List (List ℕ)) (cs : List Unplaced) (order : List ℕ) → map (gate_in names) (in_order cs order) ≡ map (λ g. gate_in names (gate_at cs g)) order
-gates_ordered names cs [] = refl
-gates_ordered names cs (g ∷ order) = ap (λ (gs : List Gate). gate_in names (gate_at cs g) ∷ gs) (gates_ordered names cs order)
+out_of_gates : (names : List Word) (gs : List NamedGate) → map (λ gate. gate.out) (map (gate_in names) gs) ≡ outs gs
+out_of_gates names [] = refl
+out_of_gates names (g ∷ gs) = ap (λ (ws : List Word). g.out ∷ ws) (out_of_gates names gs)
 
--- ---- ports
+-- what holds of each gate's name
+outs_each : (Q : Word → Type 0) (R : NamedGate → Type 0) → ((g : NamedGate) → R g → Q g.out) → (gs : List NamedGate) → AllByRecursion R gs → All Q (outs gs)
+outs_each Q R f gs h = λ k d lt.
+    let in' : k < length gs = omega (arith, length-map gs (λ (g : NamedGate). g.out)) in
+    subst Q (sym (get_or-map (λ (g : NamedGate). g.out) gs k blank d in')) (f (get_or gs k blank) (All-from_recursion R gs h k blank in'))
 
-port_at : (limits : NetLimits) (i o : List (List ℕ)) (cs : List Unplaced) (order : List ℕ) (ranks : List (Option ℕ)) → IsPlaced limits i o cs order ranks → (w : List ℕ) → is_among w (i ++ outs cs) ≡ true → is_among w i ≡ false
-    → (length i ≤ place_of w (i ++ outs (in_order cs order))) × (place_of w (i ++ outs (in_order cs order)) < length i + length order) × (get_or (i ++ outs (in_order cs order)) (place_of w (i ++ outs (in_order cs order))) [] ≡ w)
-port_at limits i o cs order ranks h w known f =
-    let at = gate_place i cs order w h.sound.driven_apart h.ranked.below known f in
-    let g = place_of w (outs cs) in
-    let r = some_rank (rank_in order g) (h.all g at.0) in
-    let q = rank_below order g r.0 r.1 in
-    let inside : place_of w (i ++ outs (in_order cs order)) < length (i ++ outs (in_order cs order)) = omega (arith, at.1, q.0, q.1, length-append i (outs (in_order cs order)), size_ordered cs order) in
-    (omega (arith, at.1), omega (arith, at.1, q.0, q.1), (place_at w (i ++ outs (in_order cs order)) (sym (place_within w (i ++ outs (in_order cs order))) ∙ lt-ltb _ _ inside)).1)
-
-shown_at : (known o : List (List ℕ)) (k : ℕ) (d : List ℕ) → AllByRecursion (λ w. is_among w known ≡ true) o → k < length o → is_among (get_or o k d) known ≡ true
-shown_at known [] k d h lt = absurd (omega arith)
-shown_at known (w ∷ o) zero d h lt = h.0
-shown_at known (w ∷ o) (suc k) d h lt = shown_at known o k d h.1 (omega arith)
-
--- ---- the network
-
-pub is_valid : (limits : NetLimits) (model : List ℕ) (i o : List (List ℕ)) (cs : List Unplaced) (order : List ℕ) (ranks : List (Option ℕ)) → is_name model ≡ true → IsPlaced limits i o cs order ranks
-    → IsValid (net_in model i o (in_order cs order))
-is_valid limits model i o cs order ranks m h =
-    let names = i ++ outs (in_order cs order) in
-    let port : List ℕ → ℕ = λ w. place_of w names in
+pub is_valid : (limits : NetLimits) (model : Word) (i o d : List Word) (gs : List NamedGate) → is_name model ≡ true → AreParts limits i o d gs → IsValid (net_of model i o gs)
+unfolding net_of
+is_valid limits model i o d gs m h =
+    let names = i ++ outs gs in
+    let port : Word → ℕ = λ w. place_of w names in
     let few = few_lines limits in
-    let total : length (outs cs) ≡ length cs = length-map cs (λ (c : Unplaced). c.out) in
-    let gates = gates_ordered names cs order in
-    let size : length (map (gate_in names) (in_order cs order)) ≡ length order = ap length gates ∙ length-map order (λ g. gate_in names (gate_at cs g)) in
+    let total : length (outs gs) ≡ length gs = length-map gs (λ (g : NamedGate). g.out) in
+    let size : length (map (gate_in names) gs) ≡ length gs = length-map gs (gate_in names) in
     let ports : length (map port o) ≡ length o = length-map o port in
-    let port_of = λ (k : ℕ) (lt : k < length o). port_at limits i o cs order ranks h (get_or o k []) (shown_at (i ++ outs cs) o k [] h.shown lt) (h.sound.outputs_new k [] lt) in
+    let port_of = λ (k : ℕ) (lt : k < length o). port_at i (outs gs) (get_or o k []) (h.sound.outputs_new k [] lt) (All-from_recursion (λ w. is_among w (outs gs) ≡ true) o h.shown k [] lt) in
     record {
       model_named = m;
-      inputs_named = All-weaker (λ w. is_name_under limits w ≡ true) (λ w. is_name w ≡ true) (name_under limits) i h.sound.inputs_named;
+      inputs_named = All-weaker (λ w. is_name_under limits w ≡ true) (λ w. is_name w ≡ true) (name_under limits) i h.sound.inputs.named;
       some_input = h.some_input;
-      few_inputs = omega (arith, h.sound.few_inputs, few);
-      names = subst (λ (ws : List (List ℕ)). IsDistinct (i ++ ws)) (sym (out_of_gates names (in_order cs order)))
-          (both_distinct i (outs (in_order cs order)) h.sound.inputs_apart (outs_distinct cs order h.sound.driven_apart h.ranked.below h.ordered.distinct) (ordered_each (λ w. is_among w i ≡ false) cs order h.ranked.below h.sound.driven_new));
-      few_gates = omega (arith, size, h.ranked.short, h.sound.few_gates, total);
-      gates = λ k gate at.
-          let got = get_map (λ g. gate_in names (gate_at cs g)) order k 0 gate (sym (ap (λ (gs : List Gate). slice_get gs k) gates) ∙ at) in
-          subst (IsGate (length i + k)) (sym got.1) (gate_valid limits i o cs order ranks h k got.0);
+      few_inputs = omega (arith, h.sound.inputs.few, few);
+      names = subst (λ (ws : List Word). IsDistinct (i ++ ws)) (sym (out_of_gates names gs))
+          (distinct_append i (outs gs) h.sound.inputs.apart h.placed.apart (list_any_none (λ w. is_among w i) (outs gs) (outs_each (λ w. is_among w i ≡ false) (IsFine limits i) (λ g f. f.1) gs h.placed.fine)));
+      few_gates = omega (arith, size, h.few);
+      gates = λ k gate at. let got = get_map (gate_in names) gs k blank gate at in subst (IsGate (length i + k)) (sym got.1) (gate_valid limits i gs k h.placed got.0);
       some_output = omega (arith, ports, h.some_output);
-      few_outputs = omega (arith, ports, h.sound.few_outputs, few);
+      few_outputs = omega (arith, ports, h.sound.outputs.few, few);
       ports = λ k d lt.
           let in' : k < length o = omega (arith, ports) in
           let e : get_or (map port o) k d ≡ port (get_or o k []) = get_or-map port o k [] d in' in
           let p = port_of k in' in
-          (omega (arith, e, p.0), omega (arith, e, p.1, size));
+          (omega (arith, e, p.0), omega (arith, e, p.1, size, total));
       other_ports = λ a b d lt in'.
           let in-b : b < length o = omega (arith, ports) in
           let in-a : a < length o = omega arith in
-          λ e. h.sound.outputs_apart a b [] lt in-b
+          λ e. h.sound.outputs.apart a b [] lt in-b
           (sym (port_of a in-a).2 ∙ ap (λ s. get_or names s []) (sym (get_or-map port o a [] d in-a) ∙ e ∙ get_or-map port o b [] d in-b) ∙ (port_of b in-b).2);
+    }
+
+pub within : (limits : NetLimits) (model : Word) (i o d : List Word) (gs : List NamedGate) → AreParts limits i o d gs → KeepsLimits limits (net_of model i o gs)
+unfolding net_of
+within limits model i o d gs h =
+    let names = i ++ outs gs in
+    let Q : Word → Type 0 = λ w. is_name_under limits w ≡ true in
+    record {
+      few_inputs = h.sound.inputs.few;
+      few_outputs = omega (arith, length-map o (λ w. place_of w names), h.sound.outputs.few);
+      named = subst (λ (ws : List Word). All Q (i ++ ws)) (sym (out_of_gates names gs)) (All-append Q i (outs gs) h.sound.inputs.named (outs_each Q (IsFine limits i) (λ g f. f.0.out) gs h.placed.fine));
     }

@@ -1,9 +1,11 @@
 -- The places of gates in an order.
-use Rattle.std.proofs.Common.{◌≡◌, ℕ, suc, ◌+◌, ◌-◌, ◌<◌, Bool, true, false, cond, eqb, ltb, List, [], ◌∷◌, ◌++◌, length, get_or, take, Option, Some, None, refl, sym, ap, ◌∙◌, arith, inl, inr}
+use Rattle.std.proofs.Common.{◌≡◌, ℕ, suc, ◌+◌, ◌-◌, ◌<◌, Bool, true, false, not, cond, eqb, ltb, List, [], ◌∷◌, ◌++◌, length, get_or, take, Some, None, refl, sym, ap, ◌∙◌, arith, inl, inr}
 use Rattle.std.specs.List.{list_any, position_or_len}
 use Rattle.std.specs.Option.{option_or}
-use Rattle.std.proofs.lemmas.Bool.{cases_lt, lt-ltb, le-ltb, cases_Bool}
-use Rattle.std.proofs.lemmas.List.{take_more, length-take-le}
+use Rattle.std.proofs.lemmas.Bool.{cases_lt, lt-ltb, le-ltb, cases_Bool, eqb-true, eqb-false}
+use Rattle.std.proofs.lemmas.List.{take_more, length-take-le, length_push}
+use Rattle.std.proofs.lemmas.List.Folds.{position_or_len_push}
+use Rattle.std.proofs.lemmas.List.Sums.{prefix_len-le-length}
 use Rattle.blif_read.specs.Build.{rank_in, gates_among}
 
 ltb_suc : (a b : ℕ) → ltb (1 + a) (suc b) ≡ ltb a b
@@ -20,36 +22,24 @@ any_within p (x ∷ xs) = elim (cases_Bool (p x)) [
   | inr f ↦ rw f (ltb_suc (position_or_len p xs) (length xs) ∙ any_within p xs)
 ]
 
--- the place of a gate, one gate further on
-abbrev pub next_rank : Option ℕ → Option ℕ
-next_rank None = None
-next_rank (Some n) = Some (1 + n)
+rank_push : (order : List ℕ) (h g : ℕ) → rank_in (order ++ h ∷ []) g ≡ option_or (rank_in order g) (cond (eqb h g) (Some (length order)) None)
+rank_push order h g = at (eqb n (length order)) refl
+  where
+    n : ℕ
+    n = position_or_len (λ x. eqb x g) order
 
-pub rank_cons : (h : ℕ) (order : List ℕ) (g : ℕ) → rank_in (h ∷ order) g ≡ cond (eqb h g) (Some 0) (next_rank (rank_in order g))
-rank_cons h order g = elim (cases_Bool (eqb h g)) [
-  | inl t ↦ rw (t, lt-ltb 0 (suc (length order)) (omega arith)) refl
-  | inr f ↦ rw (f, ltb_suc (position_or_len (λ x. eqb x g) order) (length order)) (pick (ltb (position_or_len (λ x. eqb x g) order) (length order)) (position_or_len (λ x. eqb x g) order))
-]
-  where
-    pick : (b : Bool) (n : ℕ) → cond b (Some (1 + n)) None ≡ next_rank (cond b (Some n) None)
-    pick true n = refl
-    pick false n = refl
+    long : length (order ++ h ∷ []) ≡ length order + 1
+    long = omega (arith, length_push order h)
 
-pub rank_push : (order : List ℕ) (h g : ℕ) → rank_in (order ++ h ∷ []) g ≡ option_or (rank_in order g) (cond (eqb h g) (Some (length order)) None)
-rank_push [] h g = rank_cons h [] g ∙ pick (eqb h g)
-  where
-    pick : (b : Bool) → cond b (Some 0) (next_rank None) ≡ cond b (Some 0) None
-    pick true = refl
-    pick false = refl
-rank_push (x ∷ order) h g =
-    rank_cons x (order ++ h ∷ []) g ∙ ap (λ (o : Option ℕ). cond (eqb x g) (Some 0) (next_rank o)) (rank_push order h g)
-    ∙ pick (eqb x g) (eqb h g) (rank_in order g) (length order) ∙ ap (λ (o : Option ℕ). option_or o (cond (eqb h g) (Some (suc (length order))) None)) (sym (rank_cons x order g))
-  where
-    pick : (a b : Bool) (o : Option ℕ) (n : ℕ) → cond a (Some 0) (next_rank (option_or o (cond b (Some n) None))) ≡ option_or (cond a (Some 0) (next_rank o)) (cond b (Some (suc n)) None)
-    pick true b o n = refl
-    pick false true None n = ap (λ (m : ℕ). Some m) (omega arith)
-    pick false false None n = refl
-    pick false b (Some m) n = refl
+    at : (b : Bool) → eqb n (length order) ≡ b → rank_in (order ++ h ∷ []) g ≡ option_or (rank_in order g) (cond (eqb h g) (Some (length order)) None)
+    at true e = rw (position_or_len_push (λ x. eqb x g) order h, e, long, le-ltb n (length order) (omega (arith, eqb-true n (length order) e))) (last (eqb h g))
+      where
+        last : (b : Bool) → cond (ltb (length order + cond b 0 1) (length order + 1)) (Some (length order + cond b 0 1)) None ≡ cond b (Some (length order)) None
+        last true = rw (lt-ltb (length order + 0) (length order + 1) (omega arith)) (ap (λ (k : ℕ). Some k) (omega arith))
+        last false = rw (le-ltb (length order + 1) (length order + 1) (omega arith)) refl
+    at false e =
+        (let lt : n < length order = omega (arith, prefix_len-le-length (λ x. not (eqb x g)) order, eqb-false n (length order) e) in
+        rw (position_or_len_push (λ x. eqb x g) order h, e, long, lt-ltb n (length order) lt, lt-ltb n (length order + 1) (omega (arith, lt))) refl)
 
 pub rank_more : (order : List ℕ) (i g : ℕ) → i < length order → rank_in (take (i + 1) order) g ≡ option_or (rank_in (take i order) g) (cond (eqb (get_or order i 0) g) (Some i) None)
 rank_more order i g lt =

@@ -1,14 +1,19 @@
 -- What is true of what lines without a fault say.
-use Rattle.std.proofs.Common.{◌≡◌, ◌≢◌, ℕ, ◌-◌, ◌<◌, ◌≤◌, Bool, true, false, not, cond, eqb, ltb, leb, ◌||◌, List, [], ◌∷◌, ◌++◌, length, get_or, Option, Some, None, All, refl, sym, ap, subst, ◌∙◌, arith, length-append, append_assoc, append-nil}
+use Rattle.std.proofs.Common.{◌≡◌, ◌≢◌, ℕ, ◌-◌, ◌<◌, ◌≤◌, true, false, not, eqb, ltb, leb, ◌||◌, List, [], ◌∷◌, ◌++◌, length, get_or, drop, codes, Option, Some, None, All, refl, sym, ap, subst, ◌∙◌, arith, length-append, append_assoc, append-nil}
 use Rattle.std.specs.Prelude.{bytes_eq}
-use Rattle.std.specs.List.{list_all}
+use Rattle.std.specs.List.{list_any, list_all, AllByRecursion}
 use Rattle.std.specs.Option.{option_or}
 use Rattle.std.proofs.lemmas.Bool.{both_ways, or_from, or_parts, not-false, leb-false, ltb-false, eqb-false}
 use Rattle.std.proofs.lemmas.List.Elements.{All-push}
 use Rattle.std.proofs.lemmas.List.Quantifiers.{all_pairs_push}
 use Rattle.std.proofs.lemmas.List.Folds.{list_any-append, list_any_at}
+use Rattle.std.proofs.lemmas.Slice.Eq.{bytes_eq-Decides}
 use Rattle.ae_base.specs.declared.limits.TheConstants.{PINS, GATES}
 use Rattle.ae_base.proofs.Results.{or_none}
+use Rattle.ae_base.proofs.Heads.{by_heads}
+use Rattle.ae_lex.specs.First.{first_of, first_fault, at_line}
+use Rattle.ae_lex.specs.Heads.{Word, heads}
+use Rattle.ae_lex.specs.Reads.{words_of}
 use Rattle.ae_lex.specs.Words.{WordLine}
 use Rattle.ae_net.specs.Valid.{IsDistinct}
 use Rattle.blif_read.specs.declared.fault.NetLimits.{NetLimits}
@@ -16,13 +21,13 @@ use Rattle.blif_read.specs.declared.fault.BlifFault.{BlifFault}
 use Rattle.blif_read.specs.declared.seen.Seen.{Seen}
 use Rattle.blif_read.specs.Words.{most_lines, is_name_under, gate_name}
 use Rattle.ae_base.specs.Twins.{is_among}
-use Rattle.blif_read.specs.Statement.{Said, said}
-use Rattle.blif_read.specs.Statement.Said.{Model, Inputs, Outputs, Names, End, Unsupported, Unknown, Row}
-use Rattle.blif_read.specs.Faults.{declared_fault, word_fault, names_fault}
 use Rattle.blif_read.specs.declared.fault.BlifFault.TheVariants as fault
-use Rattle.blif_read.specs.Step.{line_fault, first_fault, seen_by, says_of, line_fault_in, with_line}
-use Rattle.blif_read.proofs.Steps.{fault_same, seen_push}
-use Rattle.blif_read.proofs.WrittenNames.{bytes_apart, bytes_same}
+use Rattle.blif_read.specs.Seen as spec
+use Rattle.blif_read.specs.Seen.{names_faults, faults_in, with_end, with_line}
+use Rattle.blif_read.specs.Says.{inputs_of, gates_of, outs, declared_faults, faults}
+use Rattle.blif_read.proofs.Steps.{headers, first_none, among_both, declared_more, faults_same, seen_push}
+use Rattle.ae_base.proofs.Apart.{bytes_apart}
+use Rattle.blif_read.proofs.WrittenNames.{bytes_same}
 use Rattle.blif_read.proofs.Words.{gate_is_name}
 
 -- ---- names in a list
@@ -39,76 +44,74 @@ still_new w i vs f h = λ k d lt.
     let v = get_or vs k d in
     list_any-append (bytes_eq v) i (w ∷ []) ∙ or_from (is_among v i) (bytes_eq v w || false) (h k d lt) (or_from (bytes_eq v w) false (bytes_apart v w (apart_at w vs k d f lt)) refl)
 
--- ---- faults
-
-pub first_none : {X : Type 0} (b : Bool) (f : X) (rest : Option X) → cond b (Some f) rest ≡ None → (b ≡ false) × (rest ≡ None)
-first_none true f rest h = absurd cc
-first_none false f rest h = (refl, h)
-
 -- ---- what is sound
 
-pub record IsSound (limits : NetLimits) (inputs outputs driven : List (List ℕ)) : Type 0 where
-  pub inputs_named : All (λ w. is_name_under limits w ≡ true) inputs
-  pub driven_named : All (λ w. is_name_under limits w ≡ true) driven
-  pub few_inputs : length inputs ≤ most_lines limits
-  pub few_outputs : length outputs ≤ most_lines limits
-  pub few_gates : length driven ≤ GATES
-  pub inputs_apart : IsDistinct inputs
-  pub outputs_apart : IsDistinct outputs
-  pub driven_apart : IsDistinct driven
-  pub driven_new : All (λ w. is_among w inputs ≡ false) driven
-  pub outputs_new : All (λ w. is_among w inputs ≡ false) outputs
+-- at most so many names, all different
+pub record AreLabels (limits : NetLimits) (most : ℕ) (names : List Word) : Type 0 where
+  pub named : All (λ w. is_name_under limits w ≡ true) names
+  pub few : length names ≤ most
+  pub apart : IsDistinct names
 
-input_sound : (limits : NetLimits) (i o d : List (List ℕ)) (w : List ℕ) → IsSound limits i o d → declared_fault limits fault.TooManyInputs o d i w ≡ None → IsSound limits (i ++ w ∷ []) o d
-input_sound limits i o d w s h =
+no_labels : (limits : NetLimits) (most : ℕ) → AreLabels limits most []
+no_labels limits most = record { named = λ k d lt. absurd (omega arith); few = omega arith; apart = λ i j d lt in'. absurd (omega arith) }
+
+one_label : (limits : NetLimits) (most : ℕ) (names : List Word) (w : Word) → AreLabels limits most names → is_name_under limits w ≡ true → is_among w names ≡ false → leb most (length names) ≡ false → AreLabels limits most (names ++ w ∷ [])
+one_label limits most names w h named fresh room = record {
+  named = All-push (λ v. is_name_under limits v ≡ true) names w h.named named;
+  few = omega (arith, leb-false most (length names) room, length-append names (w ∷ []));
+  apart = distinct_push names w h.apart fresh;
+}
+
+pub record IsSound (limits : NetLimits) (i o d : List Word) : Type 0 where
+  pub inputs : AreLabels limits (most_lines limits) i
+  pub outputs : AreLabels limits (most_lines limits) o
+  pub driven : AreLabels limits GATES d
+  pub driven_new : All (λ w. is_among w i ≡ false) d
+  pub outputs_new : All (λ w. is_among w i ≡ false) o
+
+-- a name that is declared without a fault
+record IsDeclared (limits : NetLimits) (others gates before : List Word) (w : Word) : Type 0 where
+  named : is_name_under limits w ≡ true
+  fresh : is_among w before ≡ false
+  other : is_among w others ≡ false
+  free : is_among w gates ≡ false
+  room : leb (most_lines limits) (length before) ≡ false
+
+declared_one : (limits : NetLimits) (many : BlifFault) (others gates before : List Word) (w : Word) → first_of (declared_faults limits many others gates before (w ∷ [])) ≡ None → IsDeclared limits others gates before w
+declared_one limits many others gates before w h =
     let a = first_none (not (is_name_under limits w)) _ _ h in
-    let b = first_none (is_among w i) _ _ a.1 in
-    let c = first_none (is_among w o) _ _ b.1 in
-    let e = first_none (is_among w d) _ _ c.1 in
-    let f = first_none _ _ _ e.1 in
-    record {
-      inputs_named = All-push (λ v. is_name_under limits v ≡ true) i w s.inputs_named (not-false _ a.0);
-      driven_named = s.driven_named;
-      few_inputs = omega (arith, leb-false (most_lines limits) (length i) f.0, length-append i (w ∷ []));
-      few_outputs = s.few_outputs;
-      few_gates = s.few_gates;
-      inputs_apart = distinct_push i w s.inputs_apart b.0;
-      outputs_apart = s.outputs_apart;
-      driven_apart = s.driven_apart;
-      driven_new = still_new w i d e.0 s.driven_new;
-      outputs_new = still_new w i o c.0 s.outputs_new;
-    }
+    let b = first_none (is_among w before) _ _ a.1 in
+    let c = first_none (is_among w others) _ _ b.1 in
+    let e = first_none (is_among w gates) _ _ c.1 in
+    record { named = not-false _ a.0; fresh = b.0; other = c.0; free = e.0; room = (first_none _ _ _ e.1).0 }
 
-inputs_sound : (limits : NetLimits) (i o d ws : List (List ℕ)) → IsSound limits i o d → word_fault (declared_fault limits fault.TooManyInputs o d) i ws ≡ None → IsSound limits (i ++ ws) o d
-inputs_sound limits i o d [] s h = subst (λ (xs : List (List ℕ)). IsSound limits xs o d) (sym (append-nil i)) s
+inputs_sound : (limits : NetLimits) (i o d ws : List Word) → IsSound limits i o d → first_of (declared_faults limits fault.TooManyInputs o d i ws) ≡ None → IsSound limits (i ++ ws) o d
+inputs_sound limits i o d [] s h = subst (λ (xs : List Word). IsSound limits xs o d) (sym (append-nil i)) s
 inputs_sound limits i o d (w ∷ ws) s h =
-    let p = or_none (declared_fault limits fault.TooManyInputs o d i w) (word_fault (declared_fault limits fault.TooManyInputs o d) (i ++ w ∷ []) ws) h in
-    subst (λ (xs : List (List ℕ)). IsSound limits xs o d) (append_assoc i (w ∷ []) ws) (inputs_sound limits (i ++ w ∷ []) o d ws (input_sound limits i o d w s p.0) p.1)
+    let p = or_none _ _ (sym (declared_more limits fault.TooManyInputs o d i w ws) ∙ h) in
+    let one = declared_one limits fault.TooManyInputs o d i w p.0 in
+    let next : IsSound limits (i ++ w ∷ []) o d = record {
+      inputs = one_label limits (most_lines limits) i w s.inputs one.named one.fresh one.room;
+      outputs = s.outputs;
+      driven = s.driven;
+      driven_new = still_new w i d one.free s.driven_new;
+      outputs_new = still_new w i o one.other s.outputs_new;
+    } in
+    subst (λ (xs : List Word). IsSound limits xs o d) (append_assoc i (w ∷ []) ws) (inputs_sound limits (i ++ w ∷ []) o d ws next p.1)
 
-output_sound : (limits : NetLimits) (i o d : List (List ℕ)) (w : List ℕ) → IsSound limits i o d → declared_fault limits fault.TooManyOutputs i [] o w ≡ None → IsSound limits i (o ++ w ∷ []) d
-output_sound limits i o d w s h =
-    let a = first_none (not (is_name_under limits w)) _ _ h in
-    let b = first_none (is_among w o) _ _ a.1 in
-    let c = first_none (is_among w i) _ _ b.1 in
-    let f = first_none _ _ _ c.1 in
-    record {
-      inputs_named = s.inputs_named;
-      driven_named = s.driven_named;
-      few_inputs = s.few_inputs;
-      few_outputs = omega (arith, leb-false (most_lines limits) (length o) f.0, length-append o (w ∷ []));
-      few_gates = s.few_gates;
-      inputs_apart = s.inputs_apart;
-      outputs_apart = distinct_push o w s.outputs_apart b.0;
-      driven_apart = s.driven_apart;
-      driven_new = s.driven_new;
-      outputs_new = All-push (λ v. is_among v i ≡ false) o w s.outputs_new c.0;
-    }
-
-outputs_sound : (limits : NetLimits) (i o d ws : List (List ℕ)) → IsSound limits i o d → word_fault (declared_fault limits fault.TooManyOutputs i []) o ws ≡ None → IsSound limits i (o ++ ws) d
-outputs_sound limits i o d [] s h = subst (λ (xs : List (List ℕ)). IsSound limits i xs d) (sym (append-nil o)) s
+outputs_sound : (limits : NetLimits) (i o d ws : List Word) → IsSound limits i o d → first_of (declared_faults limits fault.TooManyOutputs i [] o ws) ≡ None → IsSound limits i (o ++ ws) d
+outputs_sound limits i o d [] s h = subst (λ (xs : List Word). IsSound limits i xs d) (sym (append-nil o)) s
 outputs_sound limits i o d (w ∷ ws) s h =
-    let p = or_none (declared_fault limits fault.TooManyOutputs i [] o w) (word_fault (declared_fault limits fault.TooManyOutputs i []) (o ++ w ∷ []) ws) h in
-    subst (λ (xs : List (List ℕ)). IsSound limits i xs d) (append_assoc o (w ∷ []) ws) (outputs_sound limits i (o ++ w ∷ []) d ws (output_sound limits i o d w s p.0) p.1)
+    let p = or_none _ _ (sym (declared_more limits fault.TooManyOutputs i [] o w ws) ∙ h) in
+    let one = declared_one limits fault.TooManyOutputs i [] o w p.0 in
+    let next : IsSound limits i (o ++ w ∷ []) d = record {
+      inputs = s.inputs;
+      outputs = one_label limits (most_lines limits) o w s.outputs one.named one.fresh one.room;
+      driven = s.driven;
+      driven_new = s.driven_new;
+      outputs_new = All-push (λ v. is_among v i ≡ false) o w s.outputs_new one.other;
+    } in
+    subst (λ (xs : List Word). IsSound limits i xs d) (append_assoc o (w ∷ []) ws) (outputs_sound limits i (o ++ w ∷ []) d ws next p.1)
 
 -- of `.names` without a fault: it has a word, all are names, and it has not too many pins
 pub record AreGateWords (limits : NetLimits) (ws : List (List ℕ)) : Type 0 where
@@ -117,7 +120,7 @@ pub record AreGateWords (limits : NetLimits) (ws : List (List ℕ)) : Type 0 whe
   pub out : is_name_under limits (gate_name ws) ≡ true
   pub few : length ws - 1 ≤ PINS
 
-pub gate_words : (limits : NetLimits) (i d ws : List (List ℕ)) → names_fault limits i d ws ≡ None → AreGateWords limits ws
+pub gate_words : (limits : NetLimits) (i d ws : List (List ℕ)) → first_of (names_faults limits i d ws) ≡ None → AreGateWords limits ws
 gate_words limits i d ws h =
     let a = first_none _ _ _ h in
     let p = or_parts _ _ a.0 in
@@ -131,85 +134,82 @@ gate_words limits i d ws h =
       few = ltb-false PINS (length ws - 1) b.0;
     }
 
-gate_sound : (limits : NetLimits) (i o d ws : List (List ℕ)) → IsSound limits i o d → names_fault limits i d ws ≡ None → IsSound limits i o (d ++ gate_name ws ∷ [])
+headed : (h : Word) (line : List Word) → bytes_eq [] h ≡ false → heads h line ≡ true → h ∷ drop 1 line ≡ line
+headed h [] empty e = absurd (both_ways _ empty e)
+headed h (w ∷ ws) empty e = ap (λ (v : Word). v ∷ ws) (sym ((bytes_eq-Decides w h).0 e))
+
+names_at : (limits : NetLimits) (done : List (List Word)) (ws : List Word) → first_of (faults limits done (codes ".names" ∷ ws)) ≡ None → first_of (names_faults limits (inputs_of done) (outs (gates_of done)) ws) ≡ None
+unfolding faults
+names_at limits done ws h = (first_none (list_any (heads (codes ".end")) done) _ _ h).1
+
+-- the words after a `.names`, and those after a `.model`, in a line without a fault
+pub names_none : (limits : NetLimits) (done : List (List Word)) (line : List Word) → heads (codes ".names") line ≡ true → first_of (faults limits done line) ≡ None
+    → first_of (names_faults limits (inputs_of done) (outs (gates_of done)) (drop 1 line)) ≡ None
+names_none limits done line e h = names_at limits done (drop 1 line) (ap (λ (l : List Word). first_of (faults limits done l)) (headed (codes ".names") line refl e) ∙ h)
+
+model_at : (limits : NetLimits) (done : List (List Word)) (ws : List Word) → first_of (faults limits done (codes ".model" ∷ ws)) ≡ None → list_all (is_name_under limits) ws ≡ true
+unfolding faults
+model_at limits done ws h = not-false _ (or_parts (ltb 1 (length ws)) _ (first_none _ _ _ (first_none (list_any (heads (codes ".end")) done || list_any (heads (codes ".model")) done) _ _ h).1).0).1
+
+pub model_none : (limits : NetLimits) (done : List (List Word)) (line : List Word) → heads (codes ".model") line ≡ true → first_of (faults limits done line) ≡ None → list_all (is_name_under limits) (drop 1 line) ≡ true
+model_none limits done line e h = model_at limits done (drop 1 line) (ap (λ (l : List Word). first_of (faults limits done l)) (headed (codes ".model") line refl e) ∙ h)
+
+gate_sound : (limits : NetLimits) (i o d ws : List Word) → IsSound limits i o d → first_of (names_faults limits i d ws) ≡ None → IsSound limits i o (d ++ gate_name ws ∷ [])
 gate_sound limits i o d ws s h =
     let a = first_none (eqb (length ws) 0 || not (list_all (is_name_under limits) ws)) _ _ h in
     let b = first_none (ltb PINS (length ws - 1)) _ _ a.1 in
     let c = first_none (leb GATES (length d)) _ _ b.1 in
-    let e = first_none (is_among (gate_name ws) i || is_among (gate_name ws) d) _ _ c.1 in
-    let q = or_parts (is_among (gate_name ws) i) (is_among (gate_name ws) d) e.0 in
-    let w = gate_name ws in
+    let e = first_none (is_among (gate_name ws) (i ++ d)) _ _ c.1 in
+    let q = or_parts _ _ (sym (among_both (gate_name ws) i d) ∙ e.0) in
     record {
-      inputs_named = s.inputs_named;
-      driven_named = All-push (λ v. is_name_under limits v ≡ true) d w s.driven_named (gate_words limits i d ws h).out;
-      few_inputs = s.few_inputs;
-      few_outputs = s.few_outputs;
-      few_gates = omega (arith, leb-false GATES (length d) c.0, length-append d (w ∷ []));
-      inputs_apart = s.inputs_apart;
-      outputs_apart = s.outputs_apart;
-      driven_apart = distinct_push d w s.driven_apart q.1;
-      driven_new = All-push (λ v. is_among v i ≡ false) d w s.driven_new q.0;
+      inputs = s.inputs;
+      outputs = s.outputs;
+      driven = one_label limits GATES d (gate_name ws) s.driven (gate_words limits i d ws h).out q.1 c.0;
+      driven_new = All-push (λ v. is_among v i ≡ false) d (gate_name ws) s.driven_new q.0;
       outputs_new = s.outputs_new;
     }
 
 abbrev pub SeenIsSound : NetLimits → Seen → Type 0
 SeenIsSound limits seen = IsSound limits seen.inputs seen.outputs seen.driven
 
--- a statement that has no fault stands before `.end`, save a further `.end`
-sound_step_at : (limits : NetLimits) (ended : Bool) (seen : Seen) (s : Said) → seen.ended ≡ ended → SeenIsSound limits seen → line_fault_in limits seen s ≡ None → SeenIsSound limits (with_line seen s)
-unfolding line_fault_in
-sound_step_at limits true seen (Model ws) e h f = h
-sound_step_at limits true seen End e h f = h
-sound_step_at limits true seen (Inputs ws) e h f = (let bad = rw e at f in absurd cc)
-sound_step_at limits true seen (Outputs ws) e h f = (let bad = rw e at f in absurd cc)
-sound_step_at limits true seen (Names ws) e h f = (let bad = rw e at f in absurd cc)
-sound_step_at limits true seen Unsupported e h f = h
-sound_step_at limits true seen Unknown e h f = h
-sound_step_at limits true seen (Row r) e h f = h
-sound_step_at limits false seen (Model ws) e h f = h
-sound_step_at limits false seen End e h f = h
-sound_step_at limits false seen (Inputs ws) e h f = inputs_sound limits seen.inputs seen.outputs seen.driven ws h (rw e at f)
-sound_step_at limits false seen (Outputs ws) e h f = outputs_sound limits seen.inputs seen.outputs seen.driven ws h (rw e at f)
-sound_step_at limits false seen (Names ws) e h f = gate_sound limits seen.inputs seen.outputs seen.driven ws h (rw e at f)
-sound_step_at limits false seen Unsupported e h f = h
-sound_step_at limits false seen Unknown e h f = h
-sound_step_at limits false seen (Row r) e h f = h
+abbrev Steps : NetLimits → List Word → Type 0
+Steps limits line = (seen : Seen) → SeenIsSound limits seen → first_of (faults_in limits seen line) ≡ None → SeenIsSound limits (with_line seen line)
 
-pub sound_step : (limits : NetLimits) (seen : Seen) (s : Said) → SeenIsSound limits seen → line_fault_in limits seen s ≡ None → SeenIsSound limits (with_line seen s)
-sound_step limits seen s h f = sound_step_at limits seen.ended seen s refl h f
+sound_other : (limits : NetLimits) (line : List Word) → AllByRecursion (λ h. heads h line ≡ false) headers → Steps limits line
+unfolding with_line
+sound_other limits line (m, (i, (o, (n, (e, u))))) seen s h = rw (i, o, n) s
 
-pub line_none : (limits : NetLimits) (done : List Said) (line : WordLine) (lines : List WordLine) → first_fault limits done (line ∷ lines) ≡ None
-    → (line_fault limits done (said line.words) ≡ None) × (first_fault limits (done ++ said line.words ∷ []) lines ≡ None)
-unfolding first_fault
-line_none limits done line lines h = parts (line_fault limits done (said line.words)) h
+sound_step : (limits : NetLimits) (line : List Word) → Steps limits line
+unfolding faults_in with_line
+sound_step limits =
+    by_heads (Steps limits) headers refl (
+      λ ws seen s h. s,
+      (
+        λ ws seen s h. inputs_sound limits seen.inputs seen.outputs seen.driven ws s (first_none seen.ended _ _ h).1,
+        (λ ws seen s h. outputs_sound limits seen.inputs seen.outputs seen.driven ws s (first_none seen.ended _ _ h).1, (λ ws seen s h. gate_sound limits seen.inputs seen.outputs seen.driven ws s (first_none seen.ended _ _ h).1, (λ ws seen s h. s, tt))),
+      ),
+    )
+    (sound_other limits)
+
+pub line_none : (limits : NetLimits) (done : List (List Word)) (line : WordLine) (lines : List WordLine) → first_fault (faults limits) done (line ∷ lines) ≡ None
+    → (first_of (faults limits done line.words) ≡ None) × (first_fault (faults limits) (done ++ line.words ∷ []) lines ≡ None)
+line_none limits done line lines h = parts (first_of (faults limits done line.words)) h
   where
-    parts : (o : Option BlifFault) → option_or (elim o [ None ↦ None | Some f ↦ Some (line.number, f) ]) (first_fault limits (done ++ said line.words ∷ []) lines) ≡ None → (o ≡ None) × (first_fault limits (done ++ said line.words ∷ []) lines ≡ None)
+    parts : (o : Option BlifFault) → option_or (at_line line.number o) (first_fault (faults limits) (done ++ line.words ∷ []) lines) ≡ None → (o ≡ None) × (first_fault (faults limits) (done ++ line.words ∷ []) lines ≡ None)
     parts None h = (refl, h)
     parts (Some f) h = absurd cc
 
-sound_rest : (limits : NetLimits) (done : List Said) (lines : List WordLine) → SeenIsSound limits (seen_by done) → first_fault limits done lines ≡ None → SeenIsSound limits (seen_by (done ++ says_of lines))
-sound_rest limits done [] h f = subst (λ (ss : List Said). SeenIsSound limits (seen_by ss)) (sym (append-nil done)) h
+sound_rest : (limits : NetLimits) (done : List (List Word)) (lines : List WordLine) → SeenIsSound limits (spec.seen done) → first_fault (faults limits) done lines ≡ None → SeenIsSound limits (spec.seen (done ++ words_of lines))
+sound_rest limits done [] h f = subst (λ (ls : List (List Word)). SeenIsSound limits (spec.seen ls)) (sym (append-nil done)) h
 sound_rest limits done (line ∷ lines) h f =
     let p = line_none limits done line lines f in
-    let s = said line.words in
-    let next : SeenIsSound limits (seen_by (done ++ s ∷ [])) = subst (SeenIsSound limits) (sym (seen_push limits done s p.0)) (sound_step limits (seen_by done) s h (sym (fault_same limits done s) ∙ p.0)) in
-    subst (λ (ss : List Said). SeenIsSound limits (seen_by ss)) (append_assoc done (s ∷ []) (says_of lines)) (sound_rest limits (done ++ s ∷ []) lines next p.1)
+    let none = sym (faults_same line.words limits done) ∙ p.0 in
+    let next : SeenIsSound limits (spec.seen (done ++ line.words ∷ [])) = subst (SeenIsSound limits) (sym (seen_push limits done line.words none)) (sound_step limits line.words (spec.seen done) h none) in
+    subst (λ (ls : List (List Word)). SeenIsSound limits (spec.seen ls)) (append_assoc done (line.words ∷ []) (words_of lines)) (sound_rest limits (done ++ line.words ∷ []) lines next p.1)
 
-sound_start : (limits : NetLimits) → SeenIsSound limits (seen_by [])
-unfolding seen_by
-sound_start limits =
-    record {
-      inputs_named = λ k d lt. absurd (omega arith);
-      driven_named = λ k d lt. absurd (omega arith);
-      few_inputs = omega arith;
-      few_outputs = omega arith;
-      few_gates = omega arith;
-      inputs_apart = λ i j d lt in'. absurd (omega arith);
-      outputs_apart = λ i j d lt in'. absurd (omega arith);
-      driven_apart = λ i j d lt in'. absurd (omega arith);
-      driven_new = λ k d lt. absurd (omega arith);
-      outputs_new = λ k d lt. absurd (omega arith);
-    }
+sound_start : (limits : NetLimits) → SeenIsSound limits (spec.seen [])
+unfolding spec.seen gates_of
+sound_start limits = record { inputs = no_labels limits (most_lines limits); outputs = no_labels limits (most_lines limits); driven = no_labels limits GATES; driven_new = λ k d lt. absurd (omega arith); outputs_new = λ k d lt. absurd (omega arith) }
 
-pub sound_all : (limits : NetLimits) (lines : List WordLine) → first_fault limits [] lines ≡ None → SeenIsSound limits (seen_by (says_of lines))
+pub sound_all : (limits : NetLimits) (lines : List WordLine) → first_fault (faults limits) [] lines ≡ None → SeenIsSound limits (spec.seen (words_of lines))
 sound_all limits lines f = sound_rest limits [] lines (sound_start limits) f

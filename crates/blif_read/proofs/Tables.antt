@@ -5,7 +5,7 @@ use Rattle.std.proofs.lemmas.Bool.{both_ways, cases_Bool}
 use Rattle.std.proofs.lemmas.List.Folds.{list_any-append, list_any_none}
 use Rattle.ae_base.specs.Name.{is_name}
 use Rattle.blif_read.proofs.Ranks.{any_within}
-use Rattle.blif_read.proofs.WrittenNames.{bytes_apart}
+use Rattle.ae_base.proofs.Apart.{bytes_apart}
 use Rattle.ae_base.specs.Twins.{is_among}
 use Rattle.blif_read.specs.Build.{signal_in}
 use Rattle.ae_net.specs.Named.{place_of}

@@ -1,11 +1,12 @@
 -- Words of a line.
-use Rattle.std.proofs.Common.{◌≡◌, ℕ, ◌+◌, ◌-◌, ◌<◌, true, false, inl, inr, List, [], ◌∷◌, ◌++◌, length, get_or, take, sym, ap, ◌∙◌, arith, append-nil}
+use Rattle.std.proofs.Common.{◌≡◌, ℕ, ◌+◌, ◌-◌, ◌<◌, true, List, [], ◌∷◌, ◌++◌, length, get_or, take, sym, ap, ◌∙◌, arith, append-nil}
 use Rattle.std.specs.Borrow.{Bor}
 use Rattle.std.specs.List.{list_all, concat}
-use Rattle.std.proofs.lemmas.Bool.{and_parts, both_ways, cases_Bool}
+use Rattle.std.proofs.lemmas.Bool.{and_parts}
 use Rattle.ae_base.specs.Name.{is_name}
 use Rattle.std.proofs.lemmas.List.{get_or-map, length-map, map_more, take-map}
-use Rattle.std.proofs.lemmas.List.Folds.{list_all_at, concat-append}
+use Rattle.std.proofs.lemmas.List.Folds.{concat-append}
+use Rattle.std.proofs.lemmas.List.Sums.{AllPass-from_list_all}
 use Rattle.blif_read.specs.Words.{gate_name, pin_names, is_name_under}
 use Rattle.blif_read.specs.declared.fault.NetLimits.{NetLimits}
 use Rattle.blif_read.specs.declared.fault.NetLimits.TheVariants.{Source, Written}
@@ -15,13 +16,9 @@ pub name_under : (limits : NetLimits) (w : List ℕ) → is_name_under limits w 
 name_under Source w h = (and_parts _ _ h).0
 name_under Written w h = h
 
--- the last word is no name
-pub last_is_no_name : (limits : NetLimits) (ws : List (List ℕ)) → 0 < length ws → is_name_under limits (gate_name ws) ≡ false → list_all (is_name_under limits) ws ≡ false
-last_is_no_name limits ws some h = list_all_at (is_name_under limits) ws (length ws - 1) _ (omega arith) h
-
 -- the last of words that are names
 pub gate_is_name : (limits : NetLimits) (ws : List (List ℕ)) → 0 < length ws → list_all (is_name_under limits) ws ≡ true → is_name_under limits (gate_name ws) ≡ true
-gate_is_name limits ws some all = elim (cases_Bool (is_name_under limits (gate_name ws))) [ inl t ↦ t | inr f ↦ absurd (both_ways _ (last_is_no_name limits ws some f) all) ]
+gate_is_name limits ws some all = AllPass-from_list_all (is_name_under limits) ws all (length ws - 1) [] (omega arith)
 
 pub last_is_name : (limits : NetLimits) (words : List (Bor (List ℕ))) (d : Bor (List ℕ)) → 0 < length words → list_all (is_name_under limits) (texts words) ≡ true → is_name (get_or words (length words - 1) d).now ≡ true
 last_is_name limits words d some all =

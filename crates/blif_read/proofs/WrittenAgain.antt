@@ -1,11 +1,11 @@
 -- The text of a network says the network.
-use Rattle.std.proofs.Common.{◌≡◌, ℕ, suc, ◌+◌, ◌<◌, ◌≤◌, true, false, None, Ok, List, [], ◌∷◌, ◌++◌, length, map, get_or, refl, sym, ap, ap₂, subst, ◌∙◌, arith}
-use Rattle.std.specs.Prelude.{All}
-use Rattle.std.specs.List.{flat_map, list_any, AllByRecursion}
+use Rattle.std.proofs.Common.{◌≡◌, ℕ, suc, ◌+◌, ◌<◌, ◌≤◌, true, false, not, ◌&&◌, None, Ok, List, [], ◌∷◌, ◌++◌, length, map, drop, codes, get_or, refl, sym, ap, ap₂, subst, ◌∙◌, arith}
+use Rattle.std.specs.Prelude.{All, filter}
+use Rattle.std.specs.List.{flat_map, AllByRecursion}
 use Rattle.std.proofs.lemmas.List.{append_assoc, append-nil, length-append, length-map, get_or_append_left}
 use Rattle.std.proofs.lemmas.List.Elements.{recursion_from_All}
 use Rattle.ae_base.specs.Name.{is_name}
-use Rattle.ae_base.proofs.Distinct.{each-append}
+use Rattle.ae_base.proofs.Distinct.{each-append, each_always}
 use Rattle.ae_lex.specs.Words.{last_line, word_lines}
 use Rattle.ae_lex.specs.Written.{numbered}
 use Rattle.ae_lex.specs.declared.text.Style.TheVariants.{Blif}
@@ -13,31 +13,28 @@ use Rattle.ae_lex.proofs.Written.{lines_written}
 use Rattle.ae_net.specs.declared.net.Gate.{Gate}
 use Rattle.ae_net.specs.Network.{Network}
 use Rattle.ae_net.specs.Valid.{IsValid, IsDistinct}
-use Rattle.ae_net.specs.Blif.{signal_names, name_of, net_lines, blif_text}
+use Rattle.ae_net.specs.Blif.{signal_names, name_of, gate_lines, head_lines, net_lines, blif_text}
 use Rattle.blif_read.specs.declared.fault.NetLimits.TheVariants.{Written}
 use Rattle.ae_base.specs.Twins.{is_among}
 use Rattle.blif_read.specs.Limits.{KeepsLimits}
-use Rattle.blif_read.specs.Statement.{Said}
-use Rattle.blif_read.specs.Statement.Said.{Model, Inputs, Outputs, Names, End}
-use Rattle.blif_read.specs.Earlier.{input_words, output_words, driven_words}
-use Rattle.blif_read.specs.Faults.{declared_fault, word_fault}
 use Rattle.blif_read.specs.declared.fault.BlifFault.TheVariants as fault
-use Rattle.blif_read.specs.Step.{seen_by, line_fault, first_fault}
-use Rattle.blif_read.specs.Placing.{outs, placed}
-use Rattle.ae_net.specs.Named.{net_of, place_of}
-use Rattle.blif_read.specs.Says.{some_unknown, blif_says}
-use Rattle.blif_read.specs.Lines.{named, lines_say}
-use Rattle.blif_read.specs.Build.{shows_unknown, reads_unknown}
-use Rattle.blif_read.proofs.Bridge.{says_by_lines}
-use Rattle.blif_read.proofs.Nets.{gate_in, net_named}
+use Rattle.ae_lex.specs.First.{first_of, first_fault}
+use Rattle.ae_lex.specs.Heads.{heads}
+use Rattle.ae_lex.specs.Reads.{words_of}
+use Rattle.blif_read.proofs.Steps.{words_more}
+use Rattle.ae_net.specs.Named.{gate_of, net_of, place_of}
+use Rattle.blif_read.specs.Says.{some_unknown, inputs_of, outputs_of, gates_of, declared_faults, faults, blif_says}
+use Rattle.blif_read.specs.Words.{gate_name, pin_names}
+use Rattle.blif_read.specs.Build.{undefined_pin, undefined_output, placed, unplaced, lines_say}
+use Rattle.blif_read.proofs.Whole.{text_says}
 use Rattle.blif_read.proofs.Places.{AllBelow}
-use Rattle.blif_read.proofs.WrittenNames.{AreFresh, not_among, fresh, fresh_split, names_apart, places_back, signals_apart}
-use Rattle.blif_read.proofs.WrittenPlacing.{placed_in_order, all_placed}
-use Rattle.blif_read.proofs.WrittenLines.{AreFine, fine_lines, Stands, one_more, not_ended, inputs_fine, outputs_fine, pin_names-snoc, said_numbered, first_none, whole}
-use Rattle.blif_read.proofs.WrittenStatements.{gate_words, gate_said, head_said, net_said, said_net, any_gates, unplaced_gates, covers_net}
+use Rattle.blif_read.proofs.WrittenNames.{AreFresh, not_among, fresh, fresh_split, names_apart, places_back, signals_apart, each_among}
+use Rattle.blif_read.proofs.WrittenPlacing.{placed_in_order}
+use Rattle.blif_read.proofs.WrittenLines.{AreFine, fine_lines, Stands, declared_fine, gate_name-snoc, pin_names-snoc, where_no, whole}
+use Rattle.blif_read.proofs.WrittenStatements.{end_lines, any_gates, gates_read}
 use Rattle.blif_read.proofs.WrittenPlain.{IsFit, net_plain}
-use Rattle.blif_read.proofs.WrittenGates.{AreValid, valid_gates, AreNames, all_named, none_unknown, gates_fit, gates_known, in_order, outs_unplaced, gates_back}
-use Rattle.blif_read.proofs.WrittenFine.{stands_gates, gates_fine}
+use Rattle.blif_read.proofs.WrittenGates.{AreValid, valid_gates, AreNames, all_named, none_unknown, gates_fit, gates_known, named, in_order, outs_named, gates_back}
+use Rattle.blif_read.proofs.WrittenFine.{gate_words, stands_gates, gates_fine}
 
 -- ---- what is known of a network that is written
 
@@ -105,76 +102,87 @@ known_of n v =
 
 -- ---- no line is faulty
 
-head_stands : (n : Network) → Stands (head_said n) n.inputs (map (name_of (signal_names n)) n.outputs) []
+head_stands : (n : Network) → Stands (head_lines n) n.inputs (map (name_of (signal_names n)) n.outputs) []
+unfolding gates_of
 head_stands n = record { on = refl; inputs_are = append-nil n.inputs; outputs_are = append-nil (map (name_of (signal_names n)) n.outputs); driven_are = refl }
 
-net_fine : (n : Network) → IsValid n → KeepsLimits Written n → IsKnown n → AreFine Written [] (net_said n)
-unfolding seen_by
+net_fine : (n : Network) → IsValid n → KeepsLimits Written n → IsKnown n → AreFine Written [] (net_lines n)
+unfolding faults gates_of
 net_fine n v l k =
     let names = signal_names n in
     let outs = map (name_of names) n.outputs in
-    let before : List Said = Model (n.model ∷ []) ∷ Inputs n.inputs ∷ [] in
-    let one : line_fault Written [] (Model (n.model ∷ [])) ≡ None = not_ended Written [] (Model (n.model ∷ [])) refl ∙ rw v.model_named refl in
-    let two : line_fault Written (Model (n.model ∷ []) ∷ []) (Inputs n.inputs) ≡ None = not_ended Written (Model (n.model ∷ []) ∷ []) (Inputs n.inputs) refl ∙ inputs_fine Written [] n.inputs k.inputs k.input_apart (omega (arith, l.few_inputs)) in
     let short : length outs ≡ length n.outputs = length-map n.outputs (name_of names) in
-    let three : line_fault Written before (Outputs outs) ≡ None = not_ended Written before (Outputs outs) refl
-    ∙ ap (λ (i : List (List ℕ)). word_fault (declared_fault Written fault.TooManyOutputs i []) [] outs) (append-nil n.inputs)
-    ∙ outputs_fine Written n.inputs [] outs k.output_names k.output_others k.output_apart (omega (arith, short, l.few_outputs)) in
-    (one, (two, (three, gates_fine names (head_said n) n.inputs outs [] n.gates (head_stands n) k.fit (omega (arith, v.few_gates)) (subst (λ (b : List (List ℕ)). AreFresh b (map (λ gate. gate.out) n.gates)) (sym (append-nil n.inputs)) k.gate_apart))))
+    let apart = subst (λ (b : List (List ℕ)). AreFresh b (map (λ gate. gate.out) n.gates)) (sym (append-nil n.inputs)) k.gate_apart in (
+      rw v.model_named refl,
+      (
+        declared_fine Written fault.TooManyInputs [] [] n.inputs k.inputs (each_always (λ w. is_among w [] ≡ false) (λ w. refl) n.inputs) k.input_apart (omega (arith, l.few_inputs)),
+        (
+          ap (λ (i : List (List ℕ)). first_of (declared_faults Written fault.TooManyOutputs i [] [] outs)) (append-nil n.inputs) ∙ declared_fine Written fault.TooManyOutputs n.inputs [] outs k.output_names k.output_others k.output_apart (omega (arith, short, l.few_outputs)),
+          gates_fine names (head_lines n) n.inputs outs [] n.gates (head_stands n) k.fit (omega (arith, v.few_gates)) apart,
+        ),
+      ),
+    )
 
 -- ---- what the lines say together
 
-at_end : (f : Said → List (List ℕ)) (before gates : List Said) (ws : List (List ℕ)) → f End ≡ [] → flat_map f (before ++ gates) ≡ ws → flat_map f (before ++ (gates ++ End ∷ [])) ≡ ws
-at_end f before gates ws e h =
-    ap (flat_map f) (sym (append_assoc before gates (End ∷ []))) ∙ one_more f (before ++ gates) End ws h ∙ ap (λ (x : List (List ℕ)). ws ++ x) e ∙ append-nil ws
+at_end : (h : List ℕ) (before : List (List (List ℕ))) (ws : List (List ℕ)) → heads h (codes ".end" ∷ []) ≡ false → flat_map (drop 1) (filter (heads h) before) ≡ ws → flat_map (drop 1) (filter (heads h) (before ++ (codes ".end" ∷ []) ∷ [])) ≡ ws
+at_end h before ws e is = words_more h before (codes ".end" ∷ []) ∙ rw (e, is) (append-nil ws)
 
-pins_known : (names : List (List ℕ)) (gates : List Gate) → AllByRecursion (λ gate. AllBelow (length names) gate.pins) gates → AllByRecursion (λ gate. reads_unknown names (Names (gate_words names gate)) ≡ false) gates
+words_numbered : (k : ℕ) (lines : List (List (List ℕ))) → words_of (numbered k lines) ≡ lines
+words_numbered k [] = refl
+words_numbered k (line ∷ lines) = ap (λ (ls : List (List (List ℕ))). line ∷ ls) (words_numbered (suc k) lines)
+
+gates_head : (n : Network) → gates_of (net_lines n) ≡ gates_of (flat_map (gate_lines (signal_names n)) n.gates ++ end_lines)
+unfolding gates_of
+gates_head n = refl
+
+-- a `.names` whose pins are known, or whose gate is among these
+pins_known : (names : List (List ℕ)) (gates : List Gate) → AllByRecursion (λ gate. AllBelow (length names) gate.pins) gates → AllByRecursion (λ gate. some_unknown names (pin_names (gate_words names gate)) ≡ false) gates
 pins_known names [] h = tt
 pins_known names (gate ∷ gates) h = (ap (some_unknown names) (pin_names-snoc (map (name_of names) gate.pins) gate.out) ∙ none_unknown names gate.pins h.0, pins_known names gates h.1)
 
-none_shown : (names : List (List ℕ)) (gates : List Gate) → AllByRecursion (λ gate. shows_unknown names (Names (gate_words names gate)) ≡ false) gates
+all_among : (names all : List (List ℕ)) (gates : List Gate) → AllByRecursion (λ w. is_among w all ≡ true) (map (λ gate. gate.out) gates) → AllByRecursion (λ gate. not (is_among (gate_name (gate_words names gate)) all) ≡ false) gates
+all_among names all [] h = tt
+all_among names all (gate ∷ gates) h = (ap (λ (w : List ℕ). not (is_among w all)) (gate_name-snoc (map (name_of names) gate.pins) gate.out) ∙ ap not h.0, all_among names all gates h.1)
+
+none_shown : (names : List (List ℕ)) (gates : List Gate) → AllByRecursion (λ gate. (heads (codes ".outputs") (codes ".names" ∷ gate_words names gate) && some_unknown names (gate_words names gate)) ≡ false) gates
 none_shown names [] = tt
 none_shown names (gate ∷ gates) = (refl, none_shown names gates)
 
-net_lines_say : (n : Network) (last : ℕ) → IsValid n → IsKnown n → lines_say last (numbered 1 (net_lines n)) ≡ Ok (net_of n.model n.inputs (map (name_of (signal_names n)) n.outputs) (map named (unplaced_gates (signal_names n) 4 n.gates)))
+net_lines_say : (n : Network) (last : ℕ) → IsValid n → IsKnown n → lines_say last (numbered 1 (net_lines n)) ≡ Ok (net_of n.model n.inputs (map (name_of (signal_names n)) n.outputs) (map (named (signal_names n)) n.gates))
 net_lines_say n last v k =
     let names = signal_names n in
     let outs = map (λ gate. gate.out) n.gates in
     let shown = map (name_of names) n.outputs in
-    let cs = unplaced_gates names 4 n.gates in
-    let st = stands_gates names (head_said n) n.inputs shown [] n.gates (head_stands n) in
-    let gates = flat_map (gate_said names) n.gates in
+    let gs = map (named names) n.gates in
+    let lines = numbered 1 (net_lines n) in
+    let st = stands_gates names (head_lines n) n.inputs shown [] n.gates (head_stands n) in
+    let gates = flat_map (gate_lines names) n.gates in
+    let split = λ (f : List (List (List ℕ)) → List (List ℕ)). ap f (sym (append_assoc (head_lines n) gates end_lines)) in
     let known = gates_known names (length n.inputs) n.gates k.gates (omega (arith, k.size)) in
-    let reads : list_any (reads_unknown names) (net_said n) ≡ false = any_gates (reads_unknown names) names n.gates refl (λ r. refl) (pins_known names n.gates known) in
-    let shows : list_any (shows_unknown names) (net_said n) ≡ false = rw (none_unknown names n.outputs k.outputs) (any_gates (shows_unknown names) names n.gates refl (λ r. refl) (none_shown names n.gates)) in
     let some : 0 < length shown = omega (arith, length-map n.outputs (name_of names), v.some_output) in
-    let order : placed n.inputs cs ≡ cs =
-    placed_in_order n.inputs cs (in_order names n.inputs (length n.inputs) 4 n.gates k.gates refl refl) (subst (λ (ws : List (List ℕ)). AreFresh n.inputs ws) (sym (outs_unplaced names 4 n.gates)) k.gate_apart) in
-    whole last (numbered 1 (net_lines n)) (net_said n) n.model n.inputs shown outs cs
-    (said_numbered 1 (net_lines n) ∙ said_net n)
-    (at_end input_words (head_said n) gates n.inputs refl st.inputs_are)
-    (at_end output_words (head_said n) gates shown refl st.outputs_are)
-    (at_end driven_words (head_said n) gates outs refl st.driven_are)
-    refl
-    v.some_input
-    some
-    (first_none (reads_unknown names) 1 (net_lines n) (ap (list_any (reads_unknown names)) (said_net n) ∙ reads))
-    (first_none (shows_unknown names) 1 (net_lines n) (ap (list_any (shows_unknown names)) (said_net n) ∙ shows))
-    (covers_net n)
-    order
-    (all_placed cs)
+    let outs_are = outs_named names n.gates in
+    let read : gates_of (net_lines n) ≡ gs = gates_head n ∙ gates_read names (length n.inputs) n.gates k.gates in
+    let inputs : inputs_of (net_lines n) ≡ n.inputs = split (λ ls. inputs_of ls) ∙ at_end (codes ".inputs") (head_lines n ++ gates) n.inputs refl st.inputs_are in
+    let outputs : outputs_of (net_lines n) ≡ shown = split (λ ls. outputs_of ls) ∙ at_end (codes ".outputs") (head_lines n ++ gates) shown refl st.outputs_are in
+    let order : placed n.inputs gs ≡ gs = placed_in_order n.inputs gs (in_order names n.inputs (length n.inputs) n.gates k.gates refl refl) (subst (λ (ws : List (List ℕ)). AreFresh n.inputs ws) (sym outs_are) k.gate_apart) in
+    let reads : undefined_pin names lines ≡ None = where_no (codes ".names") (λ args. some_unknown names (pin_names args)) fault.Undefined 1 (net_lines n)
+    (any_gates (codes ".names") (λ args. some_unknown names (pin_names args)) names n.gates refl refl (pins_known names n.gates known)) in
+    let shows : undefined_output names lines ≡ None = where_no (codes ".outputs") (some_unknown names) fault.Undefined 1 (net_lines n)
+    (rw (none_unknown names n.outputs k.outputs) (any_gates (codes ".outputs") (some_unknown names) names n.gates refl refl (none_shown names n.gates))) in
+    let placed_all : unplaced outs lines ≡ None = where_no (codes ".names") (λ args. not (is_among (gate_name args) outs)) fault.Cycle 1 (net_lines n)
+    (any_gates (codes ".names") (λ args. not (is_among (gate_name args) outs)) names n.gates refl refl (all_among names outs n.gates (each_among outs))) in
+    whole last lines (net_lines n) n.model n.inputs shown outs gs (words_numbered 1 (net_lines n)) inputs outputs read outs_are refl v.some_input some reads shows order placed_all
 
 -- ---- the network again
 
-net_back : (n : Network) → IsKnown n → net_of n.model n.inputs (map (name_of (signal_names n)) n.outputs) (map named (unplaced_gates (signal_names n) 4 n.gates)) ≡ n
+net_back : (n : Network) → IsKnown n → net_of n.model n.inputs (map (name_of (signal_names n)) n.outputs) (map (named (signal_names n)) n.gates) ≡ n
+unfolding net_of
 net_back n k =
     let names = signal_names n in
-    let cs = unplaced_gates names 4 n.gates in
-    let same : n.inputs ++ outs cs ≡ names = ap (λ (ws : List (List ℕ)). n.inputs ++ ws) (outs_unplaced names 4 n.gates) in
     let made : List ℕ → List Gate → Network = λ o g. record { model = n.model; inputs = n.inputs; outputs = o; gates = g } in
-    net_named n.model n.inputs (map (name_of names) n.outputs) cs
-    ∙ ap (λ (ns : List (List ℕ)). made (map (λ o. place_of o ns) (map (name_of names) n.outputs)) (map (gate_in ns) cs)) same
-    ∙ ap₂ made (places_back names n.outputs k.apart k.outputs) (gates_back names (length n.inputs) 4 n.gates k.apart k.gates (omega (arith, k.size)))
+    ap (λ (ws : List (List ℕ)). made (map (λ o. place_of o (n.inputs ++ ws)) (map (name_of names) n.outputs)) (map (gate_of (n.inputs ++ ws)) (map (named names) n.gates))) (outs_named names n.gates)
+    ∙ ap₂ made (places_back names n.outputs k.apart k.outputs) (gates_back names (length n.inputs) n.gates k.apart k.gates (omega (arith, k.size)))
 
 pub says_again : (n : Network) → IsValid n → KeepsLimits Written n → blif_says Written (blif_text n) ≡ Ok n
 unfolding blif_text
@@ -182,5 +190,5 @@ says_again n v l =
     let k = known_of n v in
     let names = signal_names n in
     let read : word_lines Blif (blif_text n) ≡ numbered 1 (net_lines n) = lines_written Blif (net_lines n) (net_plain n v.model_named k.inputs k.output_names k.fit) in
-    let fine : first_fault Written [] (numbered 1 (net_lines n)) ≡ None = fine_lines Written 1 [] (net_lines n) (subst (λ (ss : List Said). AreFine Written [] ss) (sym (said_net n)) (net_fine n v l k)) in
-    says_by_lines Written (blif_text n) ∙ rw (read, fine) (net_lines_say n (last_line (blif_text n)) v k ∙ ap (λ (m : Network). Ok m) (net_back n k))
+    let fine : first_fault (faults Written) [] (numbered 1 (net_lines n)) ≡ None = fine_lines Written 1 [] (net_lines n) (net_fine n v l k) in
+    text_says Written (blif_text n) (numbered 1 (net_lines n)) (last_line (blif_text n)) (sym read) refl fine ∙ net_lines_say n (last_line (blif_text n)) v k ∙ ap (λ (m : Network). Ok m) (net_back n k)

@@ -1,27 +1,26 @@
 -- The gates that are read are the gates that were written, in their order.
-use Rattle.std.proofs.Common.{◌≡◌, ℕ, suc, ◌+◌, ◌<◌, ◌≤◌, Bool, true, false, not, List, [], ◌∷◌, ◌++◌, length, map, get_or, refl, sym, ap, ap₂, subst, ◌∙◌, arith}
+use Rattle.std.proofs.Common.{◌≡◌, ℕ, suc, ◌+◌, ◌<◌, ◌≤◌, true, false, not, List, [], ◌∷◌, ◌++◌, length, map, get_or, refl, sym, ap, ap₂, subst, ◌∙◌, arith}
 use Rattle.std.specs.Prelude.{Some, slice_get, All}
 use Rattle.std.specs.List.{list_all, AllByRecursion}
 use Rattle.std.proofs.lemmas.Bool.{or_from, and_from}
-use Rattle.std.proofs.lemmas.List.{append_assoc, length-append, get_or_append_left, length-map}
+use Rattle.std.proofs.lemmas.List.{append_assoc, length-append, get_or_append_left}
 use Rattle.std.proofs.lemmas.List.Elements.{All-from_recursion, recursion_from_All}
-use Rattle.ae_base.specs.Cube.{Product}
 use Rattle.ae_base.specs.Name.{is_name}
 use Rattle.ae_base.proofs.Distinct.{each_weaker}
 use Rattle.ae_net.specs.declared.net.Gate.{Gate}
 use Rattle.ae_net.specs.Blif.{name_of}
 use Rattle.ae_net.specs.Valid.{IsGate, IsDistinct}
 use Rattle.ae_base.specs.Twins.{is_among}
-use Rattle.blif_read.specs.Placing.{outs}
-use Rattle.blif_read.specs.Says.{some_unknown}
-use Rattle.blif_read.specs.Lines.{row_cube, is_on}
-use Rattle.blif_read.proofs.Nets.{gate_in}
+use Rattle.ae_net.specs.Named.{NamedGate, gate_of}
+use Rattle.blif_read.specs.Says.{outs, some_unknown}
 use Rattle.blif_read.proofs.Places.{AllBelow}
 use Rattle.blif_read.proofs.WrittenNames.{among_at, places_back}
 use Rattle.blif_read.proofs.WrittenPlacing.{IsInOrder}
-use Rattle.blif_read.proofs.WrittenRows.{row_chars, rows_back, on_back}
-use Rattle.blif_read.proofs.WrittenStatements.{unplaced_gate, unplaced_gates, after}
 use Rattle.blif_read.proofs.WrittenPlain.{IsFit}
+
+-- a gate by the names of its pins
+abbrev pub named : List (List ℕ) → Gate → NamedGate
+named names gate = record { out = gate.out; pins = map (name_of names) gate.pins; rows = gate.rows; on = gate.on }
 
 -- ---- valid gates, by recursion
 
@@ -76,31 +75,21 @@ ready_pins names known rest (pin ∷ pins) e b =
     let same : get_or names pin [] ≡ get_or known pin [] = ap (λ (ns : List (List ℕ)). get_or ns pin []) e ∙ get_or_append_left known rest [] pin b.0 in
     and_from _ _ (ap (λ (w : List ℕ). is_among w known) same ∙ among_at known pin b.0) (ready_pins names known rest pins e b.1)
 
-pub in_order : (names known : List (List ℕ)) (s k : ℕ) (gates : List Gate) → AreValid s gates → length known ≡ s → names ≡ known ++ map (λ gate. gate.out) gates → IsInOrder known (unplaced_gates names k gates)
-in_order names known s k [] valid e p = tt
-in_order names known s k (gate ∷ gates) valid e p = (
+pub in_order : (names known : List (List ℕ)) (s : ℕ) (gates : List Gate) → AreValid s gates → length known ≡ s → names ≡ known ++ map (λ gate. gate.out) gates → IsInOrder known (map (named names) gates)
+in_order names known s [] valid e p = tt
+in_order names known s (gate ∷ gates) valid e p = (
   ready_pins names known (map (λ gate. gate.out) (gate ∷ gates)) gate.pins p (below (length known) s gate.pins (omega (arith, e)) valid.0.earlier),
-  in_order names (known ++ gate.out ∷ []) (suc s) (after (suc k) gate.rows) gates valid.1 (omega (arith, length-append known (gate.out ∷ []), e)) (p ∙ sym (append_assoc known (gate.out ∷ []) (map (λ gate. gate.out) gates))),
+  in_order names (known ++ gate.out ∷ []) (suc s) gates valid.1 (omega (arith, length-append known (gate.out ∷ []), e)) (p ∙ sym (append_assoc known (gate.out ∷ []) (map (λ gate. gate.out) gates))),
 )
 
-pub outs_unplaced : (names : List (List ℕ)) (k : ℕ) (gates : List Gate) → outs (unplaced_gates names k gates) ≡ map (λ gate. gate.out) gates
-outs_unplaced names k [] = refl
-outs_unplaced names k (gate ∷ gates) = ap (λ (ws : List (List ℕ)). gate.out ∷ ws) (outs_unplaced names (after (suc k) gate.rows) gates)
+pub outs_named : (names : List (List ℕ)) (gates : List Gate) → outs (map (named names) gates) ≡ map (λ gate. gate.out) gates
+outs_named names [] = refl
+outs_named names (gate ∷ gates) = ap (λ (ws : List (List ℕ)). gate.out ∷ ws) (outs_named names gates)
 
 -- ---- each is the gate again
 
-gate_back : (names : List (List ℕ)) (s k : ℕ) (gate : Gate) → IsDistinct names → IsGate s gate → s ≤ length names → gate_in names (unplaced_gate names k gate) ≡ gate
-gate_back names s k gate apart valid le =
-    let made : List ℕ → List Product → Bool → Gate = λ p r o. record { out = gate.out; pins = p; rows = r; on = o } in
-    let wide : length (map (name_of names) gate.pins) ≡ length gate.pins = length-map gate.pins (name_of names) in
-    let chars = map (row_chars (length gate.pins) gate.on) gate.rows in
-    let pins = places_back names gate.pins apart (below (length names) s gate.pins le valid.earlier) in
-    let rows = ap (λ (j : ℕ). map (row_cube j) chars) wide ∙ rows_back (length gate.pins) gate.on gate.rows valid.rows in
-    let on = on_back (length gate.pins) gate.on gate.rows valid.off_row in
-    ap (λ (p : List ℕ). made p (map (row_cube (length (map (name_of names) gate.pins))) chars) (is_on chars)) pins
-    ∙ ap₂ (made gate.pins) rows on
-
-pub gates_back : (names : List (List ℕ)) (s k : ℕ) (gates : List Gate) → IsDistinct names → AreValid s gates → s + length gates ≤ length names → map (gate_in names) (unplaced_gates names k gates) ≡ gates
-gates_back names s k [] apart valid few = refl
-gates_back names s k (gate ∷ gates) apart valid few =
-    ap₂ (λ (g : Gate) (gs : List Gate). g ∷ gs) (gate_back names s k gate apart valid.0 (omega (arith, few))) (gates_back names (suc s) (after (suc k) gate.rows) gates apart valid.1 (omega (arith, few)))
+pub gates_back : (names : List (List ℕ)) (s : ℕ) (gates : List Gate) → IsDistinct names → AreValid s gates → s + length gates ≤ length names → map (gate_of names) (map (named names) gates) ≡ gates
+gates_back names s [] apart valid few = refl
+gates_back names s (gate ∷ gates) apart valid few =
+    ap₂ (λ (ps : List ℕ) (gs : List Gate). record { out = gate.out; pins = ps; rows = gate.rows; on = gate.on } ∷ gs)
+    (places_back names gate.pins apart (below (length names) s gate.pins (omega (arith, few)) valid.0.earlier)) (gates_back names (suc s) gates apart valid.1 (omega (arith, few)))

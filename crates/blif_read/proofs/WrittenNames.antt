@@ -2,9 +2,11 @@
 use Rattle.std.proofs.Common.{◌≡◌, ◌≢◌, ℕ, zero, suc, ◌+◌, ◌<◌, true, false, not, cond, List, [], ◌∷◌, ◌++◌, length, map, get_or, refl, sym, ap, ap₂, subst, ◌∙◌, arith}
 use Rattle.std.specs.Prelude.{bytes_eq}
 use Rattle.std.specs.List.{AllByRecursion}
-use Rattle.std.proofs.lemmas.Bool.{false_from_ne_true, or_from, or_left, or_right}
-use Rattle.std.proofs.lemmas.List.{append_assoc, append-nil, length-append, get_or_append_left, get_or_at, get_or-map, length-map}
+use Rattle.std.proofs.lemmas.Bool.{or_from, or_left, or_right}
+use Rattle.std.proofs.lemmas.List.Elements.{recursion_from_All}
+use Rattle.std.proofs.lemmas.List.{get_or_default, append_assoc, append-nil, length-append, get_or_append_left, get_or_at, get_or-map, length-map}
 use Rattle.std.proofs.lemmas.Slice.Eq.{bytes_eq-Decides}
+use Rattle.ae_base.proofs.Apart.{bytes_apart}
 use Rattle.ae_net.specs.Blif.{name_of}
 use Rattle.ae_net.specs.Valid.{IsDistinct}
 use Rattle.ae_base.specs.Twins.{is_among}
@@ -14,9 +16,6 @@ use Rattle.ae_net.specs.Named.{place_of}
 abbrev pub AreFresh : List (List ℕ) → List (List ℕ) → Type 0
 AreFresh had [] = Unit {0}
 AreFresh had (w ∷ ws) = (is_among w had ≡ false) × AreFresh (had ++ w ∷ []) ws
-
-pub bytes_apart : (v w : List ℕ) → v ≢ w → bytes_eq v w ≡ false
-bytes_apart v w h = false_from_ne_true (bytes_eq v w) (λ t. h ((bytes_eq-Decides v w).0 t))
 
 pub bytes_same : (v : List ℕ) → bytes_eq v v ≡ true
 bytes_same v = (bytes_eq-Decides v v).1 refl
@@ -29,6 +28,9 @@ pub among_at : (ws : List (List ℕ)) (s : ℕ) → s < length ws → is_among (
 among_at [] s h = absurd (omega (arith, h))
 among_at (v ∷ ws) zero h = or_left (bytes_eq v v) (is_among v ws) (bytes_same v)
 among_at (v ∷ ws) (suc s) h = or_right (bytes_eq (get_or ws s []) v) (is_among (get_or ws s []) ws) (among_at ws s (omega (arith, h)))
+
+pub each_among : (ws : List (List ℕ)) → AllByRecursion (λ w. is_among w ws ≡ true) ws
+each_among ws = recursion_from_All (λ w. is_among w ws ≡ true) ws (λ k d lt. ap (λ w. is_among w ws) (get_or_default ws k d [] lt) ∙ among_at ws k lt)
 
 pub fresh : (had ws : List (List ℕ)) → IsDistinct (had ++ ws) → AreFresh had ws
 fresh had [] h = tt

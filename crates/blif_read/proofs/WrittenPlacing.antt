@@ -1,56 +1,40 @@
 -- Gates that stand in an order are placed in that order.
-use Rattle.std.proofs.Common.{◌≡◌, ℕ, suc, Bool, true, false, not, Some, None, List, [], ◌∷◌, ◌++◌, length, refl, sym, ap, subst, ◌∙◌}
+use Rattle.std.proofs.Common.{◌≡◌, ℕ, Bool, true, false, not, Some, List, [], ◌∷◌, ◌++◌, length, refl, sym, ap, subst, ◌∙◌}
 use Rattle.std.specs.Prelude.{bytes_eq}
 use Rattle.std.specs.List.{find, list_all, AllByRecursion}
-use Rattle.std.proofs.lemmas.Bool.{cond-true, cond-false, and_left, and_from, or_left, or_right, or_parts}
+use Rattle.std.proofs.lemmas.Bool.{cond-true, cond-false, and_left, and_from, or_parts}
 use Rattle.std.proofs.lemmas.List.{append_assoc, append-nil, map-append}
 use Rattle.std.proofs.lemmas.List.Folds.{list_any-append}
 use Rattle.ae_base.specs.Twins.{is_among}
-use Rattle.blif_read.specs.Placing.{Unplaced, outs, can_go, place, placed}
-use Rattle.blif_read.proofs.WrittenNames.{AreFresh, bytes_same}
+use Rattle.ae_net.specs.Named.{NamedGate}
+use Rattle.blif_read.specs.Says.{outs, can_go, place}
+use Rattle.blif_read.specs.Build.{placed}
+use Rattle.blif_read.proofs.Link.{place_some}
+use Rattle.blif_read.proofs.WrittenNames.{AreFresh, each_among}
 
 -- each pin is one of the known names
-abbrev is_ready : List (List ℕ) → Unplaced → Bool
+abbrev is_ready : List (List ℕ) → NamedGate → Bool
 is_ready known c = list_all (λ pin. is_among pin known) c.pins
 
 -- each reads known names and gates before it
-abbrev pub IsInOrder : List (List ℕ) → List Unplaced → Type 0
+abbrev pub IsInOrder : List (List ℕ) → List NamedGate → Type 0
 IsInOrder known [] = Unit {0}
 IsInOrder known (c ∷ cs) = (is_ready known c ≡ true) × IsInOrder (known ++ c.out ∷ []) cs
 
-find_skip : (p : Unplaced → Bool) (xs : List Unplaced) (c : Unplaced) (rest : List Unplaced) → AllByRecursion (λ x. p x ≡ false) xs → p c ≡ true → find p (xs ++ c ∷ rest) ≡ Some c
+find_skip : (p : NamedGate → Bool) (xs : List NamedGate) (c : NamedGate) (rest : List NamedGate) → AllByRecursion (λ x. p x ≡ false) xs → p c ≡ true → find p (xs ++ c ∷ rest) ≡ Some c
 find_skip p [] c rest h e = cond-true (p c) (Some c) (find p rest) e
 find_skip p (x ∷ xs) c rest h e = cond-false (p x) (Some x) (find p (xs ++ c ∷ rest)) h.0 ∙ find_skip p xs c rest h.1 e
 
-find_no : (p : Unplaced → Bool) (xs : List Unplaced) → AllByRecursion (λ x. p x ≡ false) xs → find p xs ≡ None
-find_no p [] h = refl
-find_no p (x ∷ xs) h = cond-false (p x) (Some x) (find p xs) h.0 ∙ find_no p xs h.1
-
-still_among : (xs more : List Unplaced) (names : List (List ℕ)) → names ≡ outs more ++ outs xs → AllByRecursion (λ x. is_among x.out names ≡ true) xs
-still_among [] more names e = tt
-still_among (x ∷ xs) more names e = (
-  ap (is_among x.out) e ∙ list_any-append (bytes_eq x.out) (outs more) (outs (x ∷ xs)) ∙ or_right (is_among x.out (outs more)) (is_among x.out (outs (x ∷ xs))) (or_left (bytes_eq x.out x.out) (is_among x.out (outs xs)) (bytes_same x.out)),
-  still_among xs (more ++ x ∷ []) names (e ∙ sym (append_assoc (outs more) (x.out ∷ []) (outs xs)) ∙ ap (λ (ws : List (List ℕ)). ws ++ outs xs) (sym (map-append (λ (c : Unplaced). c.out) more (x ∷ [])))),
-)
-
-gone : (inputs : List (List ℕ)) (done xs : List Unplaced) → AllByRecursion (λ x. is_among x.out (outs done) ≡ true) xs → AllByRecursion (λ x. can_go inputs done x ≡ false) xs
+gone : (inputs : List (List ℕ)) (done xs : List NamedGate) → AllByRecursion (λ w. is_among w (outs done) ≡ true) (outs xs) → AllByRecursion (λ x. can_go inputs done x ≡ false) xs
 gone inputs done [] h = tt
 gone inputs done (x ∷ xs) h = (and_left (not (is_among x.out (outs done))) (is_ready (inputs ++ outs done) x) (ap not h.0), gone inputs done xs h.1)
 
-none_left : (done xs : List Unplaced) → AllByRecursion (λ x. is_among x.out (outs done) ≡ true) xs → AllByRecursion (λ x. not (is_among x.out (outs done)) ≡ false) xs
-none_left done [] h = tt
-none_left done (x ∷ xs) h = (ap not h.0, none_left done xs h.1)
-
-place_some : (inputs : List (List ℕ)) (cs : List Unplaced) (steps : ℕ) (done : List Unplaced) (c : Unplaced) → find (can_go inputs done) cs ≡ Some c → place inputs cs (suc steps) done ≡ place inputs cs steps (done ++ c ∷ [])
-unfolding place
-place_some inputs cs steps done c e = rw (e, place) refl
-
-place_rest : (inputs : List (List ℕ)) (cs done rest : List Unplaced) → cs ≡ done ++ rest → IsInOrder (inputs ++ outs done) rest → AreFresh (outs done) (outs rest) → place inputs cs (length rest) done ≡ cs
+place_rest : (inputs : List (List ℕ)) (cs done rest : List NamedGate) → cs ≡ done ++ rest → IsInOrder (inputs ++ outs done) rest → AreFresh (outs done) (outs rest) → place inputs cs (length rest) done ≡ cs
 unfolding place
 place_rest inputs cs done [] e h f = sym (e ∙ append-nil done)
 place_rest inputs cs done (c ∷ rest) e h f =
-    let found : find (can_go inputs done) cs ≡ Some c = ap (find (can_go inputs done)) e ∙ find_skip (can_go inputs done) done c rest (gone inputs done done (still_among done [] (outs done) refl)) (and_from (not (is_among c.out (outs done))) (is_ready (inputs ++ outs done) c) (ap not f.0) h.0) in
-    let names : outs (done ++ c ∷ []) ≡ outs done ++ c.out ∷ [] = map-append (λ (x : Unplaced). x.out) done (c ∷ []) in
+    let found : find (can_go inputs done) cs ≡ Some c = ap (find (can_go inputs done)) e ∙ find_skip (can_go inputs done) done c rest (gone inputs done done (each_among (outs done))) (and_from (not (is_among c.out (outs done))) (is_ready (inputs ++ outs done) c) (ap not f.0) h.0) in
+    let names : outs (done ++ c ∷ []) ≡ outs done ++ c.out ∷ [] = map-append (λ (x : NamedGate). x.out) done (c ∷ []) in
     let known : inputs ++ outs (done ++ c ∷ []) ≡ (inputs ++ outs done) ++ c.out ∷ [] = ap (λ (ws : List (List ℕ)). inputs ++ ws) names ∙ sym (append_assoc inputs (outs done) (c.out ∷ [])) in
     place_some inputs cs (length rest) done c found
     ∙ place_rest inputs cs (done ++ c ∷ []) rest (e ∙ sym (append_assoc done (c ∷ []) rest)) (subst (λ (k : List (List ℕ)). IsInOrder k rest) (sym known) h.1) (subst (λ (k : List (List ℕ)). AreFresh k (outs rest)) (sym names) f.1)
@@ -60,11 +44,6 @@ fresh_drop xs had [] h = tt
 fresh_drop xs had (w ∷ ws) h =
     ((or_parts (is_among w xs) (is_among w had) (sym (list_any-append (bytes_eq w) xs had) ∙ h.0)).1, fresh_drop xs (had ++ w ∷ []) ws (subst (λ (k : List (List ℕ)). AreFresh k ws) (append_assoc xs had (w ∷ [])) h.1))
 
-pub placed_in_order : (inputs : List (List ℕ)) (cs : List Unplaced) → IsInOrder inputs cs → AreFresh inputs (outs cs) → placed inputs cs ≡ cs
-unfolding placed
+pub placed_in_order : (inputs : List (List ℕ)) (cs : List NamedGate) → IsInOrder inputs cs → AreFresh inputs (outs cs) → placed inputs cs ≡ cs
 placed_in_order inputs cs h f =
     place_rest inputs cs [] cs refl (subst (λ (k : List (List ℕ)). IsInOrder k cs) (sym (append-nil inputs)) h) (fresh_drop inputs [] (outs cs) (subst (λ (k : List (List ℕ)). AreFresh k (outs cs)) (sym (append-nil inputs)) f))
-
--- where all are placed, none is left
-pub all_placed : (cs : List Unplaced) → find (λ c. not (is_among c.out (outs cs))) cs ≡ None
-all_placed cs = find_no (λ c. not (is_among c.out (outs cs))) cs (none_left cs cs (still_among cs [] (outs cs) refl))

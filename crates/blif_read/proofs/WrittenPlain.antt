@@ -1,16 +1,14 @@
 -- The lines of a network are lines of plain words.
-use Rattle.std.proofs.Common.{◌≡◌, ℕ, zero, suc, ◌-◌, ◌≤◌, Bool, true, false, not, cond, ◌&&◌, leb, eqb, List, [], ◌∷◌, ◌++◌, length, map, get_or, refl, ap, ◌∙◌, arith}
+use Rattle.std.proofs.Common.{◌≡◌, ℕ, zero, suc, ◌≤◌, Bool, true, false, List, [], ◌∷◌, ◌++◌, length, map, refl, arith}
 use Rattle.std.specs.Prelude.{codes, All}
-use Rattle.std.specs.List.{flat_map, list_all, AllByRecursion, range_with_len}
-use Rattle.std.proofs.lemmas.Bool.{and_parts, and_from, ne_eqb}
+use Rattle.std.specs.List.{flat_map, AllByRecursion}
 use Rattle.std.proofs.lemmas.List.Elements.{All-from_recursion}
-use Rattle.std.proofs.lemmas.List.FromFn.{length-map-range_with_len, get_or-map-range_with_len}
-use Rattle.ae_base.specs.Mask.{has}
 use Rattle.ae_base.specs.Cube.{Product}
-use Rattle.ae_base.specs.Name.{is_allowed, is_name}
-use Rattle.ae_base.specs.Text.{digit, literal_text, cube_text}
-use Rattle.ae_base.specs.declared.limits.TheConstants.{NAME_BYTES, PINS}
+use Rattle.ae_base.specs.Name.{is_name}
+use Rattle.ae_base.specs.Text.{digit, cube_text}
+use Rattle.ae_base.specs.declared.limits.TheConstants.{PINS}
 use Rattle.ae_base.proofs.Distinct.{each-append, each_weaker}
+use Rattle.ae_base.proofs.PlainWords.{plain_name, plain_cube}
 use Rattle.ae_base.specs.Plain.{is_plain}
 use Rattle.ae_lex.specs.Written.{IsPlainLine}
 use Rattle.ae_net.specs.declared.net.Gate.{Gate}
@@ -20,13 +18,6 @@ use Rattle.ae_net.specs.Blif.{signal_names, name_of, row_words, gate_lines, net_
 abbrev pub ArePlain : List (List ℕ) → Type 0
 ArePlain ws = AllByRecursion (λ w. is_plain w ≡ true) ws
 
-plain_name : (w : List ℕ) → is_name w ≡ true → is_plain w ≡ true
-plain_name w h =
-    let one = and_parts (not (eqb (length w) 0) && leb (length w) NAME_BYTES && not (eqb (get_or w (length w - 1) 0) 92)) (list_all is_allowed w) h in
-    let two = and_parts (not (eqb (length w) 0) && leb (length w) NAME_BYTES) (not (eqb (get_or w (length w - 1) 0) 92)) one.0 in
-    let three = and_parts (not (eqb (length w) 0)) (leb (length w) NAME_BYTES) two.0 in
-    and_from _ _ (and_from _ _ three.0 two.1) one.1
-
 pub plain_names : (ws : List (List ℕ)) → AllByRecursion (λ w. is_name w ≡ true) ws → ArePlain ws
 plain_names ws h = each_weaker (λ w. is_name w ≡ true) (λ w. is_plain w ≡ true) plain_name ws h
 
@@ -35,35 +26,13 @@ plain_line w ws h k = record { some = omega arith; each = All-from_recursion (λ
 
 -- ---- rows
 
-allowed_of : (p q : Bool) → is_allowed (cond p 49 (cond q 48 45)) ≡ true
-allowed_of true q = refl
-allowed_of false true = refl
-allowed_of false false = refl
-
-closed_of : (p q : Bool) → not (eqb (cond p 49 (cond q 48 45)) 92) ≡ true
-closed_of true q = refl
-closed_of false true = refl
-closed_of false false = refl
-
-allowed_row : (row : Product) (js : List ℕ) → list_all is_allowed (map (literal_text row) js) ≡ true
-allowed_row row [] = refl
-allowed_row row (j ∷ js) = and_from _ _ (allowed_of (has row.pos j) (has row.neg j)) (allowed_row row js)
-
-plain_row : (k : ℕ) (row : Product) → is_plain (cube_text (suc k) row) ≡ true
-plain_row k row =
-    let long : length (cube_text (suc k) row) ≡ suc k = length-map-range_with_len (literal_text row) 0 (suc k) in
-    let some : not (eqb (length (cube_text (suc k) row)) 0) ≡ true = ap not (ne_eqb _ 0 (λ e. omega (arith, e, long))) in
-    let last : get_or (cube_text (suc k) row) (length (cube_text (suc k) row) - 1) 0 ≡ literal_text row k =
-    get_or-map-range_with_len (literal_text row) 0 (suc k) _ k 0 (omega (arith, long)) (omega (arith, long)) in
-    and_from _ _ (and_from _ _ some (ap (λ c. not (eqb c 92)) last ∙ closed_of (has row.pos k) (has row.neg k))) (allowed_row row (range_with_len 0 (suc k)))
-
 plain_digit : (on : Bool) → is_plain (digit on ∷ []) ≡ true
 plain_digit true = refl
 plain_digit false = refl
 
 row_line : (k : ℕ) (on : Bool) (row : Product) → IsPlainLine (row_words k on row)
 row_line zero on row = plain_line (digit on ∷ []) [] (plain_digit on) tt
-row_line (suc k) on row = plain_line (cube_text (suc k) row) ((digit on ∷ []) ∷ []) (plain_row k row) (plain_digit on, tt)
+row_line (suc k) on row = plain_line (cube_text (suc k) row) ((digit on ∷ []) ∷ []) (plain_cube (suc k) row (omega arith)) (plain_digit on, tt)
 
 row_lines : (k : ℕ) (on : Bool) (rows : List Product) → AllByRecursion IsPlainLine (map (row_words k on) rows)
 row_lines k on [] = tt

@@ -1,12 +1,7 @@
 pub mod Words
-pub mod Statement
-pub mod Earlier
-pub mod Faults
-pub mod Placing
 pub mod Says
-pub mod Lines
 pub mod Gives
 pub mod Limits
-pub mod Step
+pub mod Seen
 pub mod Build
 pub mod Names

@@ -1,12 +1,9 @@
 //! Gates from their lines.
 ghost use Rattle.std.specs.Prelude.{◌≡◌, ℕ, ◌+◌, ◌<◌, ◌≤◌, ◌^◌, length, map, drop, All, None, Some, option_map, slice_index_or, IfOk, OnOk};
-ghost use Rattle.blif_read.specs.Statement as statement;
-ghost use Rattle.blif_read.specs.Lines as says;
 ghost use Rattle.blif_read.specs.Build as spec;
 
 use crate::draft::Draft;
-use crate::head::Head;
-use crate::statement::{head_of, joined, row_end};
+use crate::statement::{joined, row_end};
 use ae_base::{Cube, Memory, Name, PINS, Seq, cube_of};
 use ae_lex::WordLine;
 use ae_net::{Gate, Pins};
@@ -16,7 +13,7 @@ use std::alloc::Global;
 #[tactic(auto, using(std::proofs::lemmas::List::take_all))]
 fn row_cube(pins: u32, chars: &[u8]) -> Cube
     requires { pins ≤ PINS }
-    ensures { result ≡ says.row_cube pins chars.now }
+    ensures { result ≡ spec.row_cube pins chars.now }
 {
     let pins = pins as usize;
     if chars.len() <= pins {
@@ -26,23 +23,19 @@ fn row_cube(pins: u32, chars: &[u8]) -> Cube
 }
 
 /// The characters of a line, if it is a row.
-#[tactic(auto, unfolding(crate::specs::Statement::head_of))]
 fn row_chars(alloc: Global, line: &WordLine<'_>) -> Result<Option<Seq<u8>>, Memory>
-    ensures { IfOk result (λ found. found ≡ spec.row_chars (statement.said line.now.words)) }
+    ensures { IfOk result (λ found. found ≡ spec.row_chars line.now.words) }
 {
     match line.words() {
-        [] => Ok(Some(Seq::new(alloc))),
-        [first, others @ ..] if head_of(first) == Head::Row => {
-            Ok(Some(Seq::from_vec(joined(alloc, first, others)?)))
-        }
-        _ => Ok(None),
+        [[b'.', ..], ..] => Ok(None),
+        words => Ok(Some(Seq::from_vec(joined(alloc, words)?))),
     }
 }
 
 /// The rows at the front of lines, over so many pins.
 fn rows_at(alloc: Global, lines: &[WordLine<'_>], pins: u32) -> Result<Seq<Cube>, Memory>
     requires { pins ≤ PINS }
-    ensures { IfOk result (λ rows. rows ≡ map (says.row_cube pins) (spec.rows_of lines.now)) }
+    ensures { IfOk result (λ rows. rows ≡ map (spec.row_cube pins) (spec.rows_of lines.now)) }
 {
     let mut rows = Seq::new(alloc);
     for line in lines {
@@ -56,7 +49,7 @@ fn rows_at(alloc: Global, lines: &[WordLine<'_>], pins: u32) -> Result<Seq<Cube>
 
 /// Whether the rows at the front of lines end with 1, or there is none.
 fn is_on(alloc: Global, lines: &[WordLine<'_>]) -> Result<bool, Memory>
-    ensures { IfOk result (λ on. on ≡ says.is_on (spec.rows_of lines.now)) }
+    ensures { IfOk result (λ on. on ≡ spec.is_on (spec.rows_of lines.now)) }
 {
     let [first, ..] = lines else {
         return Ok(true);

@@ -1,142 +1,65 @@
-//! The names that statements declare and drive.
-ghost use Rattle.std.specs.Prelude.{◌≡◌, ◌++◌, ◌∷◌, [], OnOk};
-ghost use Rattle.blif_read.specs.Words.{gate_name};
-ghost use Rattle.blif_read.specs.Faults as faults;
-ghost use Rattle.blif_read.specs.declared.fault.BlifFault.TheVariants as fault;
-ghost use Rattle.blif_read.specs.Step.{GivesFault};
+//! The names that statements declare.
+ghost use Rattle.std.specs.Prelude.{◌≡◌, ◌++◌, ◌∷◌, []};
+ghost use Rattle.blif_read.specs.Says.{declared_faults};
+ghost use Rattle.ae_lex.specs.Reads.{Takes};
 ghost use Rattle.ae_lex.specs.Slices.{texts};
 
 use crate::fault::{BlifFault, NetLimits};
-use crate::statement::{are_names, most_lines, read_name};
+use crate::statement::{most_lines, read_name};
 use crate::table::NameTable;
-use ae_base::{GATES, Name, PINS};
 use ae_lex::LineErr;
 use std::alloc::Global;
 
-/// Declares an input.
-fn add_input(
+/// What is declared: under which limits, and the fault of the first name past the most.
+#[derive(Clone, Copy)]
+pub struct Kind {
+    pub limits: NetLimits,
+    pub too_many: BlifFault,
+}
+
+/// Declares a name, which is to be none of the others and no gate.
+fn add_name(
     alloc: Global,
-    limits: NetLimits,
-    outputs: &NameTable,
-    driven: &NameTable,
-    inputs: &mut NameTable,
+    kind: Kind,
+    others: &NameTable,
+    gates: &NameTable,
+    names: &mut NameTable,
     word: &[u8],
 ) -> Result<(), LineErr<BlifFault>>
-    ensures fault { GivesFault (faults.declared_fault limits fault.TooManyInputs outputs.now driven.now inputs.old word.now) result }
-    ensures inputs { OnOk result (inputs.new ≡ inputs.old ++ word.now ∷ []) }
+    ensures { Takes (declared_faults kind.limits kind.too_many others.now gates.now names.old (word.now ∷ [])) (names.new ≡ names.old ++ word.now ∷ []) result }
 {
-    let Some(name) = read_name(alloc, limits, word)? else {
+    let Some(name) = read_name(alloc, kind.limits, word)? else {
         return Err(LineErr::Fault(BlifFault::BadName));
     };
-    if inputs.has(&name) {
+    if names.has(&name) {
         return Err(LineErr::Fault(BlifFault::NameTwice));
     }
-    if outputs.has(&name) {
+    if others.has(&name) {
         return Err(LineErr::Fault(BlifFault::OutputIsInput));
     }
-    if driven.has(&name) {
+    if gates.has(&name) {
         return Err(LineErr::Fault(BlifFault::DefinedTwice));
     }
-    if inputs.len() >= most_lines(limits) as usize {
-        return Err(LineErr::Fault(BlifFault::TooManyInputs));
+    if names.len() >= most_lines(kind.limits) as usize {
+        return Err(LineErr::Fault(kind.too_many));
     }
-    inputs.push(name)?;
+    names.push(name)?;
     Ok(())
 }
 
-/// Declares the words of `.inputs`.
-pub fn add_inputs(
+/// Declares the words of `.inputs` or `.outputs`.
+pub fn add_names(
     alloc: Global,
-    limits: NetLimits,
-    outputs: &NameTable,
-    driven: &NameTable,
-    inputs: &mut NameTable,
+    kind: Kind,
+    others: &NameTable,
+    gates: &NameTable,
+    names: &mut NameTable,
     words: &[&[u8]],
 ) -> Result<(), LineErr<BlifFault>>
-    ensures fault { GivesFault (faults.word_fault (faults.declared_fault limits fault.TooManyInputs outputs.now driven.now) inputs.old (texts words.now)) result }
-    ensures inputs { OnOk result (inputs.new ≡ inputs.old ++ texts words.now) }
+    ensures { Takes (declared_faults kind.limits kind.too_many others.now gates.now names.old (texts words.now)) (names.new ≡ names.old ++ texts words.now) result }
 {
     for word in words {
-        add_input(alloc, limits, outputs, driven, inputs, word)?;
+        add_name(alloc, kind, others, gates, names, word)?;
     }
-    Ok(())
-}
-
-/// Declares an output.
-fn add_output(
-    alloc: Global,
-    limits: NetLimits,
-    inputs: &NameTable,
-    outputs: &mut NameTable,
-    word: &[u8],
-) -> Result<(), LineErr<BlifFault>>
-    ensures fault { GivesFault (faults.declared_fault limits fault.TooManyOutputs inputs.now [] outputs.old word.now) result }
-    ensures outputs { OnOk result (outputs.new ≡ outputs.old ++ word.now ∷ []) }
-{
-    let Some(name) = read_name(alloc, limits, word)? else {
-        return Err(LineErr::Fault(BlifFault::BadName));
-    };
-    if outputs.has(&name) {
-        return Err(LineErr::Fault(BlifFault::NameTwice));
-    }
-    if inputs.has(&name) {
-        return Err(LineErr::Fault(BlifFault::OutputIsInput));
-    }
-    if outputs.len() >= most_lines(limits) as usize {
-        return Err(LineErr::Fault(BlifFault::TooManyOutputs));
-    }
-    outputs.push(name)?;
-    Ok(())
-}
-
-/// Declares the words of `.outputs`.
-pub fn add_outputs(
-    alloc: Global,
-    limits: NetLimits,
-    inputs: &NameTable,
-    outputs: &mut NameTable,
-    words: &[&[u8]],
-) -> Result<(), LineErr<BlifFault>>
-    ensures fault { GivesFault (faults.word_fault (faults.declared_fault limits fault.TooManyOutputs inputs.now []) outputs.old (texts words.now)) result }
-    ensures outputs { OnOk result (outputs.new ≡ outputs.old ++ texts words.now) }
-{
-    for word in words {
-        add_output(alloc, limits, inputs, outputs, word)?;
-    }
-    Ok(())
-}
-
-/// Drives the last of the words of `.names`.
-#[tactic(auto, using(crate::proofs::Words::last_is_name))]
-pub fn add_gate(
-    alloc: Global,
-    limits: NetLimits,
-    inputs: &NameTable,
-    driven: &mut NameTable,
-    words: &[&[u8]],
-) -> Result<(), LineErr<BlifFault>>
-    ensures fault { GivesFault (faults.names_fault limits inputs.now driven.old (texts words.now)) result }
-    ensures driven { OnOk result (driven.new ≡ driven.old ++ gate_name (texts words.now) ∷ []) }
-{
-    if words.is_empty() {
-        return Err(LineErr::Fault(BlifFault::BadName));
-    }
-    if !are_names(limits, words) {
-        return Err(LineErr::Fault(BlifFault::BadName));
-    }
-    if words.len() - 1 > PINS as usize {
-        return Err(LineErr::Fault(BlifFault::TooManyPins));
-    }
-    if driven.len() >= GATES as usize {
-        return Err(LineErr::Fault(BlifFault::TooManyGates));
-    }
-    let name = Name::known(alloc, words[words.len() - 1])?;
-    if inputs.has(&name) {
-        return Err(LineErr::Fault(BlifFault::DefinedTwice));
-    }
-    if driven.has(&name) {
-        return Err(LineErr::Fault(BlifFault::DefinedTwice));
-    }
-    driven.push(name)?;
     Ok(())
 }

@@ -1,15 +1,16 @@
 //! The gates of a text by their lines.
-ghost use Rattle.std.specs.Prelude.{◌≡◌, ◌++◌, ◌+◌, ◌<◌, ◌^◌, length, map, All, [], false, true, MatchOption, IfOk, IfSome};
+ghost use Rattle.std.specs.Prelude.{◌≡◌, ◌++◌, ◌∷◌, ◌+◌, ◌<◌, ◌^◌, length, map, drop, All, [], true, false, bytes_eq, MatchOption, IfOk, IfSome};
 ghost use Rattle.ae_base.specs.Name.{is_name};
-ghost use Rattle.blif_read.specs.Statement as statement;
 ghost use Rattle.blif_read.specs.Words.{pin_names};
-ghost use Rattle.blif_read.specs.Step.{IsFaultAt};
+ghost use Rattle.blif_read.specs.declared.fault.BlifErr.TheVariants as errors;
+ghost use Rattle.blif_read.specs.declared.fault.BlifFault.TheVariants as fault;
+ghost use Rattle.blif_read.specs.Seen.{Tells};
 ghost use Rattle.blif_read.specs.Build as spec;
+ghost use Rattle.ae_lex.specs.Heads.{heads};
 ghost use Rattle.ae_lex.specs.Slices.{texts};
 
 use crate::fault::{BlifErr, BlifFault};
-use crate::head::Head;
-use crate::statement::head_of;
+use crate::statement::is_word;
 use crate::table::NameTable;
 use ae_base::{Memory, Name, Seq};
 use ae_lex::WordLine;
@@ -74,24 +75,13 @@ fn signal_of_word(
     Ok(signal_of(inputs, driven, &name))
 }
 
-/// The words after `.names`, where a line begins so.
-#[tactic(auto, unfolding(crate::specs::Statement::head_of))]
-pub fn names_of<'a, 'b>(words: &'a [&'b [u8]]) -> Option<&'a [&'b [u8]]>
-    ensures { MatchOption result (spec.is_names (statement.said (texts words.now)) ≡ false) (λ ws. statement.said (texts words.now) ≡ statement.Said.Names (texts ws.now)) }
+/// The words after the first of a line that begins with this word.
+fn words_after<'a, 'b>(head: &[u8], words: &'a [&'b [u8]]) -> Option<&'a [&'b [u8]]>
+    requires { bytes_eq [] head.now ≡ false }
+    ensures { MatchOption result (heads head.now (texts words.now) ≡ false) (λ args. (heads head.now (texts words.now) ≡ true) × (texts args.now ≡ drop 1 (texts words.now))) }
 {
     match words {
-        [first, others @ ..] if head_of(first) == Head::Names => Some(others),
-        _ => None,
-    }
-}
-
-/// The words after `.outputs`, where a line begins so.
-#[tactic(auto, unfolding(crate::specs::Statement::head_of))]
-fn outputs_of<'a, 'b>(words: &'a [&'b [u8]]) -> Option<&'a [&'b [u8]]>
-    ensures { MatchOption result (spec.is_outputs (statement.said (texts words.now)) ≡ false) (λ ws. statement.said (texts words.now) ≡ statement.Said.Outputs (texts ws.now)) }
-{
-    match words {
-        [first, others @ ..] if head_of(first) == Head::Outputs => Some(others),
+        [first, args @ ..] if is_word(first, head) => Some(args),
         _ => None,
     }
 }
@@ -109,7 +99,7 @@ fn pin_words<'a, 'b>(words: &'a [&'b [u8]]) -> &'a [&'b [u8]]
 
 /// A name of this line is undefined.
 fn undefined_at(line: &WordLine<'_>) -> BlifErr
-    ensures { IsFaultAt (spec.undefined_if true line.now.number) result }
+    ensures { result ≡ errors.At line.now.number fault.Undefined }
 {
     BlifErr::At {
         line: line.number(),
@@ -127,9 +117,9 @@ fn draft_line(
     drafts: &mut Seq<Draft>,
 ) -> Result<(), BlifErr>
     requires { spec.AreSignals (inputs.now ++ driven.now) }
-    ensures { spec.Drafts (inputs.now ++ driven.now) place line.now drafts.old result drafts.new }
+    ensures { Tells (spec.undefined_pin (inputs.now ++ driven.now) (line.now ∷ [])) (drafts.new ≡ drafts.old ++ spec.drafted (inputs.now ++ driven.now) place line.now.words) result }
 {
-    let Some(names) = names_of(line.words()) else {
+    let Some(names) = words_after(b".names", line.words()) else {
         return Ok(());
     };
     match signals_of(alloc, inputs, driven, pin_words(names))? {
@@ -149,9 +139,9 @@ fn check_line(
     driven: &NameTable,
 ) -> Result<(), BlifErr>
     requires { spec.AreSignals (inputs.now ++ driven.now) }
-    ensures { spec.Shows (inputs.now ++ driven.now) line.now result }
+    ensures { Tells (spec.undefined_output (inputs.now ++ driven.now) (line.now ∷ [])) (Unit {0}) result }
 {
-    let Some(names) = outputs_of(line.words()) else {
+    let Some(names) = words_after(b".outputs", line.words()) else {
         return Ok(());
     };
     match signals_of(alloc, inputs, driven, names)? {
@@ -170,7 +160,7 @@ pub fn draft_gates(
 ) -> Result<(), BlifErr>
     requires signals { spec.AreSignals (inputs.now ++ driven.now) }
     requires none { drafts.old ≡ [] }
-    ensures { spec.DraftsAll (inputs.now ++ driven.now) lines.now result drafts.new }
+    ensures { Tells (spec.undefined_pin (inputs.now ++ driven.now) lines.now) (drafts.new ≡ spec.drafts_of (inputs.now ++ driven.now) 0 lines.now) result }
 {
     for (place, line) in lines.iter().enumerate() {
         draft_line(alloc, place, line, inputs, driven, drafts)?;
@@ -186,7 +176,7 @@ pub fn check_outputs(
     driven: &NameTable,
 ) -> Result<(), BlifErr>
     requires { spec.AreSignals (inputs.now ++ driven.now) }
-    ensures { spec.ShowsAll (inputs.now ++ driven.now) lines.now result }
+    ensures { Tells (spec.undefined_output (inputs.now ++ driven.now) lines.now) (Unit {0}) result }
 {
     for line in lines {
         check_line(alloc, line, inputs, driven)?;

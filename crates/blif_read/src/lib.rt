@@ -5,7 +5,6 @@ mod build;
 mod declare;
 mod draft;
 mod fault;
-mod head;
 mod laws;
 mod net;
 mod order;

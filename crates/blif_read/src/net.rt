@@ -3,10 +3,7 @@ ghost use Rattle.std.specs.Prelude.{◌≡◌, ℕ, ◌+◌, ◌<◌, ◌≤◌,
 ghost use Rattle.ae_base.specs.Name.{is_name};
 ghost use Rattle.ae_net.specs.Valid.{IsValid};
 ghost use Rattle.ae_base.specs.Twins.{is_among};
-ghost use Rattle.blif_read.specs.Lines as says;
-ghost use Rattle.blif_read.specs.Placing.{placed};
 ghost use Rattle.blif_read.specs.Gives.{Gives};
-ghost use Rattle.blif_read.specs.Step.{says_of};
 ghost use Rattle.blif_read.specs.Build as spec;
 
 use crate::build::{gate_of, renumbered};
@@ -155,7 +152,7 @@ fn net_placed(
 fn line_of(lines: &[WordLine<'_>], drafts: &[Draft], place: usize) -> u32
     requires within { place < length drafts.now }
     requires lines { All (λ d. d.line < length lines.now) drafts.now }
-    ensures { result ≡ (spec.cover_at lines.now (spec.draft_at drafts.now place).line).number }
+    ensures { result ≡ spec.front_number (drop (spec.draft_at drafts.now place).line lines.now) }
 {
     let draft = &drafts[place];
     lines[draft.line].number()
@@ -206,7 +203,6 @@ fn net_drafted(
 }
 
 /// What lines without a fault say, in a text with so many physical lines.
-#[tactic(auto, unfolding(crate::specs::Lines::lines_say))]
 pub fn net_said(
     alloc: Global,
     lines: &[WordLine<'_>],
@@ -214,7 +210,7 @@ pub fn net_said(
     seen: &Seen,
 ) -> Result<Net, BlifErr>
     requires { spec.AreFaultless lines.now seen.now }
-    ensures { Gives (says.lines_say last lines.now) result }
+    ensures { Gives (spec.lines_say last lines.now) result }
 {
     if seen.inputs.len() == 0 {
         return Err(BlifErr::At {

@@ -1,8 +1,10 @@
 //! Reads a text line by line.
 ghost use Rattle.std.specs.Prelude.{◌≡◌, ◌≤◌, [], length};
-ghost use Rattle.blif_read.specs.Step.{first_fault, seen_by, TakesLine, Reads};
-ghost use Rattle.blif_read.specs.Says.{blif_says};
-ghost use Rattle.blif_read.specs.Lines.{lines_say, unless_faulty};
+ghost use Rattle.ae_lex.specs.First.{first_fault};
+ghost use Rattle.ae_lex.specs.Reads.{words_of};
+ghost use Rattle.blif_read.specs.Seen as spec;
+ghost use Rattle.blif_read.specs.Seen.{Tells};
+ghost use Rattle.blif_read.specs.Says.{faults, blif_says};
 ghost use Rattle.blif_read.specs.Gives.{Gives};
 
 use crate::fault::{BlifErr, NetLimits};
@@ -13,66 +15,41 @@ use ae_lex::{LineErr, Style, WordLine, WordLines, word_lines};
 use ae_net::Net;
 use std::alloc::Global;
 
-/// Reads one more line.
-fn read_line(
-    alloc: Global,
-    limits: NetLimits,
-    line: &WordLine<'_>,
-    seen: &mut Seen,
-) -> Result<(), BlifErr>
-    ensures { TakesLine limits seen.old line.now result seen.new }
-{
-    match seen.read(alloc, limits, line.words()) {
-        Ok(()) => Ok(()),
-        Err(LineErr::Memory) => Err(BlifErr::Memory),
-        Err(LineErr::Fault(what)) => Err(BlifErr::At {
-            line: line.number(),
-            what,
-        }),
-    }
-}
-
 /// Reads the lines from the first on. `seen` is then what they say together.
-pub fn read_lines(
+fn read_lines(
     alloc: Global,
     limits: NetLimits,
     lines: &[WordLine<'_>],
     seen: &mut Seen,
 ) -> Result<(), BlifErr>
-    requires { seen.old ≡ seen_by [] }
-    ensures { Reads limits lines.now result seen.new }
+    requires { seen.old ≡ spec.seen [] }
+    ensures { Tells (first_fault (faults limits) [] lines.now) (seen.new ≡ spec.seen (words_of lines.now)) result }
 {
     for line in lines {
-        read_line(alloc, limits, line, seen)?;
+        match seen.read(alloc, limits, line.words()) {
+            Ok(()) => {}
+            Err(LineErr::Memory) => return Err(BlifErr::Memory),
+            Err(LineErr::Fault(what)) => {
+                return Err(BlifErr::At {
+                    line: line.number(),
+                    what,
+                });
+            }
+        }
     }
     Ok(())
-}
-
-/// The network that the lines of a text with so many physical lines say, or the first fault. Nothing is seen before.
-fn net_of_lines(
-    alloc: Global,
-    limits: NetLimits,
-    lines: &[WordLine<'_>],
-    last: u32,
-    seen: &mut Seen,
-) -> Result<Net, BlifErr>
-    requires { seen.old ≡ seen_by [] }
-    ensures { Gives (unless_faulty (first_fault limits [] lines.now) (lines_say last lines.now)) result }
-{
-    read_lines(alloc, limits, lines, seen)?;
-    net_said(alloc, lines, last, seen)
 }
 
 /// The network that a text says under the limits, with its gates in the order of placing, or its first fault.
 ///
 /// `At` carries the line and the kind of the first fault of the lines in order; where none has one, that of the whole text. `Memory` comes
 /// only for want of memory. What is read is combinational BLIF of one model, in the profile that `BlifFault` names.
-#[tactic(auto, using(crate::proofs::Bridge::says_by_lines))]
 pub fn read_blif(alloc: Global, bytes: &[u8], limits: NetLimits) -> Result<Net, BlifErr>
     requires { length bytes.now ≤ TEXT_BYTES }
     ensures { Gives (blif_says limits bytes.now) result }
 {
     let WordLines { list, last } = word_lines(alloc, bytes, Style::Blif)?;
     let mut seen = Seen::new(alloc);
-    net_of_lines(alloc, limits, list.as_slice(), last, &mut seen)
+    read_lines(alloc, limits, list.as_slice(), &mut seen)?;
+    net_said(alloc, list.as_slice(), last, &seen)
 }

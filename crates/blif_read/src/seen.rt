@@ -1,16 +1,16 @@
 //! What the lines so far say.
-ghost use Rattle.std.specs.Prelude.{◌≡◌, ℕ, List, []};
-ghost use Rattle.blif_read.specs.Statement as statement;
-ghost use Rattle.blif_read.specs.Faults.{fault_after_end};
-ghost use Rattle.blif_read.specs.Step.{seen_by, fault_in, line_fault_in, with_line, Takes};
+ghost use Rattle.std.specs.Prelude.{◌≡◌, ◌∷◌, ◌++◌, [], List, false, codes, slice_index, option_map};
+ghost use Rattle.ae_lex.specs.Heads.{Word};
+ghost use Rattle.ae_lex.specs.Reads.{Takes};
 ghost use Rattle.ae_lex.specs.Slices.{texts};
+ghost use Rattle.blif_read.specs.Says.{faults};
+ghost use Rattle.blif_read.specs.Seen as spec;
 
-use crate::declare::{add_gate, add_inputs, add_outputs};
+use crate::declare::{Kind, add_names};
 use crate::fault::{BlifFault, NetLimits};
-use crate::head::Head;
-use crate::statement::{head_of, is_row, joined, read_name, row_end};
+use crate::statement::{are_names, is_row, is_unsupported, is_word, joined, read_name, row_end};
 use crate::table::NameTable;
-use ae_base::Name;
+use ae_base::{GATES, Name, PINS};
 use ae_lex::LineErr;
 use std::alloc::Global;
 
@@ -35,9 +35,9 @@ pub struct Seen {
 
 impl Seen {
     /// Nothing is said yet.
-    #[tactic(auto, unfolding(crate::specs::Step::seen_by))]
+    #[tactic(auto, unfolding(crate::specs::Seen::seen, crate::specs::Says::gates_of))]
     pub fn new(alloc: Global) -> Seen
-        ensures { result ≡ seen_by [] }
+        ensures { result ≡ spec.seen [] }
     {
         Seen {
             ended: false,
@@ -50,15 +50,16 @@ impl Seen {
         }
     }
 
+    #[tactic(auto, unfolding(crate::specs::Seen::faults_in, crate::specs::Seen::with_line))]
     fn read_model(
         &mut self,
         alloc: Global,
         limits: NetLimits,
         words: &[&[u8]],
     ) -> Result<(), LineErr<BlifFault>>
-        ensures { Takes (fault_in limits self.old (statement.Said.Model (texts words.now))) (with_line self.old (statement.Said.Model (texts words.now))) result self.new }
+        ensures { Takes (spec.faults_in limits self.old (codes ".model" ∷ texts words.now)) (self.new ≡ spec.with_line self.old (codes ".model" ∷ texts words.now)) result }
     {
-        if self.has_model {
+        if self.ended || self.has_model {
             return Err(LineErr::Fault(BlifFault::TwoModels));
         }
         let model = match words {
@@ -75,17 +76,23 @@ impl Seen {
         Ok(())
     }
 
+    #[tactic(auto, unfolding(crate::specs::Seen::faults_in, crate::specs::Seen::with_line))]
     fn read_inputs(
         &mut self,
         alloc: Global,
         limits: NetLimits,
         words: &[&[u8]],
     ) -> Result<(), LineErr<BlifFault>>
-        ensures { Takes (fault_in limits self.old (statement.Said.Inputs (texts words.now))) (with_line self.old (statement.Said.Inputs (texts words.now))) result self.new }
+        requires { self.now.ended ≡ false }
+        ensures { Takes (spec.faults_in limits self.old (codes ".inputs" ∷ texts words.now)) (self.new ≡ spec.with_line self.old (codes ".inputs" ∷ texts words.now)) result }
     {
-        add_inputs(
-            alloc,
+        let kind = Kind {
             limits,
+            too_many: BlifFault::TooManyInputs,
+        };
+        add_names(
+            alloc,
+            kind,
             &self.outputs,
             &self.driven,
             &mut self.inputs,
@@ -95,28 +102,58 @@ impl Seen {
         Ok(())
     }
 
+    #[tactic(auto, unfolding(crate::specs::Seen::faults_in, crate::specs::Seen::with_line))]
     fn read_outputs(
         &mut self,
         alloc: Global,
         limits: NetLimits,
         words: &[&[u8]],
     ) -> Result<(), LineErr<BlifFault>>
-        ensures { Takes (fault_in limits self.old (statement.Said.Outputs (texts words.now))) (with_line self.old (statement.Said.Outputs (texts words.now))) result self.new }
+        requires { self.now.ended ≡ false }
+        ensures { Takes (spec.faults_in limits self.old (codes ".outputs" ∷ texts words.now)) (self.new ≡ spec.with_line self.old (codes ".outputs" ∷ texts words.now)) result }
     {
-        add_outputs(alloc, limits, &self.inputs, &mut self.outputs, words)?;
+        let kind = Kind {
+            limits,
+            too_many: BlifFault::TooManyOutputs,
+        };
+        let no_gates = NameTable::new(alloc);
+        add_names(
+            alloc,
+            kind,
+            &self.inputs,
+            &no_gates,
+            &mut self.outputs,
+            words,
+        )?;
         self.cover = None;
         Ok(())
     }
 
+    /// The gate that the last of the words names.
+    #[tactic(auto, unfolding(crate::specs::Seen::faults_in, crate::specs::Seen::with_line), using(crate::proofs::Words::last_is_name, crate::proofs::Steps::among_both))]
     fn read_names(
         &mut self,
         alloc: Global,
         limits: NetLimits,
         words: &[&[u8]],
     ) -> Result<(), LineErr<BlifFault>>
-        ensures { Takes (fault_in limits self.old (statement.Said.Names (texts words.now))) (with_line self.old (statement.Said.Names (texts words.now))) result self.new }
+        requires { self.now.ended ≡ false }
+        ensures { Takes (spec.faults_in limits self.old (codes ".names" ∷ texts words.now)) (self.new ≡ spec.with_line self.old (codes ".names" ∷ texts words.now)) result }
     {
-        add_gate(alloc, limits, &self.inputs, &mut self.driven, words)?;
+        if words.is_empty() || !are_names(limits, words) {
+            return Err(LineErr::Fault(BlifFault::BadName));
+        }
+        if words.len() - 1 > PINS as usize {
+            return Err(LineErr::Fault(BlifFault::TooManyPins));
+        }
+        if self.driven.len() >= GATES as usize {
+            return Err(LineErr::Fault(BlifFault::TooManyGates));
+        }
+        let name = Name::known(alloc, words[words.len() - 1])?;
+        if self.inputs.has(&name) || self.driven.has(&name) {
+            return Err(LineErr::Fault(BlifFault::DefinedTwice));
+        }
+        self.driven.push(name)?;
         self.cover = Some(OpenCover {
             pins: words.len() - 1,
             end_char: None,
@@ -125,7 +162,7 @@ impl Seen {
     }
 
     fn read_row(&mut self, chars: &[u8]) -> Result<(), LineErr<BlifFault>>
-        ensures { (limits : NetLimits) → Takes (fault_in limits self.old (statement.Said.Row chars.now)) (with_line self.old (statement.Said.Row chars.now)) result self.new }
+        ensures { Takes (spec.row_faults_in self.old.cover chars.now) (self.new ≡ record self.old { cover = option_map (spec.with_end chars.now) self.old.cover }) result }
     {
         let Some(cover) = self.cover else {
             return Err(LineErr::Fault(BlifFault::StrayRow));
@@ -145,79 +182,68 @@ impl Seen {
         Ok(())
     }
 
-    fn read_after_end(&mut self, head: Head) -> Result<(), LineErr<BlifFault>>
-        ensures { (first : List ℕ) (words : List (List ℕ)) → Takes (fault_after_end (statement.said_by head first words)) (with_line self.old (statement.said_by head first words)) result self.new }
-    {
-        match head {
-            Head::Model => Err(LineErr::Fault(BlifFault::TwoModels)),
-            Head::End => {
-                self.ended = true;
-                self.cover = None;
-                Ok(())
-            }
-            _ => Err(LineErr::Fault(BlifFault::AfterEnd)),
-        }
-    }
-
-    fn read_before_end(
+    /// A statement, by its first word and those after it.
+    #[tactic(auto, unfolding(crate::specs::Seen::faults_in, crate::specs::Seen::with_line))]
+    fn read_statement(
         &mut self,
         alloc: Global,
         limits: NetLimits,
-        head: Head,
-        first: &[u8],
+        head: &[u8],
         words: &[&[u8]],
     ) -> Result<(), LineErr<BlifFault>>
-        ensures { Takes (fault_in limits self.old (statement.said_by head first.now (texts words.now))) (with_line self.old (statement.said_by head first.now (texts words.now))) result self.new }
+        requires { slice_index head.now 0 ≡ 46 }
+        ensures { Takes (spec.faults_in limits self.old (head.now ∷ texts words.now)) (self.new ≡ spec.with_line self.old (head.now ∷ texts words.now)) result }
     {
-        match head {
-            Head::Model => self.read_model(alloc, limits, words),
-            Head::Inputs => self.read_inputs(alloc, limits, words),
-            Head::Outputs => self.read_outputs(alloc, limits, words),
-            Head::Names => self.read_names(alloc, limits, words),
-            Head::End => {
-                self.ended = true;
-                self.cover = None;
-                Ok(())
-            }
-            Head::Unsupported => Err(LineErr::Fault(BlifFault::Unsupported)),
-            Head::Unknown => Err(LineErr::Fault(BlifFault::Unknown)),
-            Head::Row => {
-                let chars = joined(alloc, first, words)?;
+        if is_word(head, b".model") {
+            self.read_model(alloc, limits, words)
+        } else if is_word(head, b".end") {
+            self.ended = true;
+            self.cover = None;
+            Ok(())
+        } else if self.ended {
+            Err(LineErr::Fault(BlifFault::AfterEnd))
+        } else if is_word(head, b".inputs") {
+            self.read_inputs(alloc, limits, words)
+        } else if is_word(head, b".outputs") {
+            self.read_outputs(alloc, limits, words)
+        } else if is_word(head, b".names") {
+            self.read_names(alloc, limits, words)
+        } else if is_unsupported(head) {
+            Err(LineErr::Fault(BlifFault::Unsupported))
+        } else {
+            Err(LineErr::Fault(BlifFault::Unknown))
+        }
+    }
+
+    #[tactic(auto, unfolding(crate::specs::Seen::faults_in, crate::specs::Seen::with_line))]
+    fn read_words(
+        &mut self,
+        alloc: Global,
+        limits: NetLimits,
+        words: &[&[u8]],
+    ) -> Result<(), LineErr<BlifFault>>
+        ensures { Takes (spec.faults_in limits self.old (texts words.now)) (self.new ≡ spec.with_line self.old (texts words.now)) result }
+    {
+        let ended = self.ended;
+        match words {
+            [[b'.', ..], others @ ..] => self.read_statement(alloc, limits, words[0], others),
+            _ if ended => Err(LineErr::Fault(BlifFault::AfterEnd)),
+            _ => {
+                let chars = joined(alloc, words)?;
                 self.read_row(chars.as_slice())
             }
         }
     }
 
-    #[tactic(auto, unfolding(crate::specs::Step::line_fault_in))]
-    fn read_line(
-        &mut self,
-        alloc: Global,
-        limits: NetLimits,
-        head: Head,
-        first: &[u8],
-        words: &[&[u8]],
-    ) -> Result<(), LineErr<BlifFault>>
-        ensures { Takes (line_fault_in limits self.old (statement.said_by head first.now (texts words.now))) (with_line self.old (statement.said_by head first.now (texts words.now))) result self.new }
-    {
-        if self.ended {
-            self.read_after_end(head)
-        } else {
-            self.read_before_end(alloc, limits, head, first, words)
-        }
-    }
-
-    /// Reads one more line. After a fault nothing is to be read from the value.
+    /// Reads one more line. After an error nothing is to be read from the value.
     pub fn read(
         &mut self,
         alloc: Global,
         limits: NetLimits,
         words: &[&[u8]],
     ) -> Result<(), LineErr<BlifFault>>
-        ensures { Takes (line_fault_in limits self.old (statement.said (texts words.now))) (with_line self.old (statement.said (texts words.now))) result self.new }
+        ensures { (before : List (List Word)) → self.old ≡ spec.seen before → Takes (faults limits before (texts words.now)) (self.new ≡ spec.seen (before ++ texts words.now ∷ [])) result }
     {
-        match words {
-            [] => self.read_line(alloc, limits, Head::Row, &[], &[]),
-            [first, others @ ..] => { self.read_line(alloc, limits, head_of(first), first, others) }
-        }
+        self.read_words(alloc, limits, words)
     }
 }

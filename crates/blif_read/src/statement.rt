@@ -1,14 +1,11 @@
 //! What the words of a line are.
-ghost use Rattle.std.specs.Prelude.{◌≡◌, ◌∷◌, slice_index, if◌then◌else◌, Some, None, IfOk};
+ghost use Rattle.std.specs.Prelude.{◌≡◌, bytes_eq, if◌then◌else◌, Some, None, IfOk};
 ghost use Rattle.std.specs.List.{list_all, concat};
 ghost use Rattle.ae_base.specs.Twins.{is_among};
 ghost use Rattle.blif_read.specs.Words as words;
-ghost use Rattle.blif_read.specs.Statement as spec;
-ghost use Rattle.blif_read.specs.declared.head.Head.TheVariants as head;
 ghost use Rattle.ae_lex.specs.Slices.{texts};
 
 use crate::fault::NetLimits;
-use crate::head::Head;
 use ae_base::{
     Memory, Name, SOURCE_LINES, WRITTEN_LINES, are_literals, is_bit, is_name, is_source_name,
 };
@@ -53,15 +50,6 @@ pub fn read_name(alloc: Global, limits: NetLimits, word: &[u8]) -> Result<Option
     Ok(Some(Name::known(alloc, word)?))
 }
 
-/// The statements that are read, by their first words.
-static STATEMENTS: [(&[u8], Head); 5] = [
-    (b".model", Head::Model),
-    (b".inputs", Head::Inputs),
-    (b".outputs", Head::Outputs),
-    (b".names", Head::Names),
-    (b".end", Head::End),
-];
-
 /// Statements of the format that are not read.
 static UNSUPPORTED: [&[u8]; 19] = [
     b".latch",
@@ -85,46 +73,27 @@ static UNSUPPORTED: [&[u8]; 19] = [
     b".code",
 ];
 
-/// What a statement with this first word is, if it is not read.
-fn unread_statement(word: &[u8]) -> Head
-    ensures { result ≡ (if is_among word.now words.unsupported then head.Unsupported else head.Unknown) }
+/// Whether a word is this one.
+pub fn is_word(word: &[u8], other: &[u8]) -> bool
+    ensures { result ≡ bytes_eq word.now other.now }
 {
-    if is_one_of(word, &UNSUPPORTED) {
-        Head::Unsupported
-    } else {
-        Head::Unknown
-    }
+    word == other
 }
 
-/// What a statement with this first word is.
-fn statement_of(word: &[u8]) -> Head
-    requires { slice_index word.now 0 ≡ 46 }
-    ensures { result ≡ spec.head_of word.now }
+/// Whether a statement with this first word is one of the format that is not read.
+pub fn is_unsupported(word: &[u8]) -> bool
+    ensures { result ≡ is_among word.now words.unsupported }
 {
-    match STATEMENTS.iter().find(|(first, _)| word == *first) {
-        Some((_, head)) => *head,
-        None => unread_statement(word),
-    }
-}
-
-/// What a line with this first word is.
-#[tactic(auto, unfolding(crate::specs::Statement::head_of))]
-pub fn head_of(word: &[u8]) -> Head
-    ensures { result ≡ spec.head_of word.now }
-{
-    match word {
-        [b'.', ..] => statement_of(word),
-        _ => Head::Row,
-    }
+    is_one_of(word, &UNSUPPORTED)
 }
 
 /// The characters of a row: those of its words, one after the other.
 #[tactic(auto, using(crate::proofs::Words::joined_more))]
-pub fn joined(alloc: Global, first: &[u8], others: &[&[u8]]) -> Result<Vec<u8>, Memory>
-    ensures { IfOk result (λ chars. chars.items ≡ concat (first.now ∷ texts others.now)) }
+pub fn joined(alloc: Global, words: &[&[u8]]) -> Result<Vec<u8>, Memory>
+    ensures { IfOk result (λ chars. chars.items ≡ concat (texts words.now)) }
 {
-    let mut chars = Vec::from_slice(alloc, first)?;
-    for word in others {
+    let mut chars = Vec::new(alloc);
+    for word in words {
         chars.extend_from_slice(word)?;
     }
     Ok(chars)

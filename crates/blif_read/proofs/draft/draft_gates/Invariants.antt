@@ -1,6 +1,11 @@
-use Rattle.std.proofs.Common.{◌++◌}
-use Rattle.blif_read.proofs.Drafts.{IsDrafted}
+use Rattle.std.proofs.Common.{◌≡◌, ◌++◌, drop}
+use Rattle.blif_read.specs.Build.{drafts_of, undefined_pin}
 use Rattle.blif_read.proofs.draft.draft_gates.Given as goal
 
 abbrev pub invariant-loop-place : goal.invariant-loop-place
-invariant-loop-place l = IsDrafted (l.inputs ++ l.driven) l.lines l.place l.drafts
+invariant-loop-place l =
+    let known = l.inputs ++ l.driven in
+    record {
+      drafts : l.drafts ++ drafts_of known l.place (drop l.place l.lines) ≡ drafts_of known 0 l.lines;
+      first : undefined_pin known (drop l.place l.lines) ≡ undefined_pin known l.lines;
+    }

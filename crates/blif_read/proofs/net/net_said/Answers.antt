@@ -36,7 +36,7 @@ net_drafted-requires c =
     (record {
       faultless = c.requires;
       reads = c.in_ok-draft_gates.ensures.0;
-      shows = c.in_ok-check_outputs.ensures;
+      shows = c.in_ok-check_outputs.ensures.0;
       drafts_are = c.in_ok-draft_gates.ensures.1;
       some_input = omega (arith, c.len.ensures, c.if-len-eq0.false);
       some_output = omega (arith, c.len-2.ensures, c.if-len-eq0-2.false);
@@ -48,7 +48,7 @@ returns c =
     let drafted : AreDrafted all c.args.seen.now c.draft_gates.new.drafts = record {
       faultless = c.requires;
       reads = c.in_ok-draft_gates.ensures.0;
-      shows = c.in_ok-check_outputs.ensures;
+      shows = c.in_ok-check_outputs.ensures.0;
       drafts_are = c.in_ok-draft_gates.ensures.1;
       some_input = omega (arith, c.len.ensures, c.if-len-eq0.false);
       some_output = omega (arith, c.len-2.ensures, c.if-len-eq0-2.false);
