@@ -1,8 +1,10 @@
--- What a fault changes, gate by gate: gates that it does not touch have the values that they have without it.
-use Rattle.std.proofs.Common.{◌≡◌, ℕ, zero, suc, ◌+◌, ◌-◌, ◌<◌, ◌≤◌, Bool, true, false, not, cond, ◌&&◌, ◌||◌, ◌⊎◌, inl, inr, List, length, set, refl, sym, ap, ◌∙◌, subst, arith, add-one}
-use Rattle.std.specs.Prelude.{◌↔◌, Option, Some, None, slice_get, slice_index}
-use Rattle.std.proofs.lemmas.Bool.{false≢true, cases_eq, cases_lt, and_parts, and_from, lt-ltb, false_from_ne_true}
-use Rattle.std.proofs.lemmas.List.{get_or-set_same, get_or-set_other}
+-- What a fault changes, gate by gate: gates that read no signal that differs have the values that they have without it.
+use Rattle.std.proofs.Common.{◌≡◌, ◌≢◌, ℕ, zero, suc, ◌+◌, ◌-◌, ◌*◌, ◌/◌, ◌<◌, ◌≤◌, Bool, true, false, not, cond, ◌&&◌, ◌||◌, inl, inr, List, length, set, refl, sym, ap, ap₂, ◌∙◌, subst, eqb, eqb-true, eq-eqb, ne_eqb, arith, add-one}
+use Rattle.std.specs.Prelude.{◌↔◌, Option, Some, None, slice_get, slice_index, slice_index_or}
+use Rattle.std.proofs.lemmas.Bool.{false≢true, cases_Bool, cases_eq, cases_lt, and_parts, and_from, lt-ltb, false_from_ne_true}
+use Rattle.std.specs.Global.{Vec}
+use Rattle.std.specs.Vec.{with_items}
+use Rattle.std.proofs.lemmas.List.{with_items_is, get_or-set_same, get_or-set_other, get_or_default}
 use Rattle.std.proofs.lemmas.Option.{slice_get_within, slice_get-get_or}
 use Rattle.ae_base.specs.Mask.{Set, differ, has, where_below}
 use Rattle.ae_base.proofs.Below.{where_below_agree}
@@ -12,42 +14,82 @@ use Rattle.ae_net.specs.declared.net.Place.{Place}
 use Rattle.ae_net.specs.declared.net.Place.TheVariants.{Stem, Pin, Port}
 use Rattle.ae_net.specs.declared.net.Fault.{Fault}
 use Rattle.ae_net.specs.Network.{Network, signals, gate_at}
-use Rattle.ae_net.specs.Run.{table, same_place, seen, value_of, IsRun, ports_of}
+use Rattle.ae_net.specs.Run.{table, same_place, seen, value_of, ones_seen, IsRun, ports_of}
 use Rattle.ae_net.specs.Out.{out, HasOneRun}
 use Rattle.ae_net.specs.Valid.{IsValid}
-use Rattle.fault_sim.specs.Lanes.{each_below, pin_lane, port_differs, HasRun, IsGood, IsFaulty, IsUntouched, IsQuietFrom, AreReadBefore, Tells}
+use Rattle.fault_sim.specs.declared.cone.Cone.{Cone}
+use Rattle.fault_sim.specs.declared.words.TheConstants.{LANES}
+use Rattle.fault_sim.specs.Lanes.{each_below, sees, port_differs, HasRun, IsElsewhere, IsGood, IsFaulty, ReadsGood, Tells}
+use Rattle.fault_sim.specs.Marks.{IsAmong, IsFirstTaken, IsUnmarked, is_marked}
+use Rattle.fault_sim.proofs.MarkWords.{neither, only_new}
+use Rattle.fault_sim.specs.Spread.{AreChanged, AreMarks, AreReaders, IsAtRest, IsPast, IsPut, IsSite, IsSpread, row}
 
 pub there_at : (n : Network) (i : ℕ) → i < length n.gates → slice_get n.gates i ≡ Some (gate_at n i)
 there_at n i l = slice_get-get_or n.gates i _ l
 
--- a gate's table on the words of its pins gives its value in the run
-pub gate-lane : (n : Network) (fault : Option Fault) (x : Set) (v : List Bool) (i : ℕ) (gate : Gate) (l : ℕ) (words : List ℕ) → IsValid n → IsRun n fault x v → slice_get n.gates i ≡ Some gate → HasRun v l (length n.inputs + i) words
-    → seen fault (Stem (length n.inputs + i)) (table gate (where_below (length gate.pins) (pin_lane fault words i gate l))) ≡ value_of v (length n.inputs + i)
-gate-lane n fault x v i gate l words valid run there has_run =
-    ap (λ ones. seen fault (Stem (length n.inputs + i)) (table gate ones))
-    (where_below_agree (length gate.pins) _ _ (λ k lt. ap (seen fault (Pin i k)) (has_run (slice_index gate.pins k) ((valid.gates i gate there).earlier k 0 lt))))
-    ∙ sym (run.gates i gate there)
+-- ---- one gate
 
 -- at another place nothing changes
 other_place : (fault : Fault) (at : Place) (b : Bool) → same_place fault.place at ≡ false → seen (Some fault) at b ≡ b
 other_place fault at b other = ap (λ t. cond t fault.value b) other
 
--- a gate that the fault does not touch
-pub calm : (n : Network) (fault : Fault) (good words : List ℕ) (i : ℕ) (gate : Gate) (l : ℕ) (x : Set) (w v : List Bool) → IsValid n → slice_get n.gates i ≡ Some gate → IsUntouched n fault good words i gate → IsRun n None x w → IsRun n (Some fault) x v → HasRun w l (signals n) good → HasRun v l (length n.inputs + i) words → value_of v (length n.inputs + i) ≡ value_of w (length n.inputs + i)
-calm n fault good words i gate l x w v valid there untouched w_run v_run w_lane v_lane =
-    v_run.gates i gate there
-    ∙ other_place fault (Stem (length n.inputs + i)) _ untouched.stem
+free-stem : (n : Network) (fault : Option Fault) (i : ℕ) (b : Bool) → IsElsewhere n fault i → seen fault (Stem (length n.inputs + i)) b ≡ b
+free-stem n None i b far = refl
+free-stem n (Some fault) i b far = other_place fault (Stem (length n.inputs + i)) b far.0
+
+free-pin : (n : Network) (fault : Option Fault) (i k : ℕ) (b : Bool) → IsElsewhere n fault i → seen fault (Pin i k) b ≡ b
+free-pin n None i k b far = refl
+free-pin n (Some fault) i k b far = other_place fault (Pin i k) b (far.1 k)
+
+-- a gate at which there is no fault has its value in the run where its pins see those of the signals that they read
+pub free-lane : (n : Network) (fault : Option Fault) (x : Set) (v : List Bool) (i : ℕ) (gate : Gate) (l : ℕ) (words views : List ℕ) → IsValid n → slice_get n.gates i ≡ Some gate → IsElsewhere n fault i → IsRun n fault x v
+    → ((k : ℕ) → k < length gate.pins → slice_index views k ≡ slice_index words (slice_index gate.pins k)) → HasRun v l (length n.inputs + i) words → table gate (where_below (length gate.pins) (sees views l)) ≡ value_of v (length n.inputs + i)
+free-lane n fault x v i gate l words views valid there far run pins lanes =
+    ap (table gate) (where_below_agree (length gate.pins) _ _ (λ k lt. ap (λ word. has word l) (pins k lt) ∙ lanes (slice_index gate.pins k) ((valid.gates i gate there).earlier k 0 lt) ∙ sym (free-pin n fault i k _ far)))
+    ∙ sym (free-stem n fault i _ far)
+    ∙ sym (run.gates i gate there)
+
+-- a gate with a fault at a pin has its value in the run where its pins see those of the signals that they read, but for that pin
+pub held-lane : (n : Network) (value : Bool) (x : Set) (v : List Bool) (i p : ℕ) (gate : Gate) (l : ℕ) (words views : List ℕ) → IsValid n → slice_get n.gates i ≡ Some gate → IsRun n (Some (record { place = Pin i p; value = value })) x v
+    → ((k : ℕ) → k < length gate.pins → has (slice_index views k) l ≡ seen (Some (record { place = Pin i p; value = value })) (Pin i k) (has (slice_index words (slice_index gate.pins k)) l)) → HasRun v l (length n.inputs + i) words
+    → table gate (where_below (length gate.pins) (sees views l)) ≡ value_of v (length n.inputs + i)
+held-lane n value x v i p gate l words views valid there run pins lanes =
+    ap (table gate) (where_below_agree (length gate.pins) _ _ (λ k lt. pins k lt ∙ ap (seen (Some (record { place = Pin i p; value = value })) (Pin i k)) (lanes (slice_index gate.pins k) ((valid.gates i gate there).earlier k 0 lt))))
+    ∙ sym (run.gates i gate there)
+
+-- what the pins see, one of them held
+pub held-view : (i p : ℕ) (value : Bool) (pins words views : List ℕ) (word k l : ℕ) → p < length views → has word l ≡ value → slice_index views k ≡ slice_index words (slice_index pins k)
+    → has (slice_index (set views p word) k) l ≡ seen (Some (record { place = Pin i p; value = value })) (Pin i k) (has (slice_index words (slice_index pins k)) l)
+held-view i p value pins words views word k l room is read =
+    elim (cases_eq p k) [
+      | inl e ↦
+          ap (λ m. has (slice_index (set views p word) m) l) (sym e)
+          ∙ ap (λ u. has u l) (get_or-set_same views p word 0 room)
+          ∙ is
+          ∙ sym (ap₂ (λ a b. cond (a && b) value (has (slice_index words (slice_index pins k)) l)) (eq-eqb i i refl) (eq-eqb p k e))
+      | inr ne ↦
+          ap (λ u. has u l) (get_or-set_other views p k word 0 (λ e. ne (sym e)) ∙ read)
+          ∙ sym (ap₂ (λ a b. cond (a && b) value (has (slice_index words (slice_index pins k)) l)) (eq-eqb i i refl) (ne_eqb p k ne))
+    ]
+
+-- a pin that the gate has not
+pub past-view : (i p : ℕ) (value : Bool) (pins words views : List ℕ) (k l : ℕ) → length pins ≤ p → k < length pins → slice_index views k ≡ slice_index words (slice_index pins k)
+    → has (slice_index views k) l ≡ seen (Some (record { place = Pin i p; value = value })) (Pin i k) (has (slice_index words (slice_index pins k)) l)
+past-view i p value pins words views k l past lt read =
+    ap (λ u. has u l) read ∙ sym (ap₂ (λ a b. cond (a && b) value (has (slice_index words (slice_index pins k)) l)) (eq-eqb i i refl) (ne_eqb p k (λ e. omega (arith, e, past, lt))))
+
+-- a gate at which the fault is not, and which reads no signal that differs
+calm : (n : Network) (fault : Fault) (good words : List ℕ) (i : ℕ) (gate : Gate) (l : ℕ) (x : Set) (w v : List Bool) → IsValid n → slice_get n.gates i ≡ Some gate → IsElsewhere n (Some fault) i → ReadsGood good words gate → IsRun n None x w → IsRun n (Some fault) x v → HasRun w l (signals n) good → HasRun v l (length n.inputs + i) words
+    → has (slice_index good (length n.inputs + i)) l ≡ value_of v (length n.inputs + i)
+calm n fault good words i gate l x w v valid there far reads w_run v_run w_lane v_lane =
+    w_lane (length n.inputs + i) (omega (arith, slice_get_within n.gates i gate there)) ∙ w_run.gates i gate there
     ∙ ap (table gate) (where_below_agree (length gate.pins) _ _ (λ k lt.
     let pin = slice_index gate.pins k in
     let before : pin < length n.inputs + i = (valid.gates i gate there).earlier k 0 lt in
     let within : pin < signals n = omega (arith, before, slice_get_within n.gates i gate there) in
-    let pins = untouched.pins k lt in
-    other_place fault (Pin i k) _ pins.0 ∙ sym (v_lane pin before) ∙ ap (λ word. has word l) pins.1 ∙ w_lane pin within))
-    ∙ sym (w_run.gates i gate there)
-
-pub calm-word : (n : Network) (fault : Fault) (good words : List ℕ) (i : ℕ) (gate : Gate) (l : ℕ) (x : Set) (w v : List Bool) → IsValid n → slice_get n.gates i ≡ Some gate → IsUntouched n fault good words i gate → IsRun n None x w → IsRun n (Some fault) x v → HasRun w l (signals n) good → HasRun v l (length n.inputs + i) words → has (slice_index good (length n.inputs + i)) l ≡ value_of v (length n.inputs + i)
-calm-word n fault good words i gate l x w v valid there untouched w_run v_run w_lane v_lane =
-    w_lane (length n.inputs + i) (omega (arith, slice_get_within n.gates i gate there)) ∙ sym (calm n fault good words i gate l x w v valid there untouched w_run v_run w_lane v_lane)
+    sym (w_lane pin within) ∙ ap (λ word. has word l) (sym (reads k lt)) ∙ v_lane pin before ∙ sym (free-pin n (Some fault) i k _ far)))
+    ∙ sym (free-stem n (Some fault) i _ far)
+    ∙ sym (v_run.gates i gate there)
 
 -- ---- one gate more
 
@@ -58,43 +100,22 @@ more-lane v l words a m word e room next lane s within =
       | inr ne ↦ ap (λ u. has u l) (get_or-set_other words m s word 0 ne) ∙ lane s (omega (arith, e, ne, within))
     ]
 
-pub more-faulty : (n : Network) (fault : Fault) (good words : List ℕ) (i m word : ℕ) → m ≡ length n.inputs + i → m < length words
-    → ((l : ℕ) (x : Set) (w v : List Bool) → l < 64 → IsRun n None x w → IsRun n (Some fault) x v → HasRun w l (signals n) good → HasRun v l (length n.inputs + i) words → has word l ≡ value_of v (length n.inputs + i))
-    → IsFaulty n fault good (length n.inputs + i) words → IsFaulty n fault good (length n.inputs + (i + 1)) (set words m word)
-more-faulty n fault good words i m word e room next before l x w v lt w_run v_run w_lane s within =
+more-faulty : (n : Network) (fault : Fault) (good words after : List ℕ) (i word : ℕ) → slice_index after (length n.inputs + i) ≡ word → ((t : ℕ) → t ≢ length n.inputs + i → slice_index after t ≡ slice_index words t)
+    → ((l : ℕ) (x : Set) (v : List Bool) → l < LANES → IsRun n (Some fault) x v → HasRun v l (length n.inputs + i) words → has word l ≡ value_of v (length n.inputs + i)) → IsFaulty n fault good (length n.inputs + i) words
+    → IsFaulty n fault good (length n.inputs + (i + 1)) after
+more-faulty n fault good words after i word is others next before l x w v lt w_run v_run w_lane s within =
     let lane = before l x w v lt w_run v_run w_lane in
-    more-lane v l words (length n.inputs + i) m word e room (next l x w v lt w_run v_run w_lane lane) lane s (omega (arith, within))
+    elim (cases_eq s (length n.inputs + i)) [
+      | inl e ↦ ap (λ t. has (slice_index after t) l) e ∙ ap (λ u. has u l) is ∙ next l x v lt v_run lane ∙ ap (value_of v) (sym e)
+      | inr ne ↦ ap (λ u. has u l) (others s ne) ∙ lane s (omega (arith, within, ne))
+    ]
 
-pub more-rest : (words good : List ℕ) (a m word : ℕ) → m ≡ a → ((s : ℕ) → a ≤ s → slice_index words s ≡ slice_index good s) → (s : ℕ) → a < s → slice_index (set words m word) s ≡ slice_index good s
-more-rest words good a m word e rest s l = get_or-set_other words m s word 0 (omega (arith, e, l)) ∙ rest s (omega (arith, l))
-
--- a word that differs makes the gates that read it touched, and no others
-pub more-quiet : (n : Network) (fault : Fault) (good words past : List ℕ) (m word end later : ℕ) → m < length words → AreReadBefore n past → end ≤ later → ((word ≡ slice_index good m) ⊎ (slice_index past m ≤ later)) → slice_index words m ≡ slice_index good m
-    → IsQuietFrom n fault good words end → IsQuietFrom n fault good (set words m word) later
-more-quiet n fault good words past m word end later room read grows reached same quiet j gate there from =
-    let before = quiet j gate there (omega arith) in
-    record {
-      stem = before.stem;
-      pins = λ k lt. (
-        (before.pins k lt).0,
-        elim (cases_eq (slice_index gate.pins k) m) [
-          | inl e ↦ elim reached [
-            | inl equal ↦ ap (λ t. slice_index (set words m word) t) e ∙ get_or-set_same words m word 0 room ∙ equal ∙ ap (slice_index good) (sym e)
-            | inr far ↦ absurd (omega (arith, far, from, ap (slice_index past) e, read j gate k there lt))
-          ]
-          | inr ne ↦ get_or-set_other words m (slice_index gate.pins k) word 0 ne ∙ (before.pins k lt).1
-        ],
-      );
-    }
-
--- ---- after the last gate that is touched
-
--- gates that are not touched keep the words good
-pub calm-faulty : (n : Network) (fault : Fault) (good words : List ℕ) (i m : ℕ) → IsValid n → i + m ≤ length n.gates → ((j : ℕ) (gate : Gate) → slice_get n.gates j ≡ Some gate → i ≤ j → j < i + m → IsUntouched n fault good words j gate)
+-- gates that read no signal that differs keep the words good
+calm-faulty : (n : Network) (fault : Fault) (good words : List ℕ) (i m : ℕ) → IsValid n → i + m ≤ length n.gates → ((j : ℕ) → i ≤ j → j < i + m → IsElsewhere n (Some fault) j) → ((j : ℕ) (gate : Gate) → slice_get n.gates j ≡ Some gate → i ≤ j → j < i + m → ReadsGood good words gate)
     → ((s : ℕ) → length n.inputs + i ≤ s → slice_index words s ≡ slice_index good s) → IsFaulty n fault good (length n.inputs + i) words → IsFaulty n fault good (length n.inputs + (i + m)) words
-calm-faulty n fault good words i zero valid within quiet rest before l x w v lt w_run v_run w_lane s h = before l x w v lt w_run v_run w_lane s (omega (arith, h))
-calm-faulty n fault good words i (suc m) valid within quiet rest before l x w v lt w_run v_run w_lane s h =
-    let earlier = calm-faulty n fault good words i m valid (omega (arith, within)) (λ j gate there from to. quiet j gate there from (omega (arith, to))) rest before l x w v lt w_run v_run w_lane in
+calm-faulty n fault good words i zero valid within far quiet rest before l x w v lt w_run v_run w_lane s h = before l x w v lt w_run v_run w_lane s (omega (arith, h))
+calm-faulty n fault good words i (suc m) valid within far quiet rest before l x w v lt w_run v_run w_lane s h =
+    let earlier = calm-faulty n fault good words i m valid (omega (arith, within)) (λ j from to. far j from (omega (arith, to))) (λ j gate there from to. quiet j gate there from (omega (arith, to))) rest before l x w v lt w_run v_run w_lane in
     elim (cases_lt s (length n.inputs + (i + m))) [
       | inl less ↦ earlier s less
       | inr late ↦
@@ -102,28 +123,210 @@ calm-faulty n fault good words i (suc m) valid within quiet rest before l x w v 
           let there = there_at n (i + m) (omega (arith, within)) in
           ap (λ t. has (slice_index words t) l) e
           ∙ ap (λ u. has u l) (rest (length n.inputs + (i + m)) (omega arith))
-          ∙ calm-word n fault good words (i + m) (gate_at n (i + m)) l x w v valid there (quiet (i + m) (gate_at n (i + m)) there (omega arith) (omega arith)) w_run v_run w_lane earlier
+          ∙ calm n fault good words (i + m) (gate_at n (i + m)) l x w v valid there (far (i + m) (omega arith) (omega arith)) (quiet (i + m) (gate_at n (i + m)) there (omega arith) (omega arith)) w_run v_run w_lane earlier
           ∙ ap (value_of v) (sym e)
     ]
 
-pub all-faulty : (n : Network) (fault : Fault) (good words : List ℕ) (i : ℕ) → IsValid n → i ≤ length n.gates → IsQuietFrom n fault good words i → ((s : ℕ) → length n.inputs + i ≤ s → slice_index words s ≡ slice_index good s)
-    → IsFaulty n fault good (length n.inputs + i) words → IsFaulty n fault good (signals n) words
-all-faulty n fault good words i valid within quiet rest before l x w v lt w_run v_run w_lane s h =
-    calm-faulty n fault good words i (length n.gates - i) valid (omega (arith, within)) (λ j gate there from to. quiet j gate there from) rest before l x w v lt w_run v_run w_lane s (omega (arith, h, within))
+calm-to : (n : Network) (fault : Fault) (good words : List ℕ) (i m : ℕ) → IsValid n → i ≤ m → m ≤ length n.gates → ((j : ℕ) → i ≤ j → j < m → IsElsewhere n (Some fault) j) → ((j : ℕ) (gate : Gate) → slice_get n.gates j ≡ Some gate → i ≤ j → j < m → ReadsGood good words gate)
+    → ((s : ℕ) → length n.inputs + i ≤ s → slice_index words s ≡ slice_index good s) → IsFaulty n fault good (length n.inputs + i) words → IsFaulty n fault good (length n.inputs + m) words
+calm-to n fault good words i m valid up within far quiet rest before l x w v lt w_run v_run w_lane s h =
+    calm-faulty n fault good words i (m - i) valid (omega (arith, up, within)) (λ j from to. far j from (omega (arith, to, up))) (λ j gate there from to. quiet j gate there from (omega (arith, to, up))) rest before l x w v lt w_run v_run w_lane s (omega (arith, h, up))
 
--- before the gate at which the pass begins
-pub begun-faulty : (n : Network) (fault : Fault) (good words : List ℕ) (from : ℕ) → IsValid n → from ≤ length n.gates
-    → ((i : ℕ) → i < from → (same_place fault.place (Stem (length n.inputs + i)) ≡ false) × ((k : ℕ) → same_place fault.place (Pin i k) ≡ false)) → (0 < from → words ≡ good)
-    → ((s : ℕ) → length n.inputs ≤ s → slice_index words s ≡ slice_index good s) → IsFaulty n fault good (length n.inputs) words → IsFaulty n fault good (length n.inputs + from) words
-begun-faulty n fault good words from valid within elsewhere same rest before =
-    let none : length n.inputs ≡ length n.inputs + 0 = omega arith in
-    let all : 0 + from ≡ from = omega arith in
-    subst (λ m. IsFaulty n fault good (length n.inputs + m) words) all
-    (calm-faulty n fault good words 0 from valid (omega (arith, within))
-    (λ j gate there zero to.
-    let earlier : j < from = omega (arith, to) in
-    record { stem = (elsewhere j earlier).0; pins = λ k lt. ((elsewhere j earlier).1 k, ap (λ u. slice_index u (slice_index gate.pins k)) (same (omega (arith, earlier)))) })
-    (λ s h. rest s (omega (arith, h))) (subst (λ m. IsFaulty n fault good m words) none before))
+-- ---- a word that is put
+
+unmarked_before : (before after : Bool) → (before ≡ true → after ≡ true) → after ≡ false → before ≡ false
+unmarked_before true after kept none = absurd (false≢true (sym none ∙ kept refl))
+unmarked_before false after kept none = refl
+
+put-quiet : (n : Network) (good : List ℕ) (readers : List (List ℕ)) (s word : ℕ) (before after : Cone) (k : ℕ) (gate : Gate) → AreReaders n readers → IsPut good (row readers s) s word before after → slice_index before.words.items s ≡ slice_index good s → slice_get n.gates k ≡ Some gate → is_marked after.marked.items k ≡ false
+    → (is_marked before.marked.items k ≡ false → ReadsGood good before.words.items gate) → ReadsGood good after.words.items gate
+put-quiet n good readers s word before after k gate are put same there none quiet p lt =
+    elim (cases_eq (slice_index gate.pins p) s) [
+      | inl e ↦ elim put.spread [
+        | inl equal ↦ ap (slice_index after.words.items) e ∙ put.writes same ∙ equal ∙ ap (slice_index good) (sym e)
+        | inr marks ↦
+            let among : IsAmong (row readers s) k = subst (λ t. IsAmong (row readers t) k) e (are.each k gate p there lt) in
+            absurd (false≢true (sym none ∙ ap (is_marked after.marked.items) (sym among.2) ∙ marks.1 among.0 among.1))
+      ]
+      | inr ne ↦ put.others (slice_index gate.pins p) ne ∙ quiet (unmarked_before _ _ (put.kept k) none) p lt
+    ]
+
+put-changed : (good readers : List ℕ) (s word : ℕ) (before after : Cone) → IsPut good readers s word before after → slice_index before.words.items s ≡ slice_index good s → AreChanged good before → AreChanged good after
+put-changed good readers s word before after put same changed t none =
+    elim (cases_eq t s) [
+      | inl e ↦ elim put.spread [
+        | inl equal ↦ ap (slice_index after.words.items) e ∙ put.writes same ∙ equal ∙ ap (slice_index good) (sym e)
+        | inr marks ↦ absurd (false≢true (sym none ∙ ap (is_marked after.changed.items) e ∙ marks.0))
+      ]
+      | inr ne ↦ put.others t ne ∙ changed t (put.unchanged t none)
+    ]
+
+pub put-marks : (n : Network) (good : List ℕ) (readers : List (List ℕ)) (s word : ℕ) (before after : Cone) (j : ℕ) → AreReaders n readers → IsPut good (row readers s) s word before after → s < signals n → ((k : ℕ) → s < length n.inputs + k → j ≤ k) → AreMarks n before j → AreMarks n after j
+put-marks n good readers s word before after j are put within late marks = record {
+  marked = λ k set. elim (cases_Bool (is_marked before.marked.items k)) [
+    | inl old ↦ marks.marked k old
+    | inr new ↦ let later = are.later s k (put.only k set new) in (late k later.0, later.1)
+  ];
+  changed = λ t set. elim (cases_Bool (is_marked before.changed.items t)) [
+    | inl old ↦ marks.changed t old
+    | inr new ↦ omega (arith, put.changed t set new, within)
+  ];
+}
+
+pub visited : (n : Network) (fault : Fault) (good : List ℕ) (readers : List (List ℕ)) (i word : ℕ) (before after : Cone) → AreReaders n readers
+    → ((l : ℕ) (x : Set) (v : List Bool) → l < LANES → IsRun n (Some fault) x v → HasRun v l (length n.inputs + i) before.words.items → has word l ≡ value_of v (length n.inputs + i)) → IsPut good (row readers (length n.inputs + i)) (length n.inputs + i) word before after
+    → IsSpread n fault good before i (i + 1) → IsSpread n fault good after (i + 1) (i + 1)
+visited n fault good readers i word before after are next put spread =
+    let same = spread.rest (length n.inputs + i) (omega arith) in record {
+      faulty = more-faulty n fault good before.words.items after.words.items i word (put.writes same) put.others next spread.faulty;
+      rest = λ s h. put.others s (omega (arith, h)) ∙ spread.rest s (omega (arith, h));
+      quiet = λ k gate there from none. put-quiet n good readers (length n.inputs + i) word before after k gate are put same there none (spread.quiet k gate there from);
+      changed = put-changed good (row readers (length n.inputs + i)) (length n.inputs + i) word before after put same spread.changed;
+    }
+
+-- what a vector has after it was written as a slice
+pub refilled : {X : Type 0} (v : Vec X) (ws : List X) → length ws ≡ length v.items → (with_items v ws).items ≡ ws
+refilled v ws e = with_items_is v ws (omega (arith, e, v.ok.0))
+
+-- what `put` writes, where the word differs
+pub written : (good list readers : List ℕ) (s word : ℕ) (before after : Cone) (marked changed marked_after changed_after : List ℕ) → readers ≡ list → marked ≡ before.marked.items → changed ≡ before.changed.items → after.marked.items ≡ marked_after → after.changed.items ≡ changed_after → s < length before.words.items → after.words.items ≡ set before.words.items s word
+    → ((j : ℕ) → is_marked changed_after j ≡ (eqb j s || is_marked changed j)) → ((k : ℕ) → k < length readers → is_marked marked_after (slice_index readers k) ≡ true) → ((j : ℕ) → is_marked marked j ≡ true → is_marked marked_after j ≡ true)
+    → ((j : ℕ) → is_marked marked_after j ≡ true → is_marked marked j ≡ false → IsAmong readers j) → IsPut good list s word before after
+written good list readers s word before after marked changed marked_after changed_after same_list same_marked same_changed new_marked new_changed room words one each kept only = record {
+  writes = λ same. ap (λ ws. slice_index ws s) words ∙ get_or-set_same before.words.items s word 0 room;
+  others = λ t ne. ap (λ ws. slice_index ws t) words ∙ get_or-set_other before.words.items s t word 0 ne;
+  kept = λ j old. ap (λ marks. is_marked marks j) new_marked ∙ kept j (ap (λ marks. is_marked marks j) same_marked ∙ old);
+  only = λ j new none. subst (λ xs. IsAmong xs j) same_list (only j (ap (λ marks. is_marked marks j) (sym new_marked) ∙ new) (ap (λ marks. is_marked marks j) same_marked ∙ none));
+  spread = inr (ap (λ marks. is_marked marks s) new_changed ∙ one s ∙ ap (λ b. b || is_marked changed s) (eq-eqb s s refl), subst (λ xs. (k : ℕ) → k < length xs → is_marked after.marked.items (slice_index xs k) ≡ true) same_list (λ k lt. ap (λ marks. is_marked marks (slice_index readers k)) new_marked ∙ each k lt));
+  unchanged = λ t none. ap (λ marks. is_marked marks t) (sym same_changed) ∙ neither (eqb t s) (is_marked changed t) (sym (one t) ∙ ap (λ marks. is_marked marks t) (sym new_changed) ∙ none);
+  changed = λ t new none. eqb-true t s (only_new (eqb t s) (is_marked changed t) (sym (one t) ∙ ap (λ marks. is_marked marks t) (sym new_changed) ∙ new) (ap (λ marks. is_marked marks t) same_changed ∙ none));
+}
+
+-- a cone at rest
+pub rest-marks : (n : Network) (good : List ℕ) (cone : Cone) (j : ℕ) → IsAtRest good cone → AreMarks n cone j
+rest-marks n good cone j rest = record { marked = λ k set. absurd (false≢true (sym (rest.marked k) ∙ set)); changed = λ s set. absurd (false≢true (sym (rest.changed s) ∙ set)) }
+
+-- the gates that read a signal have a mark each
+pub room_for_marks : (n : Network) (readers : List (List ℕ)) (cone : Cone) (s k d : ℕ) → AreReaders n readers → length n.gates ≤ 64 * length cone.marked.items → k < length (row readers s) → slice_index_or (row readers s) k d / 64 < length cone.marked.items
+room_for_marks n readers cone s k d are room lt =
+    let later = are.later s (slice_index_or (row readers s) k d) (k, lt, get_or_default (row readers s) k 0 d lt) in omega (arith, later.1, room)
+
+-- ---- from one marked gate to the next, and past the last
+
+pub advanced : (n : Network) (fault : Fault) (good : List ℕ) (before after : Cone) (i m : ℕ) → IsValid n → IsPast n fault i → i ≤ m → m < length n.gates → IsFirstTaken before.marked.items after.marked.items m → after.words.items ≡ before.words.items → after.changed.items ≡ before.changed.items → IsSpread n fault good before i i
+    → IsSpread n fault good after m (m + 1)
+advanced n fault good before after i m valid past up within taken words changed spread = record {
+  faulty = subst (IsFaulty n fault good (length n.inputs + m)) (sym words) (calm-to n fault good before.words.items i m valid up (omega (arith, within)) (λ j from to. past j from (omega (arith, to, within))) (λ j gate there from to. spread.quiet j gate there from (taken.first j to)) spread.rest spread.faulty);
+  rest = λ s h. ap (λ ws. slice_index ws s) words ∙ spread.rest s (omega (arith, h, up));
+  quiet = λ k gate there from none. subst (λ ws. ReadsGood good ws gate) (sym words) (spread.quiet k gate there (omega (arith, from, up)) (other_mark (is_marked before.marked.items k) _ (ne_eqb k m (λ e. omega (arith, e, from))) (sym (taken.rest k) ∙ none)));
+  changed = λ s none. ap (λ ws. slice_index ws s) words ∙ spread.changed s (ap (λ marks. is_marked marks s) (sym changed) ∙ none);
+}
+  where
+    other_mark : (b t : Bool) → t ≡ false → (not t && b) ≡ false → b ≡ false
+    other_mark b true other none = absurd (false≢true (sym other))
+    other_mark b false other none = none
+
+pub all-faulty : (n : Network) (fault : Fault) (good : List ℕ) (cone : Cone) (i : ℕ) → IsValid n → IsPast n fault i → IsUnmarked cone.marked.items → IsSpread n fault good cone i i → IsFaulty n fault good (signals n) cone.words.items
+all-faulty n fault good cone i valid past none spread =
+    elim (cases_lt i (length n.gates)) [
+      | inl less ↦ calm-to n fault good cone.words.items i (length n.gates) valid (omega (arith, less)) (omega arith) (λ j from to. past j from to) (λ j gate there from to. spread.quiet j gate there from (none j)) spread.rest spread.faulty
+      | inr more ↦ λ l x w v lt w_run v_run w_lane s h. spread.faulty l x w v lt w_run v_run w_lane s (omega (arith, h, more))
+    ]
+
+-- ---- words made good again
+
+pub restored-from : (before after : List ℕ) (s next : ℕ) → IsFirstTaken before after s → (t : ℕ) → t < s + 1 → is_marked after t ≡ false
+restored-from before after s next taken t lt =
+    elim (cases_eq t s) [
+      | inl e ↦ taken.rest t ∙ ap (λ b. not b && is_marked before t) (eq-eqb t s e)
+      | inr ne ↦ taken.rest t ∙ ap₂ (λ a b. not a && b) (ne_eqb t s ne) (taken.first t (omega (arith, lt, ne)))
+    ]
+
+pub restored-only : (before after : List ℕ) (s t : ℕ) → IsFirstTaken before after s → is_marked after t ≡ true → is_marked before t ≡ true
+restored-only before after s t taken set = right_part (not (eqb t s)) (is_marked before t) (sym (taken.rest t) ∙ set)
+  where
+    right_part : (a b : Bool) → (a && b) ≡ true → b ≡ true
+    right_part true b h = h
+    right_part false b h = absurd (false≢true h)
+
+pub restored-word : (good words marks after : List ℕ) (s t : ℕ) → s < length words → IsFirstTaken marks after s → ((t : ℕ) → is_marked marks t ≡ false → slice_index words t ≡ slice_index good t) → is_marked after t ≡ false → slice_index (set words s (slice_index good s)) t ≡ slice_index good t
+restored-word good words marks after s t within taken same none =
+    elim (cases_eq t s) [
+      | inl e ↦ ap (slice_index (set words s (slice_index good s))) e ∙ get_or-set_same words s (slice_index good s) 0 within ∙ ap (slice_index good) (sym e)
+      | inr ne ↦ get_or-set_other words s t (slice_index good s) 0 ne ∙ same t (sym (taken.rest t ∙ ap (λ b. not b && is_marked marks t) (ne_eqb t s ne)) ∙ none)
+    ]
+
+-- ---- where the fault is
+
+inputs-lane : (n : Network) (fault : Fault) (good : List ℕ) (l j : ℕ) (x : Set) (w v : List Bool) → IsRun n None x w → IsRun n (Some fault) x v → HasRun w l (signals n) good → j < length n.inputs → same_place fault.place (Stem j) ≡ false → has (slice_index good j) l ≡ value_of v j
+inputs-lane n fault good l j x w v w_run v_run w_lane within far =
+    w_lane j (omega (arith, within)) ∙ w_run.inputs j within ∙ sym (other_place fault (Stem j) (has x j) far) ∙ sym (v_run.inputs j within)
+
+rest_word : (good : List ℕ) (cone : Cone) → IsAtRest good cone → (s : ℕ) → slice_index cone.words.items s ≡ slice_index good s
+rest_word good cone rest s = ap (λ ws. slice_index ws s) rest.words
+
+pub nowhere-spread : (n : Network) (fault : Fault) (good : List ℕ) (cone : Cone) → ((j : ℕ) → j < length n.inputs → same_place fault.place (Stem j) ≡ false) → IsAtRest good cone → IsSpread n fault good cone 0 0
+nowhere-spread n fault good cone far rest = record {
+  faulty = λ l x w v lt w_run v_run w_lane s h. let within : s < length n.inputs = omega (arith, h) in ap (λ u. has u l) (rest_word good cone rest s) ∙ inputs-lane n fault good l s x w v w_run v_run w_lane within (far s within);
+  rest = λ s h. rest_word good cone rest s;
+  quiet = λ k gate there from none p lt. rest_word good cone rest (slice_index gate.pins p);
+  changed = λ s none. rest_word good cone rest s;
+}
+
+pub stem-site : (n : Network) (fault : Fault) (good : List ℕ) (s word : ℕ) → fault.place ≡ Stem s → ((l : ℕ) → l < LANES → has word l ≡ fault.value) → IsSite n fault good s word
+stem-site n fault good s word at is = record {
+  gates = λ k lt ne. (ap (λ p. same_place p (Stem (length n.inputs + k))) at ∙ ne_eqb s (length n.inputs + k) (λ e. ne (sym e)), λ q. ap (λ p. same_place p (Pin k q)) at);
+  inputs = λ j lt ne. ap (λ p. same_place p (Stem j)) at ∙ ne_eqb s j (λ e. ne (sym e));
+  holds = λ l x v lt within run lanes. is l lt ∙ sym (elim (cases_lt s (length n.inputs)) [
+    | inl input ↦ run.inputs s input ∙ stuck (has x s)
+    | inr gate ↦
+        let e : length n.inputs + (s - length n.inputs) ≡ s = omega (arith, gate) in
+        ap (value_of v) (sym e) ∙ run.gates (s - length n.inputs) (gate_at n (s - length n.inputs)) (there_at n (s - length n.inputs) (omega (arith, within, gate))) ∙ stuck_at (length n.inputs + (s - length n.inputs)) (table (gate_at n (s - length n.inputs)) (ones_seen (Some fault) v (s - length n.inputs) (gate_at n (s - length n.inputs)))) e
+  ]);
+}
+  where
+    stuck : (b : Bool) → seen (Some fault) (Stem s) b ≡ fault.value
+    stuck b = ap (λ t. cond t fault.value b) (ap (λ p. same_place p (Stem s)) at ∙ eq-eqb s s refl)
+
+    stuck_at : (t : ℕ) (b : Bool) → t ≡ s → seen (Some fault) (Stem t) b ≡ fault.value
+    stuck_at t b e = ap (λ t. seen (Some fault) (Stem t) b) e ∙ stuck b
+
+pub pin-site : (n : Network) (fault : Fault) (good : List ℕ) (i p word : ℕ) → fault.place ≡ Pin i p → ((l : ℕ) (x : Set) (v : List Bool) → l < LANES → IsRun n (Some (record { place = Pin i p; value = fault.value })) x v → HasRun v l (length n.inputs + i) good → has word l ≡ value_of v (length n.inputs + i))
+    → IsSite n fault good (length n.inputs + i) word
+pin-site n fault good i p word at is = record {
+  gates = λ k lt ne. (ap (λ q. same_place q (Stem (length n.inputs + k))) at, λ q. ap (λ r. same_place r (Pin k q)) at ∙ ap (λ b. b && eqb p q) (ne_eqb i k (λ e. ne (ap (λ j. length n.inputs + j) (sym e)))));
+  inputs = λ j lt ne. ap (λ q. same_place q (Stem j)) at;
+  holds = λ l x v lt within run lanes. is l x v lt (subst (λ place. IsRun n (Some (record { place = place; value = fault.value })) x v) at run) lanes;
+}
+
+pub input-spread : (n : Network) (fault : Fault) (good : List ℕ) (readers : List (List ℕ)) (s word : ℕ) (before after : Cone) → AreReaders n readers → IsSite n fault good s word → s < length n.inputs → IsAtRest good before → IsPut good (row readers s) s word before after → IsSpread n fault good after 0 0
+input-spread n fault good readers s word before after are site within rest put = record {
+  faulty = λ l x w v lt w_run v_run w_lane t h. elim (cases_eq t s) [
+    | inl e ↦
+        ap (λ t. has (slice_index after.words.items t) l) e
+        ∙ ap (λ u. has u l) (put.writes (rest_word good before rest s))
+        ∙ site.holds l x v lt (omega (arith, within)) v_run (λ j lower. inputs-lane n fault good l j x w v w_run v_run w_lane (omega (arith, lower, within)) (site.inputs j (omega (arith, lower, within)) (λ same. omega (arith, same, lower))))
+        ∙ ap (value_of v) (sym e)
+    | inr ne ↦ ap (λ u. has u l) (put.others t ne ∙ rest_word good before rest t) ∙ inputs-lane n fault good l t x w v w_run v_run w_lane (omega (arith, h)) (site.inputs t (omega (arith, h)) ne)
+  ];
+  rest = λ t h. put.others t (omega (arith, h, within)) ∙ rest_word good before rest t;
+  quiet = λ k gate there from none. put-quiet n good readers s word before after k gate are put (rest_word good before rest s) there none (λ old p lt. rest_word good before rest (slice_index gate.pins p));
+  changed = put-changed good (row readers s) s word before after put (rest_word good before rest s) (λ t none. rest_word good before rest t);
+}
+
+pub gate-spread : (n : Network) (fault : Fault) (good : List ℕ) (readers : List (List ℕ)) (s i word : ℕ) (before after : Cone) → IsValid n → AreReaders n readers → IsSite n fault good s word → s ≡ length n.inputs + i → i < length n.gates → IsAtRest good before → IsPut good (row readers s) s word before after
+    → IsSpread n fault good after (i + 1) (i + 1)
+gate-spread n fault good readers s i word before after valid are site at within rest put =
+    let none = nowhere-spread n fault good before (λ j lt. site.inputs j lt (omega (arith, lt, at))) rest in
+    visited n fault good readers i word before after are
+    (λ l x v lt run lanes. site.holds l x v lt (omega (arith, at, within)) run (λ t h. ap (λ u. has u l) (sym (rest_word good before rest t)) ∙ lanes t (omega (arith, h, at))) ∙ ap (value_of v) at)
+    (subst (λ t. IsPut good (row readers t) t word before after) at put)
+    (record {
+      faulty = calm-to n fault good before.words.items 0 i valid (omega arith) (omega (arith, within)) (λ j from to. site.gates j (omega (arith, to, within)) (omega (arith, to, at))) (λ j gate there from to p lt. rest_word good before rest (slice_index gate.pins p)) (λ t h. rest_word good before rest t) none.faulty;
+      rest = λ t h. rest_word good before rest t;
+      quiet = λ k gate there from unmarked p lt. rest_word good before rest (slice_index gate.pins p);
+      changed = λ t unmarked. rest_word good before rest t;
+    })
 
 -- ---- the ports
 
@@ -175,7 +378,7 @@ ports-tell n fault good words l w v valid w_lane v_lane = (
 
 -- so the lanes tell which points detect the fault
 pub lanes-tell : (n : Network) (fault : Fault) (good words outputs : List ℕ) (told : ℕ) → IsValid n → outputs ≡ n.outputs → ((h : Option Fault) (x : Set) → HasOneRun n h x) → ((h : Option Fault) (x : Set) (w : List Bool) → IsRun n h x w → out n h x ≡ ports_of n h w)
-    → IsFaulty n fault good (signals n) words → ((l : ℕ) → l < 64 → has told l ≡ not (each_below (length outputs) (λ o. not (port_differs outputs fault good words l o)))) → Tells n fault good told
+    → IsFaulty n fault good (signals n) words → ((l : ℕ) → l < LANES → has told l ≡ not (each_below (length outputs) (λ o. not (port_differs outputs fault good words l o)))) → Tells n fault good told
 lanes-tell n fault good words outputs told valid same runs outs faulty is l x lt is_good =
     let w = runs None x in
     let v = runs (Some fault) x in

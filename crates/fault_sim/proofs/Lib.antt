@@ -1,4 +1,6 @@
 pub mod Cones
+pub mod MarkWords
+pub mod Reading
 pub mod RowLanes
 pub mod Searches
 pub mod Simulated

@@ -2,11 +2,11 @@
 use Rattle.std.specs.Prelude.{◌≡◌, length}
 use Rattle.ae_net.specs.Network.{Network, signals}
 use Rattle.fault_sim.specs.declared.search.Bench.{Bench}
-use Rattle.fault_sim.specs.Lanes.{AreReadBefore}
+use Rattle.fault_sim.specs.Spread.{AreReaders, IsAtRest, IsCone}
 
--- A bench of the network: each list has an element for each signal, and the words with a fault are those without one.
+-- A bench of the network, with which no fault is tried just now.
 pub record IsBench (n : Network) (bench : Bench) : Type 0 where
-  pub past : length bench.past.items ≡ signals n
+  pub readers : AreReaders n bench.readers.items
   pub good : length bench.good.items ≡ signals n
-  pub read : AreReadBefore n bench.past.items
-  pub same : bench.words.items ≡ bench.good.items
+  pub cone : IsCone n bench.cone
+  pub rest : IsAtRest bench.good.items bench.cone

@@ -1,4 +1,4 @@
--- Words of 64 lanes, each with the values of a run of its own: a word is the set of the lanes that show 1. For private contracts alone.
+-- Words of lanes, each with the values of a run of its own: a word is the set of the lanes that show 1. For private contracts alone.
 use Rattle.std.specs.Prelude.{◌≡◌, ◌↔◌, ℕ, zero, suc, ◌+◌, ◌<◌, ◌≤◌, Bool, true, false, not, ◌&&◌, ◌||◌, Option, Some, None, List, length, slice_get, slice_index}
 use Rattle.std.specs.Option.{MatchOption}
 use Rattle.ae_base.specs.Cube.{Product}
@@ -8,6 +8,7 @@ use Rattle.ae_net.specs.declared.net.Place.TheVariants.{Stem, Pin, Port}
 use Rattle.ae_net.specs.declared.net.Fault.{Fault}
 use Rattle.ae_net.specs.Network.{Network, signals}
 use Rattle.ae_net.specs.Out.{Differs}
+use Rattle.fault_sim.specs.declared.words.TheConstants.{LANES}
 use Rattle.ae_net.specs.Run.{IsRun, same_place, seen, value_of}
 
 -- all numbers below n pass the test
@@ -19,9 +20,9 @@ each_below (suc n) p = each_below n p && p n
 abbrev pub allows : Product → ℕ → Bool → Bool
 allows row k v = (not (has row.pos k) || v) && (not (has row.neg k) || not v)
 
--- lane l of what pin k of the gate in place i sees where the signals have these words
-abbrev pub pin_lane : Option Fault → List ℕ → ℕ → Gate → ℕ → ℕ → Bool
-pin_lane fault words i gate l k = seen fault (Pin i k) (has (slice_index words (slice_index gate.pins k)) l)
+-- what pin k sees in lane l
+abbrev pub sees : List ℕ → ℕ → ℕ → Bool
+sees seen l k = has (slice_index seen k) l
 
 -- what port o shows with the fault and without differs in lane l
 abbrev pub port_differs : List ℕ → Fault → List ℕ → List ℕ → ℕ → ℕ → Bool
@@ -37,24 +38,20 @@ IsGood n x l good = (w : List Bool) → IsRun n None x w → HasRun w l (signals
 
 -- lane l has the run with the fault wherever it has one without it among the good words, of the first m signals
 abbrev pub IsFaulty : Network → Fault → List ℕ → ℕ → List ℕ → Type 0
-IsFaulty n fault good m words = (l : ℕ) (x : Set) (w v : List Bool) → l < 64 → IsRun n None x w → IsRun n (Some fault) x v → HasRun w l (signals n) good → HasRun v l m words
+IsFaulty n fault good m words = (l : ℕ) (x : Set) (w v : List Bool) → l < LANES → IsRun n None x w → IsRun n (Some fault) x v → HasRun w l (signals n) good → HasRun v l m words
 
--- The fault is not at the gate in place i, and no signal that the gate reads differs.
-pub record IsUntouched (n : Network) (fault : Fault) (good words : List ℕ) (i : ℕ) (gate : Gate) : Type 0 where
-  pub stem : same_place fault.place (Stem (length n.inputs + i)) ≡ false
-  pub pins : (k : ℕ) → k < length gate.pins → (same_place fault.place (Pin i k) ≡ false) × (slice_index words (slice_index gate.pins k) ≡ slice_index good (slice_index gate.pins k))
+-- the fault, where there is one, is not at the gate in place i
+abbrev pub IsElsewhere : Network → Option Fault → ℕ → Type 0
+IsElsewhere n None i = Unit {0}
+IsElsewhere n (Some fault) i = (same_place fault.place (Stem (length n.inputs + i)) ≡ false) × ((k : ℕ) → same_place fault.place (Pin i k) ≡ false)
 
--- no gate from this place on is touched
-abbrev pub IsQuietFrom : Network → Fault → List ℕ → List ℕ → ℕ → Type 0
-IsQuietFrom n fault good words end = (i : ℕ) (gate : Gate) → slice_get n.gates i ≡ Some gate → end ≤ i → IsUntouched n fault good words i gate
-
--- each gate that reads a signal stands before the place of the signal
-abbrev pub AreReadBefore : Network → List ℕ → Type 0
-AreReadBefore n past = (i : ℕ) (gate : Gate) (k : ℕ) → slice_get n.gates i ≡ Some gate → k < length gate.pins → i < slice_index past (slice_index gate.pins k)
+-- no signal that the gate reads differs
+abbrev pub ReadsGood : List ℕ → List ℕ → Gate → Type 0
+ReadsGood good words gate = (k : ℕ) → k < length gate.pins → slice_index words (slice_index gate.pins k) ≡ slice_index good (slice_index gate.pins k)
 
 -- lane l of a word tells whether the point in that lane detects the fault
 abbrev pub Tells : Network → Fault → List ℕ → ℕ → Type 0
-Tells n fault good word = (l : ℕ) (x : Set) → l < 64 → IsGood n x l good → (has word l ≡ true) ↔ Differs n fault x
+Tells n fault good word = (l : ℕ) (x : Set) → l < LANES → IsGood n x l good → (has word l ≡ true) ↔ Differs n fault x
 
 -- the first of so many lanes that is set
 abbrev pub IsFirstLane : ℕ → ℕ → Option ℕ → Type 0

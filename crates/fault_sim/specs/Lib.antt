@@ -1,3 +1,5 @@
 pub mod Answers
 pub mod Bench
 pub mod Lanes
+pub mod Marks
+pub mod Spread

@@ -1,168 +1,237 @@
-//! What a fault changes: the words of the signals with it, from those without it.
-ghost use Rattle.std.specs.Prelude.{◌≡◌, ◌<◌, ◌≤◌, ◌+◌, ℕ, Bool, true, false, not, All, Some, None, List, slice_index, length};
-ghost use Rattle.ae_base.specs.Mask.{Set, has};
-ghost use Rattle.ae_base.specs.declared.limits.TheConstants.{NET_LINES, PINS};
-ghost use Rattle.ae_net.specs.Network.{signals, gate_at};
-ghost use Rattle.ae_net.specs.Run.{IsRun, same_place, value_of};
-ghost use Rattle.ae_net.specs.declared.net.Place.TheVariants.{Pin, Stem};
-ghost use Rattle.fault_sim.specs.Lanes.{AreReadBefore, HasRun, IsFaulty, IsQuietFrom, IsUntouched, Tells, each_below, port_differs};
+//! What a fault changes: the words of the signals with it, from those without it. Only gates that read a signal that differs are visited.
+ghost use Rattle.std.specs.Prelude.{◌≡◌, ◌<◌, ◌≤◌, ◌+◌, ◌/◌, ◌^◌, ◌*◌, ℕ, All, IfOk, Some, length, not, slice_index, true, false};
+ghost use Rattle.ae_base.specs.Mask.{has};
+ghost use Rattle.ae_base.specs.declared.limits.TheConstants.{NET_LINES};
+ghost use Rattle.ae_net.specs.Network.{signals};
+ghost use Rattle.ae_net.specs.Run.{seen};
+ghost use Rattle.ae_net.specs.declared.net.Fault.{Fault};
+ghost use Rattle.fault_sim.specs.declared.words.TheConstants.{LANES};
+ghost use Rattle.fault_sim.specs.Lanes.{IsElsewhere, IsFaulty, Tells, each_below, port_differs};
+ghost use Rattle.fault_sim.specs.Marks.{IsUnmarked, is_marked};
+ghost use Rattle.fault_sim.specs.Spread.{AreChanged, AreMarks, AreReaders, IsAsLong, IsAtRest, IsCone, IsPast, IsPut, IsSite, IsSpread, row};
 
-use crate::table::{gate_word, held};
-use crate::words::{apart, either, full};
-use ae_net::{Fault, Gate, Net, Place, Sig, one_run};
+use crate::marks::{mark, mark_all, take_first};
+use crate::table::{gate_word, held_word};
+use crate::words::{Word, apart, either, full};
+use ae_base::{Memory, PINS};
+use ae_net::{Fault, Net, Pins, Place, Sig, one_run, valid_law};
+use std::alloc::Global;
 
-/// Whether a pin of the gate in place `i` has the fault, or reads a signal whose words differ.
-fn some_pin_differs(gate: &Gate, i: u32, fault: Fault, good: &[u64], words: &[u64]) -> bool
-    requires few_pins { length gate.now.pins ≤ PINS }
-    requires good { All (λ pin. pin < length good.now) gate.now.pins }
-    requires words { All (λ pin. pin < length words.now) gate.now.pins }
-    ensures { result ≡ false → (k : ℕ) → k < length gate.now.pins → (same_place fault.place (Pin i k) ≡ false) × (slice_index words.now (slice_index gate.now.pins k) ≡ slice_index good.now (slice_index gate.now.pins k)) }
-{
-    for (k, pin) in gate.pins.as_slice().iter().enumerate() {
-        let s = *pin as usize;
-        if words[s] != good[s] || fault.place == Place::Pin(i, k as u32) {
-            return true;
-        }
-    }
-    false
+/// What the pass of a fault works with. Between two faults the words are those without one, and nothing is marked.
+#[derive(Drop)]
+pub struct Cone {
+    /// For each signal its word with the fault.
+    pub words: Vec<Word>,
+    /// What the pins of a gate see.
+    pub seen: Vec<Word>,
+    /// The gates to visit, each of which reads a signal that differs.
+    pub marked: Vec<u64>,
+    /// The signals that differ.
+    pub changed: Vec<u64>,
 }
 
-/// Whether the fault is at the gate in place `i`, or the gate reads a signal that differs.
-fn is_touched(net: &Net, i: usize, fault: Fault, good: &[u64], words: &[u64]) -> bool
+/// So many words of 64 marks that there is a mark for each of `count` numbers.
+fn marks_for(alloc: Global, count: usize) -> Result<Vec<u64>, Memory>
+    requires { count < 2 ^ 32 }
+    ensures unmarked { IfOk result (λ marks. IsUnmarked marks.items) }
+    ensures room { IfOk result (λ marks. count ≤ 64 * length marks.items) }
+    ensures few { IfOk result (λ marks. length marks.items < 2 ^ 32) }
+{
+    Ok(vec![in alloc; 0u64; count / 64 + 1]?)
+}
+
+/// A cone for the network, at rest.
+pub fn cone_for(alloc: Global, net: &Net, good: &[Word]) -> Result<Cone, Memory>
+    requires { length good.now ≡ signals net.now }
+    ensures cone { IfOk result (λ cone. IsCone net.now cone) }
+    ensures rest { IfOk result (λ cone. IsAtRest good.now cone) }
+{
+    let words = good.to_vec(alloc)?;
+    Ok(Cone {
+        words,
+        seen: vec![in alloc; full(false); PINS as usize]?,
+        marked: marks_for(alloc, net.gates().len())?,
+        changed: marks_for(alloc, good.len())?,
+    })
+}
+
+/// Writes the word of a signal, and where it differs from that without the fault marks the gates that read it.
+fn put(s: usize, word: Word, good: &[Word], readers: &[Pins], cone: &mut Cone)
+    requires words { s < length cone.old.words.items }
+    requires good { s < length good.now }
+    requires readers { s < length readers.now }
+    requires marked { All (λ i. i / 64 < length cone.old.marked.items) (row readers.now s) }
+    requires changed { s / 64 < length cone.old.changed.items }
+    ensures put { IsPut good.now (row readers.now s) s word cone.old cone.new }
+    ensures len { IsAsLong cone.old cone.new }
+{
+    if word != good[s] {
+        cone.words[s] = word;
+        mark(cone.changed.as_mut_slice(), s);
+        mark_all(readers[s].as_slice(), cone.marked.as_mut_slice());
+    }
+}
+
+/// Visits the gate in place `i`, at which there is no fault.
+fn visit(net: &Net, i: usize, good: &[Word], readers: &[Pins], cone: &mut Cone)
     requires place { i < length net.now.gates }
-    requires good { signals net.now ≤ length good.now }
-    requires words { signals net.now ≤ length words.now }
-    ensures { result ≡ false → IsUntouched net.now fault good.now words.now i (gate_at net.now i) }
+    requires good { length good.now ≡ signals net.now }
+    requires readers { AreReaders net.now readers.now }
+    requires cone { IsCone net.now cone.old }
+    requires marks { AreMarks net.now cone.old (i + 1) }
+    ensures cone { IsCone net.now cone.new }
+    ensures marks { AreMarks net.now cone.new (i + 1) }
+    ensures spread { (fault : Fault) → IsElsewhere net.now (Some fault) i → IsSpread net.now fault good.now cone.old i (i + 1) → IsSpread net.now fault good.now cone.new (i + 1) (i + 1) }
 {
-    let s = (net.inputs().len() + i) as Sig;
-    fault.place == Place::Stem(s) || some_pin_differs(net.gate(i), i as u32, fault, good, words)
+    let word = gate_word(net, i, cone.words.as_slice(), cone.seen.as_mut_slice());
+    put(net.inputs().len() + i, word, good, readers, cone);
 }
 
-/// The word of the gate in place `i` with the fault, from the words of the signals before it.
-fn next_word(net: &Net, i: usize, fault: Fault, good: &[u64], words: &[u64]) -> u64
-    requires place { i < length net.now.gates }
-    requires good { signals net.now ≤ length good.now }
-    requires words { signals net.now ≤ length words.now }
-    ensures { (l : ℕ) (x : Set) (w v : List Bool) → l < 64 → IsRun net.now None x w → IsRun net.now (Some fault) x v → HasRun w l (signals net.now) good.now
-        → HasRun v l (length net.now.inputs + i) words.now → has result l ≡ value_of v (length net.now.inputs + i) }
+/// Visits all marked gates, the first of which is not before place `start`, and those that they mark.
+fn spread(net: &Net, start: usize, good: &[Word], readers: &[Pins], cone: &mut Cone)
+    requires good { length good.now ≡ signals net.now }
+    requires readers { AreReaders net.now readers.now }
+    requires cone { IsCone net.now cone.old }
+    requires marks { AreMarks net.now cone.old start }
+    ensures cone { IsCone net.now cone.new }
+    ensures marks { AreMarks net.now cone.new start }
+    ensures unmarked { IsUnmarked cone.new.marked.items }
+    ensures faulty { (fault : Fault) → IsPast net.now fault start → IsSpread net.now fault good.now cone.old start start → IsFaulty net.now fault good.now (signals net.now) cone.new.words.items }
+    ensures changed { (fault : Fault) → IsPast net.now fault start → IsSpread net.now fault good.now cone.old start start → AreChanged good.now cone.new }
 {
-    let s = net.inputs().len() + i;
-    if is_touched(net, i, fault, good, words) {
-        gate_word(net.gate(i), i as u32, s as Sig, Some(fault), words)
-    } else {
-        good[s]
+    valid_law(net);
+    let mut next = start;
+    'gates: while let Some(i) = take_first(cone.marked.as_mut_slice(), next) {
+        visit(net, i, good, readers, cone);
+        next = i + 1;
     }
 }
 
-/// The place before which all gates stand that a signal reaches with this one: where its words are the same it reaches none.
-fn end_with(end: usize, past: u32, differs: bool) -> usize
-    ensures { (end ≤ result) × (differs ≡ true → past ≤ result) }
-{
-    if differs && end < past as usize {
-        past as usize
-    } else {
-        end
-    }
-}
-
-/// The place of the gate at which the pass of a fault begins: the fault is at no gate before it.
-fn first_gate(net: &Net, fault: Fault) -> usize
-    ensures within { result ≤ length net.now.gates }
-    ensures before { (i : ℕ) → i < result → (same_place fault.place (Stem (length net.now.inputs + i)) ≡ false) × ((k : ℕ) → same_place fault.place (Pin i k) ≡ false) }
-    ensures inputs { 0 < result → (j : ℕ) → j < length net.now.inputs → same_place fault.place (Stem j) ≡ false }
+/// Writes the word of the signal at which the fault is, and answers the place from which on the fault is at no gate.
+fn begin_at(
+    net: &Net,
+    s: usize,
+    word: Word,
+    good: &[Word],
+    readers: &[Pins],
+    cone: &mut Cone,
+) -> usize
+    requires good { length good.now ≡ signals net.now }
+    requires readers { AreReaders net.now readers.now }
+    requires cone { IsCone net.now cone.old }
+    requires rest { IsAtRest good.now cone.old }
+    ensures cone { IsCone net.now cone.new }
+    ensures marks { AreMarks net.now cone.new result }
+    ensures past { (fault : Fault) → IsSite net.now fault good.now s word → IsPast net.now fault result }
+    ensures spread { (fault : Fault) → IsSite net.now fault good.now s word → IsSpread net.now fault good.now cone.new result result }
 {
     let first = net.inputs().len();
-    let gate = match fault.place {
-        Place::Stem(s) => if (s as usize) < first {
-            0
-        } else {
-            s as usize - first
-        },
-        Place::Pin(i, _) => i as usize,
-        Place::Port(_) => 0,
-    };
-    if gate < net.gates().len() { gate } else { 0 }
-}
-
-/// Writes the words of the gates with the fault, each gate's from those before it. It ends where no later gate is touched.
-fn spread(net: &Net, fault: Fault, good: &[u64], past: &[u32], words: &mut [u64], start: usize)
-    requires good { signals net.now ≡ length good.now }
-    requires past { signals net.now ≡ length past.now }
-    requires words { signals net.now ≡ length words.old }
-    requires read { AreReadBefore net.now past.now }
-    requires quiet { IsQuietFrom net.now fault good.now words.old start }
-    requires inputs { IsFaulty net.now fault good.now (length net.now.inputs) words.old }
-    requires rest { (s : ℕ) → length net.now.inputs ≤ s → slice_index words.old s ≡ slice_index good.now s }
-    requires same { ((j : ℕ) → j < length net.now.inputs → same_place fault.place (Stem j) ≡ false) → words.old ≡ good.now }
-    ensures faulty { IsFaulty net.now fault good.now (signals net.now) words.new }
-    ensures len { length words.new ≡ length words.old }
-{
-    let first = net.inputs().len();
-    let mut end = start;
-    for i in first_gate(net, fault)..net.gates().len() {
-        if i >= end {
-            break;
-        }
-        let word = next_word(net, i, fault, good, words);
-        let differs = word != good[first + i];
-        words[first + i] = word;
-        end = end_with(end, past[first + i], differs);
+    if s >= good.len() {
+        return 0;
     }
+    put(s, word, good, readers, cone);
+    if s < first { 0 } else { s - first + 1 }
 }
 
-/// Writes the word of an input whose stem has the fault, and answers the place before which all gates stand that the fault touches.
-fn begin(net: &Net, fault: Fault, past: &[u32], words: &mut [u64]) -> usize
-    requires words { signals net.now ≡ length words.old }
-    requires past { signals net.now ≡ length past.now }
-    requires read { AreReadBefore net.now past.now }
-    ensures quiet { IsQuietFrom net.now fault words.old words.new result }
-    ensures inputs { IsFaulty net.now fault words.old (length net.now.inputs) words.new }
-    ensures rest { (s : ℕ) → length net.now.inputs ≤ s → slice_index words.new s ≡ slice_index words.old s }
-    ensures same { ((j : ℕ) → j < length net.now.inputs → same_place fault.place (Stem j) ≡ false) → words.new ≡ words.old }
-    ensures len { length words.new ≡ length words.old }
+/// The signal at which the fault is, with its word: of a gate for each of its pins, and of none, past all signals, for a port.
+fn site(net: &Net, fault: Fault, good: &[Word], seen: &mut [Word]) -> (usize, Word)
+    requires good { length good.now ≡ signals net.now }
+    requires seen { PINS ≤ length seen.old }
+    ensures site { IsSite net.now fault good.now result.0 result.1 }
+    ensures len { length seen.new ≡ length seen.old }
 {
     let first = net.inputs().len();
     match fault.place {
-        Place::Stem(s) => if (s as usize) < first {
-            words[s as usize] = full(fault.value);
-            past[s as usize] as usize
-        } else {
-            s as usize - first + 1
-        },
-        Place::Pin(i, _) => i as usize + 1,
-        Place::Port(_) => 0,
+        Place::Stem(s) => (s as usize, full(fault.value)),
+        Place::Pin(i, k) => {
+            let i = i as usize;
+            if i < net.gates().len() {
+                (
+                    first + i,
+                    held_word(net, i, k as usize, fault.value, good, seen),
+                )
+            } else {
+                (good.len(), full(false))
+            }
+        }
+        Place::Port(_) => (good.len(), full(false)),
+    }
+}
+
+/// Writes the word of the signal at which the fault is, if there is one, and answers the place from which on the fault is at no gate.
+fn begin(net: &Net, fault: Fault, good: &[Word], readers: &[Pins], cone: &mut Cone) -> usize
+    requires good { length good.now ≡ signals net.now }
+    requires readers { AreReaders net.now readers.now }
+    requires cone { IsCone net.now cone.old }
+    requires rest { IsAtRest good.now cone.old }
+    ensures cone { IsCone net.now cone.new }
+    ensures marks { AreMarks net.now cone.new result }
+    ensures past { IsPast net.now fault result }
+    ensures spread { IsSpread net.now fault good.now cone.new result result }
+{
+    let (s, word) = site(net, fault, good, cone.seen.as_mut_slice());
+    begin_at(net, s, word, good, readers, cone)
+}
+
+/// What is seen at a place, where the word would be seen without the fault.
+fn held(fault: Fault, at: Place, word: Word) -> Word
+    ensures { (l : ℕ) → l < LANES → has result l ≡ seen (Some fault) at (has word l) }
+{
+    if fault.place == at {
+        full(fault.value)
+    } else {
+        word
     }
 }
 
 /// The lanes in which some port shows another value.
-fn ports_apart(outputs: &[Sig], fault: Fault, good: &[u64], words: &[u64]) -> u64
+fn ports_apart(outputs: &[Sig], fault: Fault, good: &[Word], words: &[Word]) -> Word
     requires few { length outputs.now ≤ NET_LINES }
     requires good { All (λ s. s < length good.now) outputs.now }
     requires words { All (λ s. s < length words.now) outputs.now }
-    ensures { (l : ℕ) → l < 64 → has result l ≡ not (each_below (length outputs.now) (λ o. not (port_differs outputs.now fault good.now words.now l o))) }
+    ensures { (l : ℕ) → l < LANES → has result l ≡ not (each_below (length outputs.now) (λ o. not (port_differs outputs.now fault good.now words.now l o))) }
 {
     let mut word = full(false);
     for o in 0..outputs.len() {
         let s = outputs[o] as usize;
-        let with = held(Some(fault), Place::Port(o as u32), words[s]);
-        word = either(word, apart(with, good[s]));
+        let shown = held(fault, Place::Port(o as u32), words[s]);
+        word = either(word, apart(shown, good[s]));
     }
     word
 }
 
-/// The lanes whose points detect the fault. `words` are as the good ones, before and after.
-pub fn telling(net: &Net, fault: Fault, good: &[u64], past: &[u32], words: &mut [u64]) -> u64
-    requires good { signals net.now ≡ length good.now }
-    requires past { signals net.now ≡ length past.now }
-    requires read { AreReadBefore net.now past.now }
-    requires words { words.old ≡ good.now }
+/// Makes the words again those without a fault.
+fn restore(good: &[Word], cone: &mut Cone)
+    requires words { length cone.old.words.items ≡ length good.now }
+    requires few { length cone.old.changed.items < 2 ^ 32 }
+    requires signals { (s : ℕ) → is_marked cone.old.changed.items s ≡ true → s < length good.now }
+    requires changed { AreChanged good.now cone.old }
+    ensures words { cone.new.words.items ≡ good.now }
+    ensures changed { IsUnmarked cone.new.changed.items }
+    ensures marked { cone.new.marked ≡ cone.old.marked }
+    ensures len { IsAsLong cone.old cone.new }
+{
+    let mut next = 0;
+    'signals: while let Some(s) = take_first(cone.changed.as_mut_slice(), next) {
+        cone.words[s] = good[s];
+        next = s + 1;
+    }
+}
+
+/// The lanes whose points detect the fault.
+pub fn telling(net: &Net, fault: Fault, good: &[Word], readers: &[Pins], cone: &mut Cone) -> Word
+    requires good { length good.now ≡ signals net.now }
+    requires readers { AreReaders net.now readers.now }
+    requires cone { IsCone net.now cone.old }
+    requires rest { IsAtRest good.now cone.old }
     ensures tells { Tells net.now fault good.now result }
-    ensures words { words.new ≡ good.now }
+    ensures cone { IsCone net.now cone.new }
+    ensures rest { IsAtRest good.now cone.new }
 {
     one_run();
-    let start = begin(net, fault, past, words);
-    spread(net, fault, good, past, words, start);
-    let told = ports_apart(net.outputs(), fault, good, words);
-    words.copy_from_slice(good);
+    let start = begin(net, fault, good, readers, cone);
+    spread(net, start, good, readers, cone);
+    let told = ports_apart(net.outputs(), fault, good, cone.words.as_slice());
+    restore(good, cone);
     told
 }

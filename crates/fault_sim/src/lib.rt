@@ -3,7 +3,9 @@
 
 mod cone;
 mod laws;
+mod marks;
 mod pass;
+mod readers;
 mod search;
 mod simulation;
 mod table;

@@ -1,4 +1,4 @@
-//! The search for the first point that detects each fault, 64 points at a time.
+//! The search for the first point that detects each fault, a pass of them at a time.
 ghost use Rattle.std.specs.Prelude.{◌≡◌, ◌<◌, ◌≤◌, ◌+◌, ◌^◌, ℕ, List, IfOk, IfSome, length, slice_index};
 ghost use Rattle.std.specs.List.{AllZip};
 ghost use Rattle.std.specs.Option.{option_map};
@@ -7,53 +7,60 @@ ghost use Rattle.fault_sim.specs.Answers.{IsFirstTelling};
 ghost use Rattle.fault_sim.specs.Bench.{IsBench};
 ghost use Rattle.fault_sim.specs.Lanes.{AreFirstBelow, AreNone, IsFirstBelow, IsGood, IsPass, Tells};
 
-use crate::cone::telling;
+use crate::cone::{Cone, cone_for, telling};
 use crate::laws::detects_law;
-use crate::pass::{read_before, write_good};
-use crate::words::{LANES, first_lane};
+use crate::pass::write_good;
+use crate::readers::all_readers;
+use crate::words::{LANES, Word, first_lane, full};
 use ae_base::{Memory, Point};
-use ae_net::{Fault, Net, valid_law};
+use ae_net::{Fault, Net, Pins, valid_law};
 use std::alloc::Global;
 
-/// What a search works with: for each signal the place after the last gate that reads it, its word without a fault in the lanes of this
-/// pass, and its word with one. Between two faults the two words are equal.
+/// What a search works with: for each signal the gates that read it, its word without a fault in the lanes of this pass, and what the pass of a
+/// fault works with.
 #[derive(Drop)]
 pub struct Bench {
-    pub past: Vec<u32>,
-    pub good: Vec<u64>,
-    pub words: Vec<u64>,
+    pub readers: Vec<Pins>,
+    pub good: Vec<Word>,
+    pub cone: Cone,
 }
 
 /// A bench for the network.
 pub fn bench_for(alloc: Global, net: &Net) -> Result<Bench, Memory>
     ensures { IfOk result (λ bench. IsBench net.now bench) }
 {
-    let past = read_before(alloc, net)?;
-    let signals = past.len();
-    let good = vec![in alloc; 0u64; signals]?;
+    let readers = all_readers(alloc, net)?;
+    let good = vec![in alloc; full(false); readers.len()]?;
+    let cone = cone_for(alloc, net, good.as_slice())?;
     Ok(Bench {
-        past,
+        readers,
         good,
-        words: vec![in alloc; 0u64; signals]?,
+        cone,
     })
 }
 
 /// Writes the words without a fault at these points.
 fn begin_pass(net: &Net, points: &[Point], bench: &mut Bench)
-    requires few { length points.now ≤ 64 }
+    requires few { length points.now ≤ LANES }
     requires bench { IsBench net.now bench.old }
     ensures bench { IsBench net.now bench.new }
     ensures pass { (l : ℕ) → l < length points.now → IsGood net.now (slice_index points.now l) l bench.new.good.items }
 {
-    write_good(net, points, bench.good.as_mut_slice());
+    write_good(
+        net,
+        points,
+        bench.good.as_mut_slice(),
+        bench.cone.seen.as_mut_slice(),
+    );
     bench
+        .cone
         .words
         .as_mut_slice()
         .copy_from_slice(bench.good.as_slice());
 }
 
 /// The lanes whose points detect the fault.
-fn told_by(net: &Net, fault: Fault, bench: &mut Bench) -> u64
+fn told_by(net: &Net, fault: Fault, bench: &mut Bench) -> Word
     requires bench { IsBench net.now bench.old }
     ensures bench { IsBench net.now bench.new }
     ensures good { bench.new.good ≡ bench.old.good }
@@ -63,8 +70,8 @@ fn told_by(net: &Net, fault: Fault, bench: &mut Bench) -> u64
         net,
         fault,
         bench.good.as_slice(),
-        bench.past.as_slice(),
-        bench.words.as_mut_slice(),
+        bench.readers.as_slice(),
+        &mut bench.cone,
     )
 }
 
@@ -101,7 +108,7 @@ fn try_fault(
     found: Option<u32>,
 ) -> Option<u32>
     requires bench { IsBench net.now bench.old }
-    requires count { count ≤ 64 }
+    requires count { count ≤ LANES }
     requires few { base + count < 2 ^ 32 }
     ensures bench { IsBench net.now bench.new }
     ensures good { bench.new.good ≡ bench.old.good }
@@ -123,7 +130,7 @@ fn try_faults(
     found: &mut [Option<u32>],
 )
     requires bench { IsBench net.now bench.old }
-    requires count { count ≤ 64 }
+    requires count { count ≤ LANES }
     requires few { base + count < 2 ^ 32 }
     requires len { length found.old ≡ length list.now }
     ensures bench { IsBench net.now bench.new }
@@ -138,7 +145,7 @@ fn try_faults(
 /// The points of one pass, those from `base` on.
 pub fn next_points(points: &[Point], base: usize) -> &[Point]
     requires { base < length points.now }
-    ensures few { length result.now ≤ 64 }
+    ensures few { length result.now ≤ LANES }
     ensures some { 0 < length result.now }
     ensures within { base + length result.now ≤ length points.now }
     ensures points { (l : ℕ) → l < length result.now → slice_index result.now l ≡ slice_index points.now (base + l) }

@@ -2,18 +2,19 @@
 ghost use Rattle.std.specs.Prelude.{◌≡◌, ◌<◌, ◌≤◌, ◌+◌, ◌^◌, All, List, [], Option, None, IfOk, OnOk, length, map, slice_index, take};
 ghost use Rattle.std.specs.List.{AllZip};
 ghost use Rattle.ae_base.specs.Mask.{Set, has, where_below};
-ghost use Rattle.ae_base.specs.declared.limits.TheConstants.{NET_LINES};
+ghost use Rattle.ae_base.specs.declared.limits.TheConstants.{NET_LINES, PINS};
 ghost use Rattle.ae_net.specs.declared.net.Fault.{Fault};
 ghost use Rattle.ae_net.specs.Network.{signals};
 ghost use Rattle.ae_net.specs.Out.{out};
 ghost use Rattle.ae_net.specs.Run.{Shows};
+ghost use Rattle.fault_sim.specs.declared.words.TheConstants.{LANES};
 ghost use Rattle.fault_sim.specs.Answers.{IsFirstTelling};
 ghost use Rattle.fault_sim.specs.Lanes.{IsPass};
 
 use crate::pass::write_good;
 use crate::search::{bench_for, next_points, nothing_found, try_points};
-use crate::words::has_lane;
-use ae_base::{Mask, Memory, Point};
+use crate::words::{Word, full, has_lane};
+use ae_base::{Mask, Memory, PINS, Point};
 use ae_net::{Fault, Net, Sig, one_run, valid_law};
 use std::alloc::Global;
 
@@ -26,10 +27,10 @@ fn shows_out(net: &Net)
 }
 
 /// The outputs that show 1 in a lane of the words.
-fn outputs_in(outputs: &[Sig], lane: u32, words: &[u64]) -> Mask
+fn outputs_in(outputs: &[Sig], lane: u32, words: &[Word]) -> Mask
     requires few { length outputs.now ≤ NET_LINES }
     requires signals { All (λ s. s < length words.now) outputs.now }
-    requires lane { lane < 64 }
+    requires lane { lane < LANES }
     ensures { result ≡ where_below (length outputs.now) (λ o. has (slice_index words.now (slice_index outputs.now o)) lane) }
 {
     let mut ones = Mask::empty();
@@ -44,13 +45,13 @@ fn outputs_in(outputs: &[Sig], lane: u32, words: &[u64]) -> Mask
 /// Adds the outputs that show 1 in each of the first `count` lanes, which have the runs at the points from `base` on.
 fn push_outs(
     net: &Net,
-    words: &[u64],
+    words: &[Word],
     base: usize,
     count: usize,
     outs: &mut Vec<Mask>,
 ) -> Result<(), Memory>
     requires words { signals net.now ≤ length words.now }
-    requires count { count ≤ 64 }
+    requires count { count ≤ LANES }
     ensures { OnOk result ((points : List Set) → base + count ≤ length points → IsPass net.now points base count words.now
         → outs.old.items ≡ map (out net.now None) (take base points) → outs.new.items ≡ map (out net.now None) (take (base + count) points)) }
 {
@@ -67,9 +68,16 @@ pub fn responses(alloc: Global, net: &Net, points: &[Point]) -> Result<Vec<Mask>
     ensures outs { IfOk result (λ outs. outs.items ≡ map (out net.now None) points.now) }
 {
     shows_out(net);
-    let mut words = vec![in alloc; 0u64; net.inputs().len() + net.gates().len()]?;
+    let mut words = vec![in alloc; full(false); net.inputs().len() + net.gates().len()]?;
+    let mut seen = vec![in alloc; full(false); PINS as usize]?;
     let mut outs = Vec::new(alloc);
-    push_all(net, points, words.as_mut_slice(), &mut outs)?;
+    push_all(
+        net,
+        points,
+        words.as_mut_slice(),
+        seen.as_mut_slice(),
+        &mut outs,
+    )?;
     Ok(outs)
 }
 
@@ -77,17 +85,19 @@ pub fn responses(alloc: Global, net: &Net, points: &[Point]) -> Result<Vec<Mask>
 fn push_all(
     net: &Net,
     points: &[Point],
-    words: &mut [u64],
+    words: &mut [Word],
+    seen: &mut [Word],
     outs: &mut Vec<Mask>,
 ) -> Result<(), Memory>
     requires words { signals net.now ≡ length words.old }
+    requires seen { PINS ≤ length seen.old }
     requires outs { outs.old.items ≡ [] }
     ensures { OnOk result (outs.new.items ≡ map (out net.now None) points.now) }
 {
     let mut base = 0;
     while base < points.len() {
         let now = next_points(points, base);
-        write_good(net, now, words);
+        write_good(net, now, words, seen);
         push_outs(net, words, base, now.len(), outs)?;
         base += now.len();
     }

@@ -1,46 +1,25 @@
-//! The value of a gate in all lanes at once.
-ghost use Rattle.std.specs.Prelude.{◌≡◌, ◌<◌, ◌≤◌, ◌+◌, ℕ, All, Some, ◌&&◌, length, slice_index};
+//! The value of a gate in all lanes at once, from what its pins see.
+ghost use Rattle.std.specs.Prelude.{◌≡◌, ◌<◌, ◌≤◌, ◌+◌, ℕ, All, List, Option, Some, Bool, ◌&&◌, length, slice_index};
 ghost use Rattle.std.specs.List.{list_any};
 ghost use Rattle.ae_base.specs.Cube.{holds};
-ghost use Rattle.ae_base.specs.Mask.{has, where_below};
+ghost use Rattle.ae_base.specs.Mask.{Set, has, where_below};
 ghost use Rattle.ae_base.specs.declared.limits.TheConstants.{PINS};
+ghost use Rattle.ae_net.specs.Network.{signals};
 ghost use Rattle.ae_net.specs.Run as run;
-ghost use Rattle.ae_net.specs.Valid.{IsGate, IsRowOf};
-ghost use Rattle.ae_net.specs.declared.net.Place.TheVariants.{Stem};
-ghost use Rattle.fault_sim.specs.Lanes.{allows, pin_lane};
+ghost use Rattle.ae_net.specs.Run.{IsRun, value_of};
+ghost use Rattle.ae_net.specs.Valid.{IsRowOf};
+ghost use Rattle.ae_net.specs.declared.net.Fault.{Fault};
+ghost use Rattle.ae_net.specs.declared.net.Place.TheVariants.{Pin};
+ghost use Rattle.fault_sim.specs.declared.words.TheConstants.{LANES};
+ghost use Rattle.fault_sim.specs.Lanes.{HasRun, IsElsewhere, allows, sees};
 
-use crate::words::{both, complement, either, full};
+use crate::words::{Word, both, complement, either, full};
 use ae_base::{Cube, PINS};
-use ae_net::{Fault, Gate, Place};
-
-/// What is seen at a place, where the word would be seen without the fault.
-pub fn held(fault: Option<Fault>, at: Place, word: u64) -> u64
-    ensures { (l : ℕ) → l < 64 → has result l ≡ run.seen fault at (has word l) }
-{
-    match fault {
-        Some(fault) => if fault.place == at {
-            full(fault.value)
-        } else {
-            word
-        },
-        None => word,
-    }
-}
-
-/// What pin `k` of the gate in place `i` sees.
-fn pin_word(gate: &Gate, k: usize, i: u32, fault: Option<Fault>, words: &[u64]) -> u64
-    requires pin { k < length gate.now.pins }
-    requires few_pins { length gate.now.pins ≤ PINS }
-    requires earlier { All (λ pin. pin < length words.now) gate.now.pins }
-    ensures { (l : ℕ) → l < 64 → has result l ≡ pin_lane fault words.now i gate.now l k }
-{
-    let pin = gate.pins.as_slice()[k];
-    held(fault, Place::Pin(i, k as u32), words[pin as usize])
-}
+use ae_net::{Gate, Net, Sig};
 
 /// The word in the lanes where the literals of the row at position `k` hold, and 0 in the others.
-fn with_literals(word: u64, row: &Cube, k: u32, pin: u64) -> u64
-    ensures { (l : ℕ) → l < 64 → has result l ≡ (has word l && allows row.now k (has pin l)) }
+fn with_literals(word: Word, row: &Cube, k: u32, pin: Word) -> Word
+    ensures { (l : ℕ) → l < LANES → has result l ≡ (has word l && allows row.now k (has pin l)) }
 {
     let word = if row.pos.has(k) {
         both(word, pin)
@@ -55,44 +34,93 @@ fn with_literals(word: u64, row: &Cube, k: u32, pin: u64) -> u64
 }
 
 /// The lanes where a row of a gate's table holds.
-fn row_word(row: &Cube, gate: &Gate, i: u32, fault: Option<Fault>, words: &[u64]) -> u64
-    requires row { IsRowOf (length gate.now.pins) row.now }
-    requires few_pins { length gate.now.pins ≤ PINS }
-    requires earlier { All (λ pin. pin < length words.now) gate.now.pins }
-    ensures { (l : ℕ) → l < 64 → has result l ≡ holds row.now (where_below (length gate.now.pins) (pin_lane fault words.now i gate.now l)) }
+fn row_word(row: &Cube, pins: usize, seen: &[Word]) -> Word
+    requires row { IsRowOf pins row.now }
+    requires few_pins { pins ≤ PINS }
+    requires seen { pins ≤ length seen.now }
+    ensures { (l : ℕ) → l < LANES → has result l ≡ holds row.now (where_below pins (sees seen.now l)) }
 {
     let mut word = full(true);
-    for k in 0..gate.pins.len() {
-        word = with_literals(word, row, k as u32, pin_word(gate, k, i, fault, words));
+    for k in 0..pins {
+        word = with_literals(word, row, k as u32, seen[k]);
     }
     word
 }
 
 /// The lanes where some row of a gate's table holds.
-fn rows_word(gate: &Gate, i: u32, fault: Option<Fault>, words: &[u64]) -> u64
+fn rows_word(gate: &Gate, seen: &[Word]) -> Word
     requires rows { All (IsRowOf (length gate.now.pins)) gate.now.rows }
     requires few_pins { length gate.now.pins ≤ PINS }
-    requires earlier { All (λ pin. pin < length words.now) gate.now.pins }
-    ensures { (l : ℕ) → l < 64 → has result l ≡ list_any (λ row. holds row (where_below (length gate.now.pins) (pin_lane fault words.now i gate.now l))) gate.now.rows }
+    requires seen { length gate.now.pins ≤ length seen.now }
+    ensures { (l : ℕ) → l < LANES → has result l ≡ list_any (λ row. holds row (where_below (length gate.now.pins) (sees seen.now l))) gate.now.rows }
 {
     let mut word = full(false);
     for row in gate.rows.as_slice() {
-        word = either(word, row_word(row, gate, i, fault, words));
+        word = either(word, row_word(row, gate.pins.len(), seen));
     }
     word
 }
 
-/// The value of the gate in place `i`, whose signal is `s`, from the words of the signals before it.
+/// The value of the gate where its pins see these words.
 #[tactic(auto, unfolding(ae_net::specs::Run::table))]
-pub fn gate_word(gate: &Gate, i: u32, s: u32, fault: Option<Fault>, words: &[u64]) -> u64
-    requires gate { IsGate s gate.now }
-    requires earlier { s ≤ length words.now }
-    ensures { (l : ℕ) → l < 64 → has result l ≡ run.seen fault (Stem s) (run.table gate.now (where_below (length gate.now.pins) (pin_lane fault words.now i gate.now l))) }
+pub fn table_word(gate: &Gate, seen: &[Word]) -> Word
+    requires rows { All (IsRowOf (length gate.now.pins)) gate.now.rows }
+    requires few_pins { length gate.now.pins ≤ PINS }
+    requires seen { length gate.now.pins ≤ length seen.now }
+    ensures { (l : ℕ) → l < LANES → has result l ≡ run.table gate.now (where_below (length gate.now.pins) (sees seen.now l)) }
 {
-    let some = rows_word(gate, i, fault, words);
-    held(
-        fault,
-        Place::Stem(s),
-        if gate.on { some } else { complement(some) },
-    )
+    let some = rows_word(gate, seen);
+    if gate.on { some } else { complement(some) }
+}
+
+/// Writes what the pins see without a fault: the words of the signals that they read.
+pub fn read_pins(pins: &[Sig], words: &[Word], seen: &mut [Word])
+    requires earlier { All (λ pin. pin < length words.now) pins.now }
+    requires room { length pins.now ≤ length seen.old }
+    ensures pins { (k : ℕ) → k < length pins.now → slice_index seen.new k ≡ slice_index words.now (slice_index pins.now k) }
+    ensures len { length seen.new ≡ length seen.old }
+{
+    for (k, pin) in pins.iter().enumerate() {
+        seen[k] = words[*pin as usize];
+    }
+}
+
+/// The value of the gate in place `i`, at which there is no fault, from the words of the signals before it.
+pub fn gate_word(net: &Net, i: usize, words: &[Word], seen: &mut [Word]) -> Word
+    requires place { i < length net.now.gates }
+    requires words { signals net.now ≤ length words.now }
+    requires seen { PINS ≤ length seen.old }
+    ensures value { (fault : Option Fault) (l : ℕ) (x : Set) (v : List Bool) → l < LANES → IsElsewhere net.now fault i → IsRun net.now fault x v
+        → HasRun v l (length net.now.inputs + i) words.now → has result l ≡ value_of v (length net.now.inputs + i) }
+    ensures len { length seen.new ≡ length seen.old }
+{
+    let gate = net.gate(i);
+    let _names = net.inputs();
+    read_pins(gate.pins.as_slice(), words, seen);
+    table_word(gate, seen)
+}
+
+/// The value of the gate in place `i` where its pin `k` is held, from the words of the signals before it.
+pub fn held_word(
+    net: &Net,
+    i: usize,
+    k: usize,
+    value: bool,
+    words: &[Word],
+    seen: &mut [Word],
+) -> Word
+    requires place { i < length net.now.gates }
+    requires words { signals net.now ≤ length words.now }
+    requires seen { PINS ≤ length seen.old }
+    ensures value { (l : ℕ) (x : Set) (v : List Bool) → l < LANES → IsRun net.now (Some (record { place = Pin i k; value = value })) x v
+        → HasRun v l (length net.now.inputs + i) words.now → has result l ≡ value_of v (length net.now.inputs + i) }
+    ensures len { length seen.new ≡ length seen.old }
+{
+    let gate = net.gate(i);
+    let _names = net.inputs();
+    read_pins(gate.pins.as_slice(), words, seen);
+    if k < gate.pins.len() {
+        seen[k] = full(value);
+    }
+    table_word(gate, seen)
 }

@@ -9,5 +9,5 @@ pub loop-o-preserved : goal.loop-o-preserved
 loop-o-preserved c lane lt =
     c.either-word.ensures lane
     ∙ ap₂ (λ a b. a || b) (c.loop-o.invariant lane lt)
-    (c.apart.ensures lane ∙ ap (λ b. differ b (has (slice_index c.args.good.now (slice_index c.args.outputs.now c.loop-o.o)) lane)) (c.held-with.ensures lane lt))
+    (c.apart.ensures lane ∙ ap (λ b. differ b (has (slice_index c.args.good.now (slice_index c.args.outputs.now c.loop-o.o)) lane)) (c.held-shown.ensures lane lt))
     ∙ more-apart (port_differs c.args.outputs.now c.args.fault c.args.good.now c.args.words.now lane) c.loop-o.o

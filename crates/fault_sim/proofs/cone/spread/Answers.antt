@@ -1,45 +1,36 @@
-use Rattle.std.proofs.Common.{◌≡◌, ◌+◌, ◌≤◌, not, inl, inr, length, refl, ap, ◌∙◌, eqb, eqb-true, arith}
-use Rattle.std.specs.Prelude.{slice_index, ◌⊎◌}
-use Rattle.std.proofs.lemmas.Bool.{cases_Bool}
-use Rattle.std.proofs.lemmas.List.{length-set}
-use Rattle.std.proofs.lemmas.Option.{slice_get_within}
-use Rattle.fault_sim.proofs.Cones.{begun-faulty, more-faulty, more-quiet, more-rest, all-faulty}
+use Rattle.std.proofs.Common.{◌≡◌, refl, ap, sym, subst, ◌∙◌, arith}
+use Rattle.std.proofs.lemmas.Bool.{false≢true}
+use Rattle.fault_sim.specs.Marks.{IsFirstTaken, is_marked}
+use Rattle.fault_sim.proofs.Cones.{advanced, all-faulty, refilled}
 use Rattle.fault_sim.proofs.cone.spread.Goals as goal
 
-pub loop-i-init : goal.loop-i-init
-loop-i-init c = record {
-  quiet = c.requires.quiet;
-  faulty = begun-faulty c.args.net.now c.args.fault c.args.good.now c.args.words.now c.first_gate-i.result c.inputs-first.ensures.valid c.first_gate-i.ensures.within c.first_gate-i.ensures.before (λ some. c.requires.same (c.first_gate-i.ensures.inputs some)) c.requires.rest c.requires.inputs;
-  rest = λ s h. c.requires.rest s (omega (arith, h));
-  len = refl;
-}
-
-pub loop-i-preserved : goal.loop-i-preserved
-loop-i-preserved c =
+pub gates-preserved : goal.gates-preserved
+gates-preserved c =
     let n = c.args.net.now in
-    let i = c.loop-i.i in
-    let m = length c.inputs-first.result.now + i in
-    let e : m ≡ length n.inputs + i = ap (λ inputs. length inputs + i) c.inputs-first.ensures.inputs in
-    let room : m + 1 ≤ length c.loop-i.words = omega (arith, e, c.loop-i-test.true, c.loop-i.auto.i-end, ap length c.gates-i-end.ensures.gates, c.loop-i.invariant.len, c.requires.words) in
-    let word = c.next_word-word.result in
-    let ends = c.end_with-end.ensures in
-    let reached : (word ≡ slice_index c.args.good.now m) ⊎ (slice_index c.args.past.now m ≤ c.end_with-end.result) =
-    elim (cases_Bool (eqb word (slice_index c.args.good.now m))) [ inl same ↦ inl (eqb-true word (slice_index c.args.good.now m) same) | inr other ↦ inr (ends.1 (ap not other)) ] in
+    let before = c.gates.cone in
+    let i = c.in-Some.i in
+    let marks : c.as_mut_slice.result.now ≡ before.marked.items = c.as_mut_slice.ensures.value in
+    let taken : IsFirstTaken before.marked.items c.take_first.new.marks i = subst (λ ms. IsFirstTaken ms c.take_first.new.marks i) marks c.in-Some.ensures.taken in
+    let after = refilled before.marked c.take_first.new.marks (omega (arith, c.take_first.ensures.len, c.as_mut_slice.ensures.len, before.marked.ok.0)) in
+    let at = c.gates.invariant.marks.marked i taken.marked in
     record {
-      quiet = more-quiet n c.args.fault c.args.good.now c.loop-i.words c.args.past.now m word c.loop-i.end c.end_with-end.result (omega (arith, room)) c.requires.read ends.0 reached (c.loop-i.invariant.rest m (omega (arith, e))) c.loop-i.invariant.quiet;
-      faulty = more-faulty n c.args.fault c.args.good.now c.loop-i.words i m word e (omega (arith, room)) c.next_word-word.ensures c.loop-i.invariant.faulty;
-      rest = λ s h. more-rest c.loop-i.words c.args.good.now (length n.inputs + i) m word e c.loop-i.invariant.rest s (omega (arith, h));
-      len = length-set c.loop-i.words m word ∙ c.loop-i.auto.words;
+      cone = c.visit.ensures.cone;
+      marks = c.visit.ensures.marks;
+      from = omega (arith, c.gates.invariant.from, at.0);
+      spread = λ fault past start.
+          let spread = c.gates.invariant.spread fault past start in
+          c.visit.ensures.spread fault (past i (omega (arith, c.gates.invariant.from, at.0)) at.1)
+          (advanced n fault c.args.good.now before _ c.gates.next i c.valid_law.ensures (λ k from within. past k (omega (arith, from, c.gates.invariant.from)) within) at.0 at.1 (subst (λ ms. IsFirstTaken before.marked.items ms i) (sym after) taken) refl refl spread);
     }
 
-pub returns-after-loop-i-clause-faulty : goal.returns-after-loop-i-clause-faulty
-returns-after-loop-i-clause-faulty c =
-    let n = c.args.net.now in
-    let all : c.loop-i.i ≡ length n.gates = omega (arith, c.loop-i-test.false, c.loop-i.auto.i-end, ap length c.gates-i-end.ensures.gates) in
-    all-faulty n c.args.fault c.args.good.now c.loop-i.words c.loop-i.i c.inputs-first.ensures.valid (omega (arith, all)) (λ j gate there from. absurd (omega (arith, all, from, slice_get_within n.gates j gate there))) c.loop-i.invariant.rest c.loop-i.invariant.faulty
+pub returns-clause-marks : goal.returns-clause-marks
+returns-clause-marks c =
+    let after = refilled c.gates.cone.marked c.take_first.new.marks (omega (arith, c.take_first.ensures.len, c.as_mut_slice.ensures.len, c.gates.cone.marked.ok.0)) in record {
+      marked = λ k set. absurd (false≢true (sym (c.in_default.ensures.taken k) ∙ ap (λ marks. is_marked marks k) (sym (after ∙ c.in_default.ensures.none)) ∙ set));
+      changed = c.gates.invariant.marks.changed;
+    }
 
-pub returns-then-i-end-clause-faulty : goal.returns-then-i-end-clause-faulty
-returns-then-i-end-clause-faulty c =
-    let n = c.args.net.now in
-    let within : c.loop-i.i ≤ length n.gates = omega (arith, c.loop-i-test.true, c.loop-i.auto.i-end, ap length c.gates-i-end.ensures.gates) in
-    all-faulty n c.args.fault c.args.good.now c.loop-i.words c.loop-i.i c.inputs-first.ensures.valid within (λ j gate there from. c.loop-i.invariant.quiet j gate there (omega (arith, from, c.if-i-end.true))) c.loop-i.invariant.rest c.loop-i.invariant.faulty
+pub returns-clause-faulty : goal.returns-clause-faulty
+returns-clause-faulty c fault past start =
+    all-faulty c.args.net.now fault c.args.good.now c.gates.cone c.gates.next c.valid_law.ensures (λ k from within. past k (omega (arith, from, c.gates.invariant.from)) within) (λ k. ap (λ marks. is_marked marks k) (sym c.as_mut_slice.ensures.value) ∙ c.in_default.ensures.taken k)
+    (c.gates.invariant.spread fault past start)

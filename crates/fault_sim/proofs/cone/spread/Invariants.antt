@@ -1,12 +1,15 @@
-use Rattle.std.proofs.Common.{◌≡◌, ◌+◌, ◌≤◌, ℕ, length}
-use Rattle.std.specs.Prelude.{slice_index}
-use Rattle.fault_sim.specs.Lanes.{IsFaulty, IsQuietFrom}
+use Rattle.std.proofs.Common.{◌≤◌, ◌-◌, length}
+use Rattle.ae_net.specs.declared.net.Fault.{Fault}
+use Rattle.fault_sim.specs.Spread.{AreMarks, IsCone, IsPast, IsSpread}
 use Rattle.fault_sim.proofs.cone.spread.Given as goal
 
-abbrev pub invariant-loop-i : goal.invariant-loop-i
-invariant-loop-i l = record {
-  quiet : IsQuietFrom l.net l.fault l.good l.words l.end;
-  faulty : IsFaulty l.net l.fault l.good (length l.net.inputs + l.i) l.words;
-  rest : (s : ℕ) → length l.net.inputs + l.i ≤ s → slice_index l.words s ≡ slice_index l.good s;
-  len : length l.words ≡ length l.fn.words;
+abbrev pub invariant-gates : goal.invariant-gates
+invariant-gates l = record {
+  cone : IsCone l.net l.cone;
+  marks : AreMarks l.net l.cone l.next;
+  from : l.fn.start ≤ l.next;
+  spread : (fault : Fault) → IsPast l.net fault l.fn.start → IsSpread l.net fault l.good l.fn.cone l.fn.start l.fn.start → IsSpread l.net fault l.good l.cone l.next l.next;
 }
+
+abbrev pub decreases-gates : goal.decreases-gates
+decreases-gates l = length l.net.gates - l.next
