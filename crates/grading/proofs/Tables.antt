@@ -5,19 +5,11 @@ use Rattle.std.proofs.lemmas.Bool.{cases_Bool, cases_lt, cond-false, cond-true}
 use Rattle.std.proofs.lemmas.List.Elements.{Contains-append_left, Contains-push, Contains-push_cases}
 use Rattle.std.proofs.lemmas.Option.{same_Some, slice_get_within}
 use Rattle.std.proofs.lemmas.Slice.Eq.{bytes_eq-Decides}
-use Rattle.ae_base.proofs.Contained.{nothing_in_none}
 use Rattle.grading.specs.Table.{AreListed, HaveName, IsAdded, name_in, numbers_of}
 use Rattle.grading.specs.declared.table.Numbers.{Numbers}
 use Rattle.vec_text.specs.declared.file.Idle.{Idle}
 
 -- ---- the numbers while they are put under names
-
--- no number is under any name yet
-pub begun : (lines : List Idle) (numbers : Numbers) → ((name : List ℕ) → numbers_of numbers name ≡ []) → AreListed lines 0 numbers
-begun lines numbers none = record {
-  within = λ name i there. absurd (nothing_in_none i (subst (λ l. Contains l i) (none name) there));
-  all = λ i line lt at. absurd (omega (arith, lt));
-}
 
 module _ (own : List ℕ) (number : ℕ) (old new : Numbers) (added : IsAdded own number old new) where
   one_longer : (name : List ℕ) → bytes_eq own name ≡ true → numbers_of new name ≡ numbers_of old name ++ number ∷ []
