@@ -1,10 +1,11 @@
 -- How a check parts the missed faults.
-use Rattle.std.proofs.Common.{◌≡◌, ◌<◌, ◌≤◌, ◌+◌, ◌-◌, ℕ, suc, Bool, true, false, not, List, [], ◌∷◌, ◌++◌, length, map, take, get_or, cond, inl, inr, refl, sym, ap, ap₂, ◌∙◌, subst, arith}
-use Rattle.std.specs.Prelude.{◌↔◌, Contains, IsTrue, None, Option, Some, filter, is_none}
+use Rattle.std.proofs.Common.{◌≡◌, ◌<◌, ◌≤◌, ◌+◌, ℕ, suc, Bool, true, false, not, List, [], ◌∷◌, ◌++◌, length, take, get_or, cond, inl, inr, refl, sym, ap, ◌∙◌, subst, arith}
+use Rattle.std.specs.Prelude.{◌↔◌, Contains, IsTrue, None, Option, Some, filter, is_none, slice_get}
 use Rattle.std.specs.Option.{is_some}
-use Rattle.std.proofs.lemmas.List.{append-nil, length-append, length-map, map-append, take_all}
+use Rattle.std.proofs.lemmas.List.{append-nil, length-append, map-append, take_all}
 use Rattle.std.proofs.lemmas.List.Elements.{Contains-push_cases, filter_more}
 use Rattle.std.proofs.lemmas.Bool.{false≢true}
+use Rattle.std.proofs.lemmas.Option.{same_Some, slice_get-get_or}
 use Rattle.std.proofs.Math.Bool.{beq}
 use Rattle.std.proofs.Math.Seq.{take-suc}
 use Rattle.ae_base.proofs.Elements.{length_filter_le}
@@ -17,6 +18,7 @@ use Rattle.grading.specs.Grade.{IsEvidence, IsProofOf, IsProved}
 use Rattle.grading.specs.Parts.AreParted.{none, one, other}
 use Rattle.named_faults.specs.Names.{named}
 use Rattle.grading.specs.Parts.{AreParted, ArePartedSoFar, IsSorted}
+use Rattle.grading.specs.Table.{HaveName, name_in}
 use Rattle.grading.specs.declared.missed.Parts.{Parts}
 use Rattle.named_faults.specs.declared.names.NamedFault.{NamedFault}
 use Rattle.vec_text.specs.declared.file.Idle.{Idle}
@@ -62,19 +64,28 @@ value_same false false e = refl
 value_same true false e = absurd (false≢true (sym e))
 value_same false true e = absurd (false≢true e)
 
-module _ (n : Network) (fault : Fault) (lines : List Idle) (i : ℕ) (d : Idle) (lt : i < length lines) where
-  -- no line so far is a proof, nor is this one
-  pub none_more : ((line : Idle) → Contains (take i lines) line → ¬ IsProofOf n fault line) → ¬ IsProofOf n fault (get_or lines i d) → (line : Idle) → Contains (take (i + 1) lines) line → ¬ IsProofOf n fault line
-  none_more before this line there proof =
-      let next : i + 1 ≡ suc i = omega arith in
-      elim (Contains-push_cases (take i lines) (get_or lines i d) line (subst (λ t. Contains t line) (ap (λ m. take m lines) next ∙ take-suc lines i d lt) there)) [
-        | inl earlier ↦ before line earlier proof
-        | inr here ↦ this (subst (IsProofOf n fault) (sym here) proof)
+-- none of the lines with these numbers is a proof
+abbrev pub NoneProves : Network → Fault → List Idle → List ℕ → Type 0
+NoneProves n fault lines numbers = (i : ℕ) (line : Idle) → Contains numbers i → slice_get lines i ≡ Some line → ¬ IsProofOf n fault line
+
+module _ (n : Network) (fault : Fault) (lines : List Idle) where
+  -- nor is the line with the next number
+  pub none_more : (numbers : List ℕ) (k d : ℕ) (line : Idle) → k < length numbers → NoneProves n fault lines (take k numbers) → slice_get lines (get_or numbers k d) ≡ Some line → ¬ IsProofOf n fault line
+      → NoneProves n fault lines (take (k + 1) numbers)
+  none_more numbers k d line lt before at this i found there is proof =
+      let next : k + 1 ≡ suc k = omega arith in
+      elim (Contains-push_cases (take k numbers) (get_or numbers k d) i (subst (λ t. Contains t i) (ap (λ m. take m numbers) next ∙ take-suc numbers k d lt) there)) [
+        | inl earlier ↦ before i found earlier is proof
+        | inr here ↦ this (subst (IsProofOf n fault) (same_Some found line (sym is ∙ ap (slice_get lines) (sym here) ∙ at)) proof)
       ]
 
--- no line at all is one where none of those read so far is, and all are read
-pub none_at_all : (n : Network) (fault : Fault) (lines : List Idle) (i : ℕ) → length lines ≤ i → ((line : Idle) → Contains (take i lines) line → ¬ IsProofOf n fault line) → ¬ IsProved n lines fault
-none_at_all n fault lines i end before proved = before proved.0 (subst (λ t. Contains t proved.0) (sym (take_all i lines end)) proved.1) proved.2
+  -- a line that is a proof has the fault's name, so none is one where none of those with that name is
+  pub none_at_all : (name : NamedFault) (numbers : List ℕ) (k : ℕ) → name ≡ named n fault → HaveName lines (name_in name.place) numbers → length numbers ≤ k → NoneProves n fault lines (take k numbers)
+      → ¬ IsProved n lines fault
+  none_at_all name numbers k is have end before (line, (i, lt, here), proof) =
+      let at : slice_get lines i ≡ Some line = slice_get-get_or lines i line lt ∙ ap Some here in
+      let same : name_in line.place ≡ name_in name.place = ap name_in (same_name n fault name is line proof).1 in
+      before i line (subst (λ t. Contains t i) (sym (take_all k numbers end)) (have.all i line at same)) at proof
 
 -- ---- parts
 

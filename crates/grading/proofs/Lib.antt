@@ -4,4 +4,5 @@ pub mod Paired
 pub mod Reported
 pub mod Selections
 pub mod Sound
+pub mod Tables
 pub mod VectorsFew

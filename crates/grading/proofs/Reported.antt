@@ -1,5 +1,5 @@
 -- The report of a grading by the counts as they are worked out.
-use Rattle.std.proofs.Common.{◌≡◌, ◌≤◌, ◌+◌, ◌-◌, ◌∙◌, ℕ, true, false, not, List, length, map, sym, ap, subst, arith}
+use Rattle.std.proofs.Common.{◌≡◌, ◌≤◌, ◌+◌, ◌-◌, ◌∙◌, ℕ, true, false, not, List, length, sym, ap, subst, arith}
 use Rattle.std.specs.Prelude.{◌↔◌, None, filter}
 use Rattle.std.proofs.lemmas.Bool.{false≢true, not-false, not-true}
 use Rattle.std.proofs.lemmas.List.{length-map}

@@ -1,5 +1,5 @@
 -- What a check proves, and that a grading finds one thing.
-use Rattle.std.proofs.Common.{◌≡◌, ◌+◌, ◌∙◌, ℕ, true, false, List, [], ◌∷◌, length, map, get_or, inl, inr, refl, sym, ap, subst, arith}
+use Rattle.std.proofs.Common.{◌≡◌, ◌+◌, ◌∙◌, ℕ, List, [], ◌∷◌, length, map, get_or, inl, inr, refl, sym, ap, subst, arith}
 use Rattle.std.specs.Prelude.{◌↔◌, All, Contains, None}
 use Rattle.std.proofs.lemmas.Bool.{cases_Bool, false≢true}
 use Rattle.std.proofs.lemmas.List.{length-map}
@@ -20,7 +20,6 @@ use Rattle.grading.specs.declared.report.GradeReport.{GradeReport}
 use Rattle.grading.specs.declared.report.Mode.{Mode}
 use Rattle.grading.specs.declared.report.Mode.TheVariants.{Check, Grade}
 use Rattle.named_faults.specs.Names.{named}
-use Rattle.named_faults.specs.declared.names.NamedFault.{NamedFault}
 use Rattle.grading.proofs.Detected.{detected_is, wrong_is}
 use Rattle.grading.proofs.Paired.{one_file, one_net}
 use Rattle.grading.proofs.Reported.{right_is}

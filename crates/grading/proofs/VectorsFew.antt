@@ -1,6 +1,6 @@
 -- A vector text has at most as many vectors as bytes.
-use Rattle.std.proofs.Common.{◌≡◌, ◌≤◌, ◌+◌, ℕ, suc, Bool, true, false, List, [], ◌∷◌, ◌++◌, length, map, drop, codes, Option, Some, None, inl, inr, refl, sym, ap, ◌∙◌, arith, eqb}
-use Rattle.std.specs.Prelude.{Ok, filter, Result}
+use Rattle.std.proofs.Common.{◌≡◌, ◌≤◌, ◌+◌, ℕ, suc, List, [], ◌∷◌, length, map, drop, codes, Option, Some, None, inl, inr, refl, ap, arith, eqb}
+use Rattle.std.specs.Prelude.{Ok, filter}
 use Rattle.std.specs.List.{before_first, onto_first, position_or_len}
 use Rattle.std.proofs.lemmas.Bool.{cases_Bool}
 use Rattle.std.proofs.lemmas.List.{length-map, length-take}

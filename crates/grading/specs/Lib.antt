@@ -3,3 +3,4 @@ pub mod Grade
 pub mod Pair
 pub mod PairErrors
 pub mod Parts
+pub mod Table

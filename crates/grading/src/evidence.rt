@@ -5,6 +5,7 @@ ghost use Rattle.ae_net.specs.Network.{signals};
 ghost use Rattle.grading.specs.Grade.{IsEvidence, IsProofOf, IsProved};
 ghost use Rattle.named_faults.specs.Names as spec;
 
+use crate::table::{LinesByName, name_in};
 use ae_net::{Fault, Net, Scratch};
 use named_faults::NamedFault;
 use redundancy::check_tree;
@@ -56,12 +57,12 @@ fn is_proof_of(
     }
 }
 
-/// Whether some line proves a fault, which has this name.
+/// Whether some line proves a fault, which has this name. Only the lines whose places have the name of its own are looked at.
 pub fn is_proved(
     net: &Net,
     fault: Fault,
     name: &NamedFault,
-    lines: &[Idle],
+    lines: &LinesByName,
     scratch: &mut Scratch,
 ) -> bool
     requires place { IsPlace net.now fault.place }
@@ -70,8 +71,8 @@ pub fn is_proved(
     ensures holds { IsTrue result ↔ IsProved net.now lines.now fault }
     ensures room { scratch.new ≡ scratch.old }
 {
-    for line in lines {
-        if is_proof_of(net, fault, name, line, scratch) {
+    for number in lines.numbers_of(name_in(&name.place)) {
+        if is_proof_of(net, fault, name, lines.line(*number), scratch) {
             return true;
         }
     }

@@ -10,6 +10,7 @@ mod pair;
 mod pair_error;
 mod report;
 mod responses;
+mod table;
 
 pub use graded::grade;
 pub use laws::grade_law;

@@ -5,6 +5,7 @@ ghost use Rattle.ae_net.specs.Network.{signals};
 ghost use Rattle.grading.specs.Parts.{ArePartedSoFar, IsSorted};
 
 use crate::evidence::is_proved;
+use crate::table::LinesByName;
 use ae_base::{Memory, Point, Seq};
 use ae_net::{Fault, Net, Scratch, fault_laws, scratch_for, valid_law};
 use fault_sim::{detects_law, first_telling};
@@ -24,7 +25,7 @@ fn sort(
     alloc: Global,
     net: &Net,
     fault: Fault,
-    lines: &[Idle],
+    lines: &LinesByName,
     scratch: &mut Scratch,
     parts: &mut Parts,
 ) -> Result<(), Memory>
@@ -58,6 +59,7 @@ pub fn parts_of(
     detects_law();
     fault_laws();
     valid_law(net);
+    let table = LinesByName::new(alloc, lines)?;
     let found = first_telling(alloc, net, points, list)?;
     let mut scratch = scratch_for(alloc, net)?;
     let mut parts = Parts {
@@ -66,7 +68,7 @@ pub fn parts_of(
     };
     for i in 0..list.len() {
         if found[i].is_none() {
-            sort(alloc, net, list[i], lines, &mut scratch, &mut parts)?;
+            sort(alloc, net, list[i], &table, &mut scratch, &mut parts)?;
         }
     }
     Ok(parts)

@@ -1,4 +1,4 @@
-use Rattle.std.proofs.Common.{◌∙◌, false, sym}
+use Rattle.std.proofs.Common.{◌∙◌, sym}
 use Rattle.std.proofs.lemmas.Bool.{false≢true}
 use Rattle.grading.proofs.Checked.{proof_is, same_name, same_value, value_same}
 use Rattle.grading.proofs.evidence.is_proof_of.Goals as goal

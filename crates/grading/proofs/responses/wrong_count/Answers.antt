@@ -1,4 +1,4 @@
-use Rattle.std.proofs.Common.{◌∙◌, arith, ap, get_or, sym, ◌+◌}
+use Rattle.std.proofs.Common.{◌∙◌, arith, ap, sym, ◌+◌}
 use Rattle.std.proofs.lemmas.List.Sums.{count_by_more_no, count_by_more_yes}
 use Rattle.grading.specs.Counts.{is_wrong}
 use Rattle.grading.proofs.Detected.{wrong_at}
