@@ -249,11 +249,11 @@ restored-only before after s t taken set = right_part (not (eqb t s)) (is_marked
     right_part true b h = h
     right_part false b h = absurd (false≢true h)
 
-pub restored-word : (good words marks after : List ℕ) (s t : ℕ) → s < length words → IsFirstTaken marks after s → ((t : ℕ) → is_marked marks t ≡ false → slice_index words t ≡ slice_index good t) → is_marked after t ≡ false → slice_index (set words s (slice_index good s)) t ≡ slice_index good t
-restored-word good words marks after s t within taken same none =
+pub restored-word : (good words marks after : List ℕ) (s t word : ℕ) → word ≡ slice_index good s → s < length words → IsFirstTaken marks after s → ((t : ℕ) → is_marked marks t ≡ false → slice_index words t ≡ slice_index good t) → is_marked after t ≡ false → slice_index (set words s word) t ≡ slice_index good t
+restored-word good words marks after s t word is within taken same none =
     elim (cases_eq t s) [
-      | inl e ↦ ap (slice_index (set words s (slice_index good s))) e ∙ get_or-set_same words s (slice_index good s) 0 within ∙ ap (slice_index good) (sym e)
-      | inr ne ↦ get_or-set_other words s t (slice_index good s) 0 ne ∙ same t (sym (taken.rest t ∙ ap (λ b. not b && is_marked marks t) (ne_eqb t s ne)) ∙ none)
+      | inl e ↦ ap (slice_index (set words s word)) e ∙ get_or-set_same words s word 0 within ∙ is ∙ ap (slice_index good) (sym e)
+      | inr ne ↦ get_or-set_other words s t word 0 ne ∙ same t (sym (taken.rest t ∙ ap (λ b. not b && is_marked marks t) (ne_eqb t s ne)) ∙ none)
     ]
 
 -- ---- where the fault is

@@ -1,5 +1,6 @@
 pub mod Cones
 pub mod MarkWords
+pub mod PartLanes
 pub mod Reading
 pub mod RowLanes
 pub mod Searches

@@ -6,8 +6,9 @@ ghost use Rattle.ae_net.specs.Network.{signals};
 ghost use Rattle.fault_sim.specs.declared.words.TheConstants.{LANES};
 ghost use Rattle.fault_sim.specs.Lanes.{IsGood};
 
+use crate::marks::mark;
 use crate::table::gate_word;
-use crate::words::{Word, full, with_lane};
+use crate::words::{Word, word_of};
 use ae_base::Point;
 use ae_net::Net;
 
@@ -16,13 +17,13 @@ fn input_word(points: &[Point], j: u32) -> Word
     requires { length points.now ≤ LANES }
     ensures { (l : ℕ) → l < length points.now → has result l ≡ has (slice_index points.now l) j }
 {
-    let mut word = full(false);
+    let mut parts = [0u64; 8];
     for (l, point) in points.iter().enumerate() {
         if point.has(j) {
-            word = with_lane(word, l as u32);
+            mark(&mut parts, l);
         }
     }
-    word
+    word_of(&parts)
 }
 
 /// Writes the words of the inputs.

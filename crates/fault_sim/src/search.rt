@@ -16,6 +16,9 @@ use ae_base::{Memory, Point};
 use ae_net::{Fault, Net, Pins, valid_law};
 use std::alloc::Global;
 
+/// How many points the first pass takes.
+const FIRST_POINTS: usize = 64;
+
 /// What a search works with: for each signal the gates that read it, its word without a fault in the lanes of this pass, and what the pass of a
 /// fault works with.
 #[derive(Drop)]
@@ -142,7 +145,8 @@ fn try_faults(
     }
 }
 
-/// The points of one pass, those from `base` on.
+/// The points of one pass, those from `base` on. The first pass takes few: most faults are detected early, and fewer points make fewer signals
+/// differ.
 pub fn next_points(points: &[Point], base: usize) -> &[Point]
     requires { base < length points.now }
     ensures few { length result.now ≤ LANES }
@@ -151,7 +155,8 @@ pub fn next_points(points: &[Point], base: usize) -> &[Point]
     ensures points { (l : ℕ) → l < length result.now → slice_index result.now l ≡ slice_index points.now (base + l) }
 {
     let left = points.len() - base;
-    let count = if left < LANES { left } else { LANES };
+    let most = if base == 0 { FIRST_POINTS } else { LANES };
+    let count = if left < most { left } else { most };
     &points[base..base + count]
 }
 
