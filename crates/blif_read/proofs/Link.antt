@@ -1,12 +1,13 @@
 -- The order by names is the order by places.
-use Rattle.std.proofs.Common.{◌≡◌, ℕ, zero, suc, ◌+◌, ◌<◌, ◌≤◌, Bool, true, not, cond, ◌||◌, ◌&&◌, eqb, Option, Some, None, List, [], ◌∷◌, ◌++◌, length, map, get_or, refl, sym, ap, ◌∙◌, arith, inl, inr, ◌⊎◌}
-use Rattle.std.specs.Prelude.{bytes_eq, option_map}
-use Rattle.std.specs.List.{find, list_all, AllByRecursion, range_with_len}
-use Rattle.std.proofs.lemmas.Bool.{cases_Bool, or_left, cond-true, cond-false}
-use Rattle.std.proofs.lemmas.List.{map-append, length-map, get_or-map, same_lists, get_or_default}
+use Rattle.std.proofs.Common.{◌≡◌, ℕ, zero, suc, ◌+◌, ◌<◌, Bool, true, not, ◌||◌, ◌&&◌, eqb, Option, Some, None, List, [], ◌∷◌, ◌++◌, length, map, get_or, refl, sym, ap, ◌∙◌, arith, inl, inr, ◌⊎◌}
+use Rattle.std.specs.Prelude.{bytes_eq, slice_get, option_map}
+use Rattle.std.specs.List.{find, list_all, AllByRecursion, range_with_len, position_or_len}
+use Rattle.std.proofs.lemmas.Bool.{cases_Bool, cases_lt, or_left, cond-true, cond-false}
+use Rattle.std.proofs.lemmas.List.{map-append, length-map, get_or-map}
 use Rattle.std.proofs.lemmas.List.Elements.{All-from_recursion}
-use Rattle.std.proofs.lemmas.List.FromFn.{length-map-range_with_len, get_or-map-range_with_len}
-use Rattle.std.proofs.lemmas.List.Folds.{list_any-append}
+use Rattle.std.proofs.lemmas.List.FromFn.{length-range_with_len, get_or-range_with_len}
+use Rattle.std.proofs.lemmas.Option.{slice_get-get_or, slice_get_past}
+use Rattle.std.proofs.lemmas.List.Folds.{find_at, list_any-append}
 use Rattle.ae_net.specs.Valid.{IsDistinct}
 use Rattle.ae_base.specs.Twins.{is_among}
 use Rattle.ae_net.specs.Named.{NamedGate, place_of}
@@ -37,18 +38,11 @@ AreKnown known cs = AllByRecursion (λ c. AllByRecursion (λ pin. is_among pin k
 
 -- ---- find
 
-find_map : {X : Type 0} (p : X → Bool) (f : ℕ → X) (js : List ℕ) → find p (map f js) ≡ option_map f (find (λ j. p (f j)) js)
-find_map p f [] = refl
-find_map p f (j ∷ js) = elim (cases_Bool (p (f j))) [
-  | inl t ↦ rw t refl
-  | inr n ↦ rw n (find_map p f js)
-]
-
-find_same : (p q : ℕ → Bool) (n a : ℕ) → ((j : ℕ) → a ≤ j → j < a + n → p j ≡ q j) → find p (range_with_len a n) ≡ find q (range_with_len a n)
-find_same p q zero a h = refl
-find_same p q (suc n) a h =
-    ap (λ (b : Bool). cond b (Some a) (find p (range_with_len (a + 1) n))) (h a (omega arith) (omega arith))
-    ∙ ap (λ (o : Option ℕ). cond (q a) (Some a) o) (find_same p q n (a + 1) (λ j x y. h j (omega arith) (omega arith)))
+pub same_first : {X Y : Type 0} (p : X → Bool) (q : Y → Bool) (xs : List X) (ys : List Y) (d : X) (e : Y) → length xs ≡ length ys → ((k : ℕ) → k < length xs → p (get_or xs k d) ≡ q (get_or ys k e)) → position_or_len p xs ≡ position_or_len q ys
+same_first p q [] [] d e l h = refl
+same_first p q [] (y ∷ ys) d e l h = absurd (omega arith)
+same_first p q (x ∷ xs) [] d e l h = absurd (omega arith)
+same_first p q (x ∷ xs) (y ∷ ys) d e l h = rw (h 0 (omega arith), same_first p q xs ys d e (omega arith) (λ k lt. h (suc k) (omega arith))) refl
 
 find_in : (p : ℕ → Bool) (n a k : ℕ) → find p (range_with_len a n) ≡ Some k → k < a + n
 find_in p zero a k e = absurd cc
@@ -57,10 +51,15 @@ find_in p (suc n) a k e = elim (cases_Bool (p a)) [
   | inr f ↦ (let r = find_in p n (a + 1) k (sym (cond-false (p a) (Some a) (find p (range_with_len (a + 1) n)) f) ∙ e) in omega arith)
 ]
 
-whole_list : (cs : List NamedGate) → map (gate_at cs) (range_with_len 0 (length cs)) ≡ cs
-whole_list cs = same_lists _ _ (length-map-range_with_len (gate_at cs) 0 (length cs)) (λ k d h.
-    let lt : k < length cs = omega (arith, length-map-range_with_len (gate_at cs) 0 (length cs)) in
-    get_or-map-range_with_len (gate_at cs) 0 (length cs) k k d lt (omega arith) ∙ get_or_default cs k blank d lt)
+element_at : (cs : List NamedGate) (k : ℕ) → slice_get cs k ≡ option_map (gate_at cs) (slice_get (range_with_len 0 (length cs)) k)
+element_at cs k =
+    let size = length-range_with_len 0 (length cs) in
+    elim (cases_lt k (length cs)) [
+      | inl lt ↦
+          (let at : get_or (range_with_len 0 (length cs)) k 0 ≡ k = omega (arith, get_or-range_with_len 0 (length cs) k 0 lt) in
+          slice_get-get_or cs k blank lt ∙ ap (λ i. Some (gate_at cs i)) (sym at) ∙ ap (option_map (gate_at cs)) (sym (slice_get-get_or (range_with_len 0 (length cs)) k 0 (omega (arith, size, lt)))))
+      | inr le ↦ slice_get_past cs k le ∙ ap (option_map (gate_at cs)) (sym (slice_get_past (range_with_len 0 (length cs)) k (omega (arith, size, le))))
+    ]
 
 -- ---- names and places
 
@@ -118,10 +117,13 @@ next_same : (inputs : List (List ℕ)) (cs : List NamedGate) (placed : List ℕ)
 unfolding order.next
 next_same inputs cs placed apart below known =
     let p = names.can_go inputs (map (gate_at cs) placed) in
-    let size : length (needs_of inputs cs) ≡ length cs = length-map cs (λ (u : NamedGate). waits_of inputs (outs cs) u.pins) in
-    ap (find p) (sym (whole_list cs)) ∙ find_map p (gate_at cs) (range_with_len 0 (length cs))
-    ∙ ap (option_map (gate_at cs)) (find_same (λ j. p (gate_at cs j)) (order.can_go (needs_of inputs cs) placed) (length cs) 0 (λ j x y. go_same inputs cs placed j apart below known (omega arith))
-    ∙ ap (λ n. find (order.can_go (needs_of inputs cs) placed) (range_with_len 0 n)) (sym size))
+    let q = order.can_go (needs_of inputs cs) placed in
+    let js = range_with_len 0 (length cs) in
+    let first : position_or_len p cs ≡ position_or_len q js = same_first p q cs js blank 0 (sym (length-range_with_len 0 (length cs))) (λ k lt.
+    let at : get_or js k 0 ≡ k = omega (arith, get_or-range_with_len 0 (length cs) k 0 lt) in
+    go_same inputs cs placed k apart below known lt ∙ ap q (sym at)) in
+    find_at p cs ∙ ap (slice_get cs) first ∙ element_at cs (position_or_len q js) ∙ ap (option_map (gate_at cs)) (sym (find_at q js))
+    ∙ ap (λ n. option_map (gate_at cs) (find q (range_with_len 0 n))) (sym (length-map cs (λ (u : NamedGate). waits_of inputs (outs cs) u.pins)))
 
 pub next_below : (needs : List (List ℕ)) (placed : List ℕ) (k : ℕ) → order.next needs placed ≡ Some k → k < length needs
 unfolding order.next

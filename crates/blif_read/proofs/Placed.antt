@@ -15,7 +15,7 @@ use Rattle.blif_read.specs.declared.draft.Draft.{Draft}
 use Rattle.blif_read.proofs.Ranks.{any_within}
 use Rattle.blif_read.proofs.Tables.{place_of-append}
 use Rattle.blif_read.proofs.Places.{place_at, place_low, place_high, same_name, AllBelow, below_more}
-use Rattle.blif_read.proofs.Link.{gate_at, blank, out_at, among_placed, next_below, cases_Option}
+use Rattle.blif_read.proofs.Link.{same_first, gate_at, blank, out_at, among_placed, next_below, cases_Option}
 use Rattle.blif_order.specs.Order as by_place
 use Rattle.blif_order.proofs.Steps as steps
 
@@ -34,14 +34,6 @@ order_short needs (suc n) done = elim (cases_Option (by_place.next needs done)) 
   | inl e ↦ omega (arith, ap length (steps.place_stops needs (suc n) done e))
   | inr (k, e) ↦ omega (arith, ap length (steps.place_some needs n done k e), order_short needs n (done ++ k ∷ []), length_push done k)
 ]
-
--- ---- the first that passes
-
-same_first : {X Y : Type 0} (p : X → Bool) (q : Y → Bool) (xs : List X) (ys : List Y) (d : X) (e : Y) → length xs ≡ length ys → ((k : ℕ) → k < length xs → p (get_or xs k d) ≡ q (get_or ys k e)) → position_or_len p xs ≡ position_or_len q ys
-same_first p q [] [] d e l h = refl
-same_first p q [] (y ∷ ys) d e l h = absurd (omega arith)
-same_first p q (x ∷ xs) [] d e l h = absurd (omega arith)
-same_first p q (x ∷ xs) (y ∷ ys) d e l h = rw (h 0 (omega arith), same_first p q xs ys d e (omega arith) (λ k lt. h (suc k) (omega arith))) refl
 
 -- ---- ranks
 

@@ -48,6 +48,7 @@ fn add_name(
 }
 
 /// Declares the words of `.inputs` or `.outputs`.
+#[tactic(auto, using(crate::proofs::Steps::declared_err))]
 pub fn add_names(
     alloc: Global,
     kind: Kind,
