@@ -12,6 +12,7 @@ pub mod Lead
 pub mod Marks
 pub mod Named
 pub mod Names
+pub mod NetSource
 pub mod Network
 pub mod Out
 pub mod Run

@@ -10,6 +10,7 @@ mod net;
 mod pins;
 mod places;
 mod run;
+mod source;
 
 pub use builder::NetBuilder;
 pub use evaluation::{Values, evaluate};
@@ -23,3 +24,4 @@ pub use net::{Fault, Gate, Net, Place, Sig};
 pub use pins::Pins;
 pub use places::{fault_count, faults, is_place};
 pub use run::{Scratch, answer, scratch_for};
+pub use source::Source;

@@ -9,6 +9,7 @@ mod joins;
 mod laws;
 mod nets;
 mod products;
+mod sources;
 
 pub use covers::cover_values;
 pub use cubes::{some_cube, some_product};
@@ -17,3 +18,4 @@ pub use faulty::faulty_values;
 pub use laws::kept_law;
 pub use nets::{net_values, port_values, signal_values};
 pub use products::input;
+pub use sources::source_values;
