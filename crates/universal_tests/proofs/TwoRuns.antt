@@ -19,9 +19,8 @@ use Rattle.ae_net.proofs.Runs.{IsRun-run, ones_seen_agree}
 use Rattle.expansion.specs.Terms.{Terms}
 use Rattle.cascade.specs.Reddy.{place_of, lines, turned, literal_signal, inverters, has_one, control_gates, start, is_wide, wide_terms, and_place, chain_place, term_signal, and_gates, rest, ends, gates}
 use Rattle.cascade.specs.Shows.{CanBuild, reddy_net}
-use Rattle.cascade.proofs.Law.{Stands, Inputs, Built, built, and_of, and_fits, value-literal, value-term, value-start, value-port}
+use Rattle.cascade.proofs.Law.{Stands, Inputs, Built, built, and_of, and_fits, value-literal, value-term, value-start, value-port, used_since}
 use Rattle.cascade.proofs.GatesValid.{literal_below, literals_below}
-use Rattle.cascade.proofs.Law.{used_since}
 use Rattle.cascade.proofs.Ports.{length-outputs}
 use Rattle.cascade.proofs.Shown.{valid}
 use Rattle.cascade.proofs.Values.{Shows}

@@ -1,5 +1,5 @@
 use Rattle.std.proofs.Common.{◌∙◌, ap, length, refl, arith}
-use Rattle.cascade.proofs.CodeBounds.{is_plan}
+use Rattle.cascade.proofs.CodeLemmas.{is_plan}
 use Rattle.cascade.proofs.Valid.{few_turned}
 use Rattle.cascade.proofs.build.plan.Goals as goal
 
