@@ -1,5 +1,5 @@
 -- The Reddy network is valid, and its ports have the names of the outputs.
-use Rattle.std.proofs.Common.{◌≡◌, ◌≢◌, ℕ, suc, ◌+◌, ◌-◌, ◌<◌, ◌≤◌, ◌^◌, Bool, true, false, not, ◌&&◌, cond, inl, inr, List, [], ◌∷◌, ◌++◌, length, map, get_or, refl, sym, ap, ap₂, ◌∙◌, subst, arith, append_assoc, length-append, eqb, eq-eqb, ne_eqb}
+use Rattle.std.proofs.Common.{◌≡◌, ◌≢◌, ℕ, zero, suc, ◌+◌, ◌-◌, ◌<◌, ◌≤◌, ◌^◌, Bool, true, false, not, ◌&&◌, cond, inl, inr, List, [], ◌∷◌, ◌++◌, length, map, get_or, refl, sym, ap, ap₂, ◌∙◌, subst, arith, append_assoc, length-append, eqb, eq-eqb, ne_eqb}
 use Rattle.std.specs.Prelude.{All, Some, None, filter, slice_get, slice_index, codes, sum}
 use Rattle.std.specs.List.{AllByRecursion, list_any, flat_map, range_with_len}
 use Rattle.std.specs.Fmt.{decimal}
@@ -98,9 +98,7 @@ groups_of e = record { letter = 99; texts = [] ∷ [] } ∷ numbers 105 (turned 
 all_names : (k : ℕ) (names : Names) (e : Terms) → inner k (99 ∷ []) ∷ outs_of (gates k names e) ≡ flat_map (names_in k) (groups_of e) ++ names_to_outputs k 120 0 (map inner_gates e.outs) names.outputs
 unfolding gates
 all_names k names e =
-    let out = λ (gate : Gate). gate.out in
-    ap (λ l. inner k (99 ∷ []) ∷ l) (simp map-append (ap₂ (λ (a b : List (List ℕ)). a ++ b) (inverter_names k 0 (turned e)) (ap₂ (λ (a b : List (List ℕ)). a ++ b) (control_names k e) (ap₂ (λ (a b : List (List ℕ)). a ++ b) (and_names k e 0 (wide_terms e)) (chains_names k e 0 (chain_place e) e.outs names.outputs)))))
-    ∙ sym (simp append_assoc)
+    simp (map-append, inverter_names k 0 (turned e), control_names k e, and_names k e 0 (wide_terms e), chains_names k e 0 (chain_place e) e.outs names.outputs, append_assoc)
 
 texts_apart : (e : Terms) → e.polarity.n < 2 ^ 63 → length (wide_terms e) < 2 ^ 63 → AllByRecursion (λ (group : Group). IsDistinct group.texts) (groups_of e)
 unfolding turned
@@ -121,7 +119,7 @@ texts_apart e small_n small_wide = (
         decimals_apart js (All-from_recursion (λ j. suc j < 2 ^ 64) js (each_weaker (λ j. j < n) (λ j. suc j < 2 ^ 64) (λ j l. omega (arith, l)) js (range_below p 0 n n (omega arith)))) (AllPairs-from_Distinct js (Distinct-filter p (range_with_len 0 n) (Distinct-range 0 n)))
 
     all_pass : (a n : ℕ) → filter (λ (j : ℕ). true) (range_with_len a n) ≡ range_with_len a n
-    all_pass a 0 = refl
+    all_pass a zero = refl
     all_pass a (suc n) = ap (λ js. a ∷ js) (all_pass (a + 1) n)
 
 names_apart : (k : ℕ) (names : Names) (e : Terms) → is_taken (names.inputs ++ names.outputs) k ≡ false → IsDistinct (names.inputs ++ names.outputs)
@@ -238,7 +236,7 @@ pub turned_parts : (e : Terms) (j : ℕ) → list_any (λ i. eqb i j) (turned e)
 unfolding turned
 turned_parts e j listed =
     let parts = and_parts _ _ ((any_filter_parts (λ i. is_used e i && not (has e.polarity.plain i)) j (range_with_len 0 e.polarity.n) listed).0) in
-    (each_at (λ i. i < e.polarity.n) j (turned e) (range_below _ 0 e.polarity.n e.polarity.n (omega arith)) listed, (parts.0, not-true (has e.polarity.plain j) parts.1))
+    (each_at (λ i. i < e.polarity.n) j (turned e) (range_below _ 0 e.polarity.n e.polarity.n (omega arith)) listed, parts.0, not-true (has e.polarity.plain j) parts.1)
 
 pub literal_read : (e : Terms) (j : ℕ) → j < e.polarity.n → is_used e j ≡ true → MayRead e (lines e + length (turned e)) (literal_signal e j)
 unfolding literal_signal
@@ -353,7 +351,7 @@ module _ (e : Terms) (k : ℕ) (short : k ≤ SOURCE_NAME_BYTES + 1) where
       let z1 : lines e + length (inverters k e) ≡ lines e + length (turned e) = ap (λ n. lines e + n) (length-inverters k e) in
       let z2 : lines e + length (turned e) + length (control_gates k e) ≡ lines e + and_place e = omega (arith, length-control_gates k e) in
       let z3 : lines e + and_place e + length (and_gates k e) ≡ lines e + chain_place e = omega (arith, length-and_gates k e, chain_after e) in
-      EachAt-join (IsSound e) (lines e) (inverters k e) _ (sound_inverters 0 (turned e) (lines e) (omega (arith, few_turned e, few)) (each_member (MayRead e (lines e)) (turned e) (λ j m. let r = turned_parts e j m in (omega (arith, r.0), λ h. r.1.0))))
+      EachAt-join (IsSound e) (lines e) (inverters k e) _ (sound_inverters 0 (turned e) (lines e) (omega (arith, few_turned e, few)) (each_member (MayRead e (lines e)) (turned e) (λ j m. let r = turned_parts e j m in (omega (arith, r.0), λ h. r.1))))
       (rw z1 (EachAt-join (IsSound e) _ (control_gates k e) _ (sound_control _ (omega arith))
       (rw z2 (EachAt-join (IsSound e) _ (and_gates k e) _ (sound_ands 0 (wide_terms e) _ (omega (arith, few_wide e, cheap)) few (omega arith) (all_terms e terms (wide_terms e) (λ t m. (wide_found e t m).1)))
       (rw z3 (sound_chains 0 (chain_place e) e.outs names.outputs named (omega (arith, few_of_all e, cheap)) (omega arith) (recursion_from_All Reads e.outs (λ o d l. reads o (get_or e.outs o d) (slice_get-get_or e.outs o d l)))))))))
@@ -397,7 +395,7 @@ names_at k e before c i (ts ∷ tss) (out ∷ outs) d same at =
     let z : lines e + (i + inner_gates ts) - lines e ≡ length before + inner_gates ts = omega (arith, at) in
     let size : length (before ++ gs) ≡ suc (i + inner_gates ts) = omega (arith, length-append before gs, length-chain k e out c i (start e ts) (rest ts), at) in
     ap₂ (λ (name : List ℕ) names. name ∷ names) (rw (z, get_or-append-add before (gs ++ later_gates) (inner_gates ts) d) (chain_end k e out c i (start e ts) (rest ts) later_gates d))
-    (rw (← append_assoc before gs later_gates) (names_at k e (before ++ gs) (c + inner_gates ts) (suc (i + inner_gates ts)) tss outs d (omega (arith, same)) size))
+    (subst (λ (all : List Gate). map (λ s. (get_or all (s - lines e) d).out) (ends e (suc (i + inner_gates ts)) tss) ≡ outs) (append_assoc before gs later_gates) (names_at k e (before ++ gs) (c + inner_gates ts) (suc (i + inner_gates ts)) tss outs d (omega (arith, same)) size))
 
 -- ---- the network
 

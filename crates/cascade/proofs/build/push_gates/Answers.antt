@@ -32,7 +32,7 @@ push_outputs-requires-clause-low c =
 pub returns-clause-gates : goal.returns-clause-gates
 returns-clause-gates c =
     let all = parts _ c.args.plan.now.expansion.now _ _ _ _ c.requires.no_gates c.in_ok-push_inverters.ensures.gates c.in_ok-push_control.ensures.gates c.in_ok-push_ands.ensures.gates in
-    rw (sym (front_chains c.args.plan.now.lead c.args.names.now c.args.plan.now.expansion.now)) (rw (all, length-front c.args.plan.now.lead c.args.plan.now.expansion.now, c.outputs.ensures.outputs) at c.push_outputs.ensures.gates)
+    rw (front_chains c.args.plan.now.lead c.args.names.now c.args.plan.now.expansion.now) (rw (all, length-front c.args.plan.now.lead c.args.plan.now.expansion.now, c.outputs.ensures.outputs) at c.push_outputs.ensures.gates)
 
 pub returns-clause-ports : goal.returns-clause-ports
 returns-clause-ports c =
