@@ -1,5 +1,5 @@
 -- Steps of the loops that build the network, and bounds that the builder keeps.
-use Rattle.std.proofs.Common.{◌≡◌, ℕ, suc, ◌+◌, ◌<◌, ◌≤◌, true, List, [], ◌∷◌, ◌++◌, length, map, get_or, drop, refl, sym, ap, ◌∙◌, arith, append_assoc, length-append, eqb, not}
+use Rattle.std.proofs.Common.{◌≡◌, ℕ, suc, ◌+◌, ◌<◌, ◌≤◌, true, List, [], ◌∷◌, ◌++◌, length, map, get_or, drop, sym, ap, ◌∙◌, arith, append_assoc, length-append, eqb, not}
 use Rattle.std.specs.Prelude.{All, codes}
 use Rattle.std.proofs.lemmas.List.{length-map, drop_more}
 use Rattle.std.proofs.lemmas.List.Elements.{All-from_recursion, recursion_from_All}
@@ -18,10 +18,10 @@ use Rattle.expansion.specs.Terms.{Terms, cost}
 use Rattle.cascade.specs.declared.parts.Chain.{Chain}
 use Rattle.cascade.specs.declared.signals.Plan.{Plan}
 use Rattle.cascade.specs.Plan.{IsPlan, IsChain, HasRoom}
-use Rattle.cascade.specs.Reddy.{lines, turned, start, rest, inner_gates, inverters, control_gates, wide_terms, and_place, chain_place, and_gates, chain, chains, ends, gates, gates_for}
+use Rattle.cascade.specs.Reddy.{lines, turned, start, rest, inner_gates, wide_terms, and_place, chain_place, chain, chains, ends, gates, gates_for}
 use Rattle.cascade.specs.Shows.{Fits, reddy_net}
-use Rattle.cascade.proofs.Law.{IsTerm, all_terms, length-chain, length-control_gates, wide_found}
-use Rattle.cascade.proofs.Valid.{all_inner, chain_after, few_lines, few_of_all, few_turned, few_wide, front_chains, length-and_gates, length-inverters, turned_parts, valid}
+use Rattle.cascade.proofs.Law.{IsTerm, all_terms, length-chain, wide_found}
+use Rattle.cascade.proofs.Valid.{all_inner, few_lines, few_of_all, few_turned, few_wide, turned_parts, valid}
 
 -- the gates of the elements that are left
 pub gates_for_more : (gate : ℕ → ℕ → Gate) (c : ℕ) (xs : List ℕ) (i : ℕ) (now all : List Gate) → i < length xs → now ++ gates_for gate (c + i) (drop i xs) ≡ all → (now ++ gate (c + i) (get_or xs i 0) ∷ []) ++ gates_for gate (c + (i + 1)) (drop (i + 1) xs) ≡ all

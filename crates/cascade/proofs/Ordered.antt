@@ -1,10 +1,10 @@
 -- The shared terms stand in term order without repeats: a sort lists them, and a binary search finds them.
-use Rattle.std.proofs.Common.{◌≡◌, ◌≢◌, ℕ, zero, suc, ◌<◌, ◌≤◌, inl, inr, List, [], ◌∷◌, length, get_or, refl, sym, ap, ◌∙◌, subst, arith, eqb, eq-eqb, ne_eqb}
-use Rattle.std.specs.Prelude.{filter, nat_eq}
+use Rattle.std.proofs.Common.{◌≡◌, ◌≢◌, ℕ, suc, ◌<◌, ◌≤◌, inl, inr, List, [], ◌∷◌, length, get_or, refl, sym, ap, ◌∙◌, subst, arith, eqb, ne_eqb}
+use Rattle.std.specs.Prelude.{nat_eq}
 use Rattle.std.specs.declared.cmp.Ordering.{Ordering}
 use Rattle.std.specs.declared.cmp.Ordering.TheVariants.{Less, Equal, Greater}
 use Rattle.std.specs.Ordering.{ordering_index}
-use Rattle.std.specs.List.{HoldsAt, dedup, flat_map, list_any}
+use Rattle.std.specs.List.{HoldsAt, dedup, list_any}
 use Rattle.std.specs.List.Retain.{IsFiltered, DiffersFromLast}
 use Rattle.std.specs.List.Sorted.{IsPermutation, IsSorted, IsStrictlySortedBy, IsNonDecreasingBy, IsPartitionPoint}
 use Rattle.std.proofs.lemmas.Bool.{cases_lt}
@@ -18,10 +18,9 @@ use Rattle.ae_base.proofs.InOrder.{in_order-same, in_order-order, any-in_order}
 use Rattle.ae_base.proofs.Order.{cmp_terms_total, cmp_equal, cmp_same, equal_where_tied, less_apart, less_trans}
 use Rattle.ae_base.proofs.Truth.{same_truth}
 use Rattle.ae_base.proofs.Elements.{any-from_Contains, Contains-from_any}
-use Rattle.expansion.specs.Terms.{Terms}
 use Rattle.cascade.specs.declared.signals.Plan.{Plan}
 use Rattle.cascade.specs.Plan.{IsPlan}
-use Rattle.cascade.specs.Reddy.{place_of, wide_terms}
+use Rattle.cascade.specs.Reddy.{place_of}
 use Rattle.cascade.proofs.Law.{place_first, wide_order}
 
 -- ---- terms in order

@@ -1,6 +1,6 @@
 -- The Reddy network is valid, and its ports have the names of the outputs.
-use Rattle.std.proofs.Common.{◌≡◌, ◌≢◌, ℕ, zero, suc, ◌+◌, ◌-◌, ◌<◌, ◌≤◌, ◌^◌, Bool, true, false, not, ◌&&◌, cond, inl, inr, List, [], ◌∷◌, ◌++◌, length, map, get_or, refl, sym, ap, ap₂, ◌∙◌, subst, arith, append_assoc, length-append, eqb, eq-eqb, ne_eqb}
-use Rattle.std.specs.Prelude.{All, Some, None, filter, slice_get, slice_index, codes, sum}
+use Rattle.std.proofs.Common.{◌≡◌, ◌≢◌, ℕ, zero, suc, ◌+◌, ◌-◌, ◌<◌, ◌≤◌, ◌^◌, Bool, true, false, not, ◌&&◌, cond, inl, inr, List, [], ◌∷◌, ◌++◌, length, map, get_or, refl, sym, ap, ap₂, ◌∙◌, subst, arith, append_assoc, length-append, eqb, eq-eqb}
+use Rattle.std.specs.Prelude.{Some, None, filter, slice_get, slice_index, codes, sum}
 use Rattle.std.specs.List.{AllByRecursion, list_any, flat_map, range_with_len}
 use Rattle.std.specs.Fmt.{decimal}
 use Rattle.std.specs.Ordering.{is_lt}
@@ -12,7 +12,7 @@ use Rattle.std.proofs.lemmas.List.FromFn.{length-range_with_len}
 use Rattle.std.proofs.lemmas.List.Sums.{sum_by-cons}
 use Rattle.std.proofs.lemmas.Map.Keys.{any_passes_from_place}
 use Rattle.std.proofs.lemmas.Option.{slice_get-get_or}
-use Rattle.ae_base.specs.declared.limits.TheConstants.{GATES, NET_LINES, PINS, REDDY_TERMS, SOURCE_LINES, SOURCE_NAME_BYTES}
+use Rattle.ae_base.specs.declared.limits.TheConstants.{NET_LINES, PINS, REDDY_TERMS, SOURCE_LINES, SOURCE_NAME_BYTES}
 use Rattle.ae_base.specs.Mask.{Set, differ, has, empty, first, inside, cmp_terms, members}
 use Rattle.ae_base.specs.Name.{is_name}
 use Rattle.ae_base.specs.Terms.{placed, in_order, value}
@@ -28,7 +28,6 @@ use Rattle.ae_net.specs.GateNames.{Group, names_in, numbered, names_to_outputs}
 use Rattle.ae_net.specs.Gates.{pins_of, gate_of, inverter, and_gate}
 use Rattle.ae_net.specs.Lead.{IsLetter, lead}
 use Rattle.ae_net.specs.Names.{Names, IsNames, is_taken, inner}
-use Rattle.ae_net.specs.Network.{Network}
 use Rattle.ae_net.specs.Out.{out}
 use Rattle.ae_net.specs.Valid.{IsDistinct, IsGate, IsValid}
 use Rattle.ae_net.proofs.GatesValid.{IsGate-cell}
@@ -342,7 +341,7 @@ module _ (e : Terms) (k : ℕ) (short : k ≤ SOURCE_NAME_BYTES + 1) where
       let on = later e (lines e + chain_place e) (lines e + i) (omega arith) in
       EachAt-join (IsSound e) (lines e + i) (chain k e out c i (start e ts) (rest ts)) _
       (sound_chain out c i (start e ts) (rest ts) here (omega (arith, small)) (on (start e ts) h.0)
-          (each_weaker (λ t. MayRead e (lines e + chain_place e) (term_signal e t)) (λ t. MayRead e (lines e + i) (term_signal e t)) (λ t. on (term_signal e t)) (rest ts) h.1))
+      (each_weaker (λ t. MayRead e (lines e + chain_place e) (term_signal e t)) (λ t. MayRead e (lines e + i) (term_signal e t)) (λ t. on (term_signal e t)) (rest ts) h.1))
       (rw z (sound_chains (c + inner_gates ts) (suc (i + inner_gates ts)) tss outs named (omega (arith, small)) (omega arith) hs))
 
   sound_gates : (names : Names) → IsTerms e → e.polarity.n ≤ NET_LINES → cost e ≤ REDDY_TERMS → AllByRecursion (λ o. is_name o ≡ true) names.outputs → EachAt (IsSound e) (lines e) (gates k names e)

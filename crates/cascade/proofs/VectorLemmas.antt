@@ -1,8 +1,8 @@
 -- The first vectors, as sets are put together.
-use Rattle.std.proofs.Common.{◌≡◌, ℕ, Bool, true, false, not, ◌&&◌, cond, List, [], ◌∷◌, refl, sym, ap, ap₂, ◌∙◌, ltb, arith}
+use Rattle.std.proofs.Common.{◌≡◌, ℕ, Bool, true, false, not, ◌&&◌, cond, List, [], ◌∷◌, refl, sym, ap, ◌∙◌, ltb, arith}
 use Rattle.std.proofs.lemmas.Bool.{le-ltb, lt-ltb}
 use Rattle.ae_base.specs.Cube.{Signs}
-use Rattle.ae_base.specs.Mask.{members, Set, differ, has, both, xor}
+use Rattle.ae_base.specs.Mask.{members, Set, has, both, xor}
 use Rattle.ae_base.specs.Lists.{without_repeats}
 use Rattle.ae_base.proofs.Members.{members-filter}
 use Rattle.ae_base.proofs.Sets.{inside-from, same_set, has-both, has-xor, has-where_below}

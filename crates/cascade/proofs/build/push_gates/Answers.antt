@@ -1,8 +1,7 @@
-use Rattle.std.proofs.Common.{◌≡◌, ℕ, List, [], ◌++◌, ap, append_assoc, arith, length, length-append, subst, sym}
-use Rattle.std.specs.Prelude.{IfOk, OnOk}
+use Rattle.std.proofs.Common.{◌≡◌, ℕ, List, [], ◌++◌, ap, append_assoc, arith, length, length-append}
 use Rattle.ae_net.specs.declared.net.Gate.{Gate}
 use Rattle.expansion.specs.Terms.{Terms}
-use Rattle.cascade.specs.Reddy.{inverters, control_gates, and_gates, ends}
+use Rattle.cascade.specs.Reddy.{inverters, control_gates, and_gates}
 use Rattle.cascade.proofs.Law.{length-control_gates}
 use Rattle.cascade.proofs.Valid.{chain_after, few_lines, few_turned, few_wide, front, front_chains, length-front, length-inverters}
 use Rattle.cascade.proofs.build.push_gates.Goals as goal
@@ -20,8 +19,17 @@ pub push_ands-requires-clause-room : goal.push_ands-requires-clause-room
 push_ands-requires-clause-room c =
     let e = c.args.plan.now.expansion.now in
     let k = c.args.plan.now.lead in
-    omega (arith, simp length-append at (ap length c.in_ok-push_inverters.ensures.gates), simp length-append at (ap length c.in_ok-push_control.ensures.gates), ap length c.requires.no_gates,
-      length-inverters k e, length-control_gates k e, (few_lines e).1, c.requires.plan.few_inputs, c.requires.plan.few_wide)
+    omega (
+      arith,
+      simp length-append at (ap length c.in_ok-push_inverters.ensures.gates),
+      simp length-append at (ap length c.in_ok-push_control.ensures.gates),
+      ap length c.requires.no_gates,
+      length-inverters k e,
+      length-control_gates k e,
+      (few_lines e).1,
+      c.requires.plan.few_inputs,
+      c.requires.plan.few_wide,
+    )
 
 pub push_outputs-requires-clause-low : goal.push_outputs-requires-clause-low
 push_outputs-requires-clause-low c =
