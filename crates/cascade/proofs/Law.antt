@@ -207,9 +207,8 @@ value-term k e x w literals t fits stands below some =
         let h : has t j ≡ true = sym (members-has t j) ∙ m in
         literals j (inside-below e.polarity.n t below j h) (used_since e t j stands h))
 
-pub and_fits : (fault : Option Fault) (k : ℕ) (e : Terms) (w : List Bool) → Follows fault w (lines e) (and_place e) (and_gates k e) → (t : Set) → Stands e t → is_wide t ≡ true
-    → Fits fault w (lines e) (and_place e + place_of (wide_terms e) t) (and_of k e (place_of (wide_terms e) t) t)
-and_fits fault k e w h t stands wide = EachAt-gates_for (Fits fault w (lines e)) (and_place e) (and_of k e) (wide_terms e) h t (wide_stands e t stands wide)
+and_fits : (k : ℕ) (e : Terms) (w : List Bool) → Follows None w (lines e) (and_place e) (and_gates k e) → (t : Set) → Stands e t → FitsAnd k e w t
+and_fits k e w h t stands wide = EachAt-gates_for (Fits None w (lines e)) (and_place e) (and_of k e) (wide_terms e) h t (wide_stands e t stands wide)
 
 pub value-start : (k : ℕ) (e : Terms) (c : Bool) (w : List Bool) → value_of w e.polarity.n ≡ c → Follows None w (lines e) (length (turned e)) (control_gates k e) → (o : ℕ) (ts : List Set) → slice_get e.outs o ≡ Some ts → value_of w (start e ts) ≡ differ (has_one ts) c
 unfolding start control_gates EachAt
@@ -245,6 +244,18 @@ value-port k e w f c i (us ∷ tss) (out ∷ outs) h same (suc o) ts there shows
     let parts = EachAt-split (Fits None w (lines e)) i (chain k e out c i (start e us) (rest us)) _ h in
     let z : i + length (chain k e out c i (start e us) (rest us)) ≡ suc (i + inner_gates us) = omega (arith, length-chain k e out c i (start e us) (rest us)) in
     value-port k e w f (c + inner_gates us) (suc (i + inner_gates us)) tss outs (subst (λ p. Follows None w (lines e) p (chains k e (c + inner_gates us) (suc (i + inner_gates us)) tss outs)) z parts.1) (omega (arith, same)) o ts there shows
+
+-- what output o shows where the gates but the inverters are followed, and the literals are those of a point
+pub value-output : (names : Names) (e : Terms) → IsTerms e → FitsNames names e → (x : Set) (w : List Bool) → Literals e x w → value_of w e.polarity.n ≡ has x e.polarity.n → Follows None w (lines e) (length (turned e)) (control_gates (lead names) e)
+    → Follows None w (lines e) (and_place e) (and_gates (lead names) e) → Follows None w (lines e) (chain_place e) (chains (lead names) e 0 (chain_place e) e.outs names.outputs)
+    → (o : ℕ) (ts : List Set) → slice_get e.outs o ≡ Some ts → value_of w (slice_index (ends e (chain_place e) e.outs) o) ≡ differ (has x e.polarity.n) (value e.polarity ts x)
+value-output names e terms fits x w literals at_control control ands outputs o ts there =
+    let products : Shows e w (λ t. product e.polarity t x) (rest ts) = each_rest e (λ t. value_of w (term_signal e t) ≡ product e.polarity t x)
+    (λ t stands. value-term (lead names) e x w literals t (λ wide. and_fits (lead names) e w ands t stands wide) stands) ts (terms_at e terms o ts there) in
+    value-port (lead names) e w (λ t. product e.polarity t x) 0 (chain_place e) e.outs names.outputs outputs fits.outputs o ts there products
+    ∙ ap (λ c. differ c (value e.polarity (rest ts) x)) (value-start (lead names) e (has x e.polarity.n) w at_control control o ts there)
+    ∙ differ-past (has_one ts) (has x e.polarity.n) (value e.polarity (rest ts) x)
+    ∙ ap (differ (has x e.polarity.n)) (sym (value-rest e x ts (All-get IsInOrder e.outs o ts terms.order there)))
 
 -- ---- the network
 
@@ -288,12 +299,7 @@ shows names e terms fits valid x o ts there =
     let z : length n.inputs ≡ lines e = omega (arith, length-append names.inputs (inner k (codes "c") ∷ []), fits.inputs) in
     let b : Built (Fits None w (lines e)) k names e = built (Fits None w (lines e)) k names e (subst (λ m. Follows None w m 0 n.gates) z (Follows-run n None x w is)) in
     let inputs : (j : ℕ) → j < lines e → value_of w j ≡ has x j = λ j l. is.inputs j (omega (arith, z, l)) in
-    let products : Shows e w (λ t. product e.polarity t x) (rest ts) = each_rest e (λ t. value_of w (term_signal e t) ≡ product e.polarity t x)
-    (λ t stands. value-term k e x w (value-literal k e x w inputs b.inverted) t (λ wide. and_fits None k e w b.ands t stands wide) stands) ts (terms_at e terms o ts there) in
     ap (λ s. has s o) (out_of_run n None x valid w is)
     ∙ has-where_below (length n.outputs) (λ p. value_of w (slice_index n.outputs p)) o
     ∙ ap (λ c. c && value_of w (slice_index n.outputs o)) (lt-ltb o (length n.outputs) (omega (arith, length-ends e (chain_place e) e.outs, slice_get_within e.outs o ts there)))
-    ∙ value-port k e w (λ t. product e.polarity t x) 0 (chain_place e) e.outs names.outputs b.outputs fits.outputs o ts there products
-    ∙ ap (λ c. differ c (value e.polarity (rest ts) x)) (value-start k e (has x e.polarity.n) w (inputs e.polarity.n (omega arith)) b.control o ts there)
-    ∙ differ-past (has_one ts) (has x e.polarity.n) (value e.polarity (rest ts) x)
-    ∙ ap (differ (has x e.polarity.n)) (sym (value-rest e x ts (All-get IsInOrder e.outs o ts terms.order there)))
+    ∙ value-output names e terms fits x w (value-literal k e x w inputs b.inverted) (inputs e.polarity.n (omega arith)) b.control b.ands b.outputs o ts there
