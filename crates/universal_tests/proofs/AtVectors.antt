@@ -22,7 +22,6 @@ use Rattle.ae_base.proofs.Truth.{or-false}
 use Rattle.ae_net.specs.Valid.{IsDistinct}
 use Rattle.expansion.specs.Terms.{Terms, is_used, used_inputs}
 use Rattle.cascade.specs.FirstVectors.{first_vectors, literals_at}
-use Rattle.cascade.specs.Reddy.{turned}
 use Rattle.cascade.proofs.Law.{Stands, used_since}
 use Rattle.cascade.proofs.VectorLemmas.{has-literals_at}
 use Rattle.universal_tests.specs.Universal.{one_low, universal_vectors}

@@ -7,11 +7,10 @@ use Rattle.std.proofs.lemmas.Bool.{cases_eq, cases_lt, or_left, or_right}
 use Rattle.std.proofs.lemmas.Option.{same_Some}
 use Rattle.ae_base.specs.Cube.{holds}
 use Rattle.ae_base.specs.Mask.{Set, differ, first, has}
-use Rattle.ae_base.specs.Terms.{exor_of, value}
+use Rattle.ae_base.specs.Terms.{exor_of}
 use Rattle.ae_base.proofs.EachAt.{EachAt, EachAt-split}
 use Rattle.ae_base.proofs.Elements.{each_at}
 use Rattle.ae_base.proofs.Truth.{differ-assoc, differ-false, differ-not_right, not_not}
-use Rattle.ae_net.specs.Faults.{pins}
 use Rattle.ae_net.specs.Follows.{Fits, Follows}
 use Rattle.ae_net.specs.Gates.{buffer, exor}
 use Rattle.ae_net.specs.Lead.{lead}

@@ -11,7 +11,7 @@ use Rattle.std.proofs.lemmas.List.Kept.{AllPairs-filter}
 use Rattle.std.proofs.lemmas.Option.{slice_get-get_or, slice_get_within}
 use Rattle.ae_base.specs.Cube.{holds}
 use Rattle.ae_base.specs.Mask.{Set, cmp_terms, differ, empty, first, has, inside, len, members}
-use Rattle.ae_base.specs.Terms.{IsInOrder, exor_of, product, value}
+use Rattle.ae_base.specs.Terms.{IsInOrder, exor_of, product}
 use Rattle.ae_base.proofs.Distinct.{Distinct-members}
 use Rattle.ae_base.proofs.EachAt.{EachAt}
 use Rattle.ae_base.proofs.Elements.{All-get, any_found, any_kept}
@@ -35,7 +35,7 @@ use Rattle.cascade.proofs.Law.{Stands, and_of, at_place, each_rest, place_apart,
 use Rattle.cascade.proofs.Valid.{chain_after, few_lines, inputs_are, length-outputs, literal_read, shown, start_read}
 use Rattle.universal_tests.specs.Universal.{one_low, universal_vectors}
 use Rattle.universal_tests.proofs.AtVectors.{Contains-all_at, Contains-one_low, all_at, control-all_at, literal-one_low, low_part, member_used, product_all_at, product_one_low}
-use Rattle.universal_tests.proofs.Runs.{Differs-turned, InGate, InGate-pin, InGate-stem, Sits, Told, Turned, TwoRuns, and_sits, at_other_pin, at_pin, at_stem, faulty, faulty_port, has-out, itself, parts, plain, plain_literal, plain_port, plain_term, source_out, stuck, term_kept, told}
+use Rattle.universal_tests.proofs.Runs.{Differs-turned, InGate, InGate-pin, InGate-stem, Sits, Told, Turned, TwoRuns, and_sits, at_other_pin, at_pin, at_stem, faulty_port, has-out, itself, parts, plain_literal, plain_port, plain_term, source_out, stuck, term_kept, told}
 
 -- where one test says of each element another thing than a second one as often as a third says 1, and that is odd, their EXORs differ
 pub exor_turned : (f g h : Set → Bool) (ts : List Set) → AllByRecursion (λ t. f t ≡ differ (h t) (g t)) ts → exor_of h ts ≡ true → exor_of f ts ≡ not (exor_of g ts)
@@ -231,9 +231,12 @@ module _ (names : Names) (e : Terms) (can : CanBuild names e) where
       let there : slice_get e.outs 0 ≡ Some ts = slice_get-get_or e.outs 0 [] l in
       let n : Network = reddy_net names e in
       let x : Set = all_at e.polarity (used_inputs e) false (not u) in
-      let y : Set = all_at e.polarity (used_inputs e) false u in
-      (x, Contains-all_at e.polarity (used_inputs e) false (not u), Differs-turned n (record { place = Stem e.polarity.n; value = u }) x 0
-          (source_out n e.polarity.n u x y (omega (arith, inputs_are names e can)) (control-all_at e.polarity (used_inputs e) false u) (λ k lk other. low_part e.polarity (used_inputs e) false (not u) k other ∙ sym (low_part e.polarity (used_inputs e) false u k other)) 0 (is_port 0 ts there)
-          ∙ shown_low u 0 ts there
-          ∙ other_way u (has_one ts)
-          ∙ ap not (sym (shown_low (not u) 0 ts there))))
+      let y : Set = all_at e.polarity (used_inputs e) false u in (
+        x,
+        Contains-all_at e.polarity (used_inputs e) false (not u),
+        Differs-turned n (record { place = Stem e.polarity.n; value = u }) x 0
+            (source_out n e.polarity.n u x y (omega (arith, inputs_are names e can)) (control-all_at e.polarity (used_inputs e) false u) (λ k lk other. low_part e.polarity (used_inputs e) false (not u) k other ∙ sym (low_part e.polarity (used_inputs e) false u k other)) 0 (is_port 0 ts there)
+            ∙ shown_low u 0 ts there
+            ∙ other_way u (has_one ts)
+            ∙ ap not (sym (shown_low (not u) 0 ts there))),
+      )

@@ -21,7 +21,7 @@ use Rattle.ae_base.proofs.Members.{len-members}
 use Rattle.ae_base.proofs.Points.{has-flipped}
 use Rattle.ae_base.proofs.Sets.{has-where_below}
 use Rattle.ae_base.proofs.Truth.{differ-false, differ-not_right}
-use Rattle.ae_net.specs.Faults.{IsPlace, ports}
+use Rattle.ae_net.specs.Faults.{IsPlace}
 use Rattle.ae_net.specs.Follows.{Follows}
 use Rattle.ae_net.specs.Gates.{inverter}
 use Rattle.ae_net.specs.Lead.{lead}
@@ -39,7 +39,7 @@ use Rattle.expansion.specs.Even.{AreEven, even_inputs}
 use Rattle.expansion.specs.Functions.{AreExpansions}
 use Rattle.expansion.specs.Terms.{Terms, is_used, used_inputs}
 use Rattle.cascade.specs.FirstVectors.{literals_at}
-use Rattle.cascade.specs.Reddy.{chain_place, ends, gates, lines, literal_signal, place_of, turned}
+use Rattle.cascade.specs.Reddy.{chain_place, ends, lines, literal_signal, place_of, turned}
 use Rattle.cascade.specs.Shows.{CanBuild, reddy_net}
 use Rattle.cascade.proofs.Law.{IsTerm, Literals, Stands, at_place, place_apart, terms_at, turned_stands, value-output, wide_found}
 use Rattle.cascade.proofs.Valid.{chain_after, few_lines, inputs_are, shown, start_read, turned_parts}
@@ -49,7 +49,7 @@ use Rattle.universal_tests.specs.Universal.{one_low, universal_vectors}
 use Rattle.universal_tests.proofs.AtVectors.{Contains-all_at, Contains-one_low, all_at, literal-all_at, literal-one_low, product_high, product_one_low}
 use Rattle.universal_tests.proofs.Chains.{chain_sits}
 use Rattle.universal_tests.proofs.Gates.{control_sits, exor_turned, gate_sits, is_port}
-use Rattle.universal_tests.proofs.Runs.{Differs-turned, Fits-quiet, Follows-quiet, InGate, InGate-pin, InGate-stem, Sits, Told, TwoRuns, at_pin, at_stem, faulty, has-out, outputs_are, parts, plain, source_out, stuck, two_runs}
+use Rattle.universal_tests.proofs.Runs.{Differs-turned, Fits-quiet, Follows-quiet, InGate, InGate-pin, InGate-stem, Sits, Told, TwoRuns, at_pin, at_stem, faulty, has-out, outputs_are, parts, source_out, stuck, two_runs}
 use Rattle.universal_tests.proofs.Whole.{Inverts, Part, inverter_sits, of_and, of_control, of_literal, of_output, part_of}
 
 -- two points that differ in input j alone, with its literal at 1 and at 0, at which output o differs

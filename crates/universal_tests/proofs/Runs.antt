@@ -7,7 +7,7 @@ use Rattle.std.proofs.lemmas.Bool.{cases_Bool, cases_eq, false≢true, lt-ltb}
 use Rattle.std.proofs.lemmas.List.Elements.{All-from_recursion}
 use Rattle.std.proofs.lemmas.Option.{slice_get_within}
 use Rattle.ae_base.specs.Mask.{Set, differ, empty, first, has, inside, members}
-use Rattle.ae_base.specs.Terms.{exor_of, product, value}
+use Rattle.ae_base.specs.Terms.{exor_of, product}
 use Rattle.ae_base.proofs.Below.{where_below_agree}
 use Rattle.ae_base.proofs.Distinct.{each_always, each_weaker}
 use Rattle.ae_base.proofs.EachAt.{EachAt, EachAt-from_get, EachAt-weaker}
@@ -28,7 +28,7 @@ use Rattle.expansion.specs.Terms.{Terms, used_inputs}
 use Rattle.cascade.specs.Reddy.{and_place, chain_place, ends, gates, has_one, is_wide, lines, literal_signal, place_of, rest, start, term_signal, turned, wide_terms}
 use Rattle.cascade.specs.Shows.{CanBuild, reddy_net}
 use Rattle.cascade.proofs.Law.{Built, EachAt-gates_for, Literals, Shows, Stands, and_of, built, shows, used_since, value-literal, value-port, value-start, value-term, wide_stands}
-use Rattle.cascade.proofs.Valid.{MayRead, inputs_are, length-outputs, literal_read, literals_read, shown, valid}
+use Rattle.cascade.proofs.Valid.{MayRead, inputs_are, length-outputs, literal_read, literals_read, valid}
 use Rattle.universal_tests.specs.Sites.{IsDetected}
 use Rattle.universal_tests.specs.Universal.{universal_vectors}
 

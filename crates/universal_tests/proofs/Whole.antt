@@ -8,9 +8,8 @@ use Rattle.std.proofs.lemmas.List.{length-map}
 use Rattle.std.proofs.lemmas.List.Folds.{list_any_at}
 use Rattle.std.proofs.lemmas.Option.{same_Some, slice_get_within}
 use Rattle.ae_base.specs.Mask.{first, members}
-use Rattle.ae_base.specs.Terms.{value}
 use Rattle.ae_base.proofs.Distinct.{Distinct-filter, Distinct-range}
-use Rattle.ae_net.specs.Faults.{IsPlace, pins}
+use Rattle.ae_net.specs.Faults.{IsPlace}
 use Rattle.ae_net.specs.Gates.{inverter}
 use Rattle.ae_net.specs.Lead.{lead}
 use Rattle.ae_net.specs.Names.{Names, inner}
@@ -19,7 +18,7 @@ use Rattle.ae_net.specs.declared.net.Place.{Place}
 use Rattle.ae_net.specs.declared.net.Place.TheVariants.{Pin, Port, Stem}
 use Rattle.ae_net.proofs.FaultLaws.{read_within}
 use Rattle.expansion.specs.Terms.{Terms, used_inputs}
-use Rattle.cascade.specs.Reddy.{and_place, chain_place, gates, has_one, lines, literal_signal, place_of, turned}
+use Rattle.cascade.specs.Reddy.{and_place, chain_place, has_one, lines, literal_signal, place_of, turned}
 use Rattle.cascade.specs.Shows.{CanBuild, reddy_net}
 use Rattle.cascade.proofs.Law.{EachAt-gates_for, place_at}
 use Rattle.cascade.proofs.Valid.{all_inner, chain_after, inputs_are, length-gates, length-outputs, turned_parts, valid}
