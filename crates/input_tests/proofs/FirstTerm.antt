@@ -1,7 +1,38 @@
 -- At the two vectors of an input an output differs: no other term that holds the input lies inside the first one.
+use Rattle.std.proofs.Common.{Bool, List, [], ap, arith, cond, eq-eqb, eqb, eqb-true, false, inl, inr, ne_eqb, not, refl, suc, sym, true, ℕ, ◌&&◌, ◌++◌, ◌<◌, ◌||◌, ◌∙◌, ◌∷◌, ◌≡◌, ◌≢◌}
+use Rattle.std.specs.List.{find, flat_map, list_any}
+use Rattle.std.specs.Prelude.{Some, slice_get}
+use Rattle.std.specs.declared.cmp.Ordering.TheVariants.{Less}
+use Rattle.std.proofs.Math.Bool.{and-true}
+use Rattle.std.proofs.lemmas.Bool.{and_parts, cases_Bool, cases_eq, false≢true, or_cases, or_right}
+use Rattle.std.proofs.lemmas.List.Elements.{recursion_from_All}
+use Rattle.std.proofs.lemmas.Option.{same_Some}
+use Rattle.ae_base.specs.Cube.{Signs, holds}
+use Rattle.ae_base.specs.Mask.{Set, cmp_terms, differ, has, inside, members, xor}
+use Rattle.ae_base.specs.Points.{flipped}
+use Rattle.ae_base.specs.Terms.{IsInOrder, literal, product}
+use Rattle.ae_base.proofs.Elements.{All-get, each_at, each_member, list_all_agree}
+use Rattle.ae_base.proofs.Exor.{exor_of-member}
+use Rattle.ae_base.proofs.InOrder.{in_order-tail}
+use Rattle.ae_base.proofs.Literals.{literals-product, product-literals, product_false}
+use Rattle.ae_base.proofs.Members.{members-has}
+use Rattle.ae_base.proofs.Order.{less_irreflexive, less_trans, order-inside}
+use Rattle.ae_base.proofs.Points.{has-flipped}
+use Rattle.ae_base.proofs.Sets.{has-inside}
+use Rattle.ae_base.proofs.Truth.{differ-false, not_not, or-false}
+use Rattle.ae_net.specs.Names.{Names}
+use Rattle.expansion.specs.Terms.{Terms, is_used, used_inputs}
+use Rattle.cascade.specs.FirstVectors.{literals_at}
+use Rattle.cascade.specs.Shows.{CanBuild}
+use Rattle.cascade.proofs.Law.{IsTerm, terms_at}
+use Rattle.universal_tests.proofs.AtVectors.{literal-all_at, literal-flipped, literal-xor, member_used}
+use Rattle.universal_tests.proofs.Gates.{exor_turned}
+use Rattle.universal_tests.proofs.Literals.{Pair}
+use Rattle.input_tests.specs.Inputs.{term_but, term_high}
 
 -- ---- the first term
 
+-- term t is the first that holds input j, in the expansion of output o
 pub record FirstAt (j : ℕ) (tss : List (List Set)) : Type 0 where
   pub o : ℕ
   pub ts : List Set

@@ -71,10 +71,10 @@ part_of names e can p l =
 
 module _ (names : Names) (e : Terms) (can : CanBuild names e) where
   -- a site of no literal
-  abbrev Apart : Place → Type 0
+  abbrev pub Apart : Place → Type 0
   Apart place = (j : ℕ) → j < e.polarity.n → IsOfLiteral (reddy_net names e) j place → ⊥
 
-  of_inverter : (p j : ℕ) → Inverts e p j → (j < e.polarity.n) × IsInverterOf (reddy_net names e) p j
+  pub of_inverter : (p j : ℕ) → Inverts e p j → (j < e.polarity.n) × IsInverterOf (reddy_net names e) p j
   of_inverter p j of = ((turned_parts e j of.listed).0, (inner (lead names) (codes "i" ++ decimal (suc j)), inverter_sits names e p j of))
 
   gate_stem : (p : ℕ) (u : Bool) → p < length ((reddy_net names e).gates) → Apart (Stem (lines e + p)) → Told names e (record { place = Stem (lines e + p); value = u })
