@@ -34,7 +34,7 @@ use Rattle.cascade.proofs.VectorLemmas.{has-literals_at}
 use Rattle.input_tests.specs.Added.{all_added}
 use Rattle.input_tests.specs.Inputs.{first_term, input_vectors_of, pair_at, term_but, term_high}
 use Rattle.input_tests.specs.Whole.{new_ones}
-use Rattle.input_tests.proofs.FirstTerm.{at, find_member, own}
+use Rattle.input_tests.proofs.FirstTerm.{find_member, own}
 
 -- ---- adding
 

@@ -6,13 +6,12 @@ use Rattle.std.proofs.lemmas.Bool.{and_from, cases_Bool, cases_lt, false≢true,
 use Rattle.std.proofs.lemmas.List.Elements.{Contains-append_left}
 use Rattle.std.proofs.lemmas.List.Folds.{list_any-append}
 use Rattle.ae_base.specs.Mask.{Set, first, has, len, members}
-use Rattle.ae_base.specs.Terms.{value}
 use Rattle.ae_base.proofs.EachAt.{EachAt-get}
 use Rattle.ae_base.proofs.Elements.{All-get, Contains-from_any, any_found, any_kept, each_at, length_filter_le}
 use Rattle.ae_base.proofs.Members.{len-members, members-has}
 use Rattle.ae_base.proofs.Once.{length_once_le, unrepeated_has}
 use Rattle.ae_base.proofs.Sets.{has-where_below}
-use Rattle.ae_net.specs.Faults.{IsPlace, is_read, is_read_by, pins, ports}
+use Rattle.ae_net.specs.Faults.{IsPlace, is_read, is_read_by}
 use Rattle.ae_net.specs.Lead.{lead}
 use Rattle.ae_net.specs.Names.{Names}
 use Rattle.ae_net.specs.Network.{Network, signals}
