@@ -1,7 +1,7 @@
 -- How many summands and joining gates a sum has.
 use Rattle.std.proofs.Common.{◌≡◌, ◌≢◌, ℕ, suc, ◌+◌, ◌-◌, ◌*◌, ◌<◌, ◌≤◌, min, Bool, true, false, not, cond, inl, inr, List, [], ◌∷◌, length, refl, sym, ap, ◌∙◌, arith, zero, get_or, drop, drop-cons, ◌⊎◌, ltb, ◌%◌, ◌&&◌, ◌||◌, ap₂, eqb, subst}
 use Rattle.std.specs.List.{list_any, AllByRecursion}
-use Rattle.std.proofs.lemmas.Bool.{cases_Bool, false≢true, cases_eq, or_cases, cases_lt, ltb-true, ltb-false}
+use Rattle.std.proofs.lemmas.Bool.{cases_Bool, false≢true, cases_eq, or_cases, cases_lt, ltb-true, ltb-false, false_from_ne_true}
 use Rattle.ae_base.specs.Cube.{Product, IsOver, IsProduct, is_free, holds, whole}
 use Rattle.ae_base.proofs.Distinct.{Distinct, Distinct-filter, each-filter}
 use Rattle.factor.specs.declared.literals.Literal.{Literal}
@@ -9,7 +9,7 @@ use Rattle.factor.specs.Literals.{stands, is_empty, holding, others, without_lit
 use Rattle.factor.specs.Sums.{Summands, IsSum, has_constant, plain_sum, joined, is_nothing, is_one, nodes, sum_value}
 use Rattle.factor.specs.Sums.Summands.{end, literals, factored}
 use Rattle.factor.specs.Sums.IsSum.{flat, taken}
-use Rattle.factor.proofs.Taken.{empty_whole, length-holding, length_parts, Distinct-holding, joined_by, kept, constant-plain, some_stands, holding_yes, holding_no, held_stands, other_stands, not_held, not_in_others, lit, itself_goes, stands_less, free_from, stands-whole, each_literal, counted_stands, literal_value, holds-whole, holds-with, holds-without, others_yes, others_no}
+use Rattle.factor.proofs.Taken.{empty_whole, length-holding, length_parts, Distinct-holding, joined_by, kept, constant-plain, some_stands, held_stands, other_stands, not_held, not_in_others, lit, itself_goes, stands_less, free_from, stands-whole, each_literal, counted_stands, literal_value, holds-whole, holds-with, holds-without, each_held}
 use Rattle.std.specs.Prelude.{All, Option, Some, None, IfSome, count_by}
 use Rattle.std.proofs.lemmas.List.Elements.{All-from_recursion, recursion_from_All}
 use Rattle.ae_base.specs.Mask.{has, first, Set, differ}
@@ -17,11 +17,12 @@ use Rattle.ae_base.proofs.Sets.{inside-has, has-inside, inside-below}
 use Rattle.factor.specs.Seen.{EachLiteral, first_factors, with_cube, with_cubes}
 use Rattle.factor.specs.declared.literals.Counted.{Counted}
 use Rattle.factor.specs.Search.{best_count, better, IsFound, IsBest}
-use Rattle.std.proofs.Math.Bool.{and-true}
+use Rattle.std.proofs.Math.Bool.{and-true, and-false}
 use Rattle.std.proofs.lemmas.List.Sums.{sum_by-cons}
 use Rattle.ae_base.proofs.Truth.{differ-assoc, differ-front, differ-false, and-over_differ}
 use Rattle.esop.specs.Esop.{esop_value}
 use Rattle.ae_base.proofs.Exor.{odd-suc}
+use Rattle.ae_base.proofs.Elements.{length_filter_le}
 
 abbrev pub flag : Bool → ℕ
 flag b = cond b 1 0
@@ -56,14 +57,7 @@ inner-plain (d ∷ ds) b = inner-plain ds b
 
 kept_and_flag : (cs : List Product) → length (kept cs) + flag (list_any is_empty cs) ≤ length cs
 kept_and_flag [] = omega arith
-kept_and_flag (c ∷ cs) = elim (cases_Bool (is_empty c)) [
-  | inl e ↦ rw e (omega (arith, fewer cs))
-  | inr e ↦ rw e (omega (arith, kept_and_flag cs))
-]
-  where
-    fewer : (ds : List Product) → length (kept ds) ≤ length ds
-    fewer [] = omega arith
-    fewer (d ∷ ds) = elim (cases_Bool (is_empty d)) [ inl e ↦ rw e (omega (arith, fewer ds)) | inr e ↦ rw e (omega (arith, fewer ds)) ]
+kept_and_flag (c ∷ cs) = elim (cases_Bool (is_empty c)) [ inl e ↦ rw e (omega (arith, length_filter_le (λ d. not (is_empty d)) cs)) | inr e ↦ rw e (omega (arith, kept_and_flag cs)) ]
 
 -- with its own joining gates and one more it is no more, where it is above 0
 pub joins_below : (s : Summands) (h : ℕ) → weight s ≤ h → 0 < h → own_joins s + inner_joins s < h
@@ -110,22 +104,16 @@ has_summand cs s (flat _ none) distinct two = omega (arith, width-plain (kept cs
 has_summand cs s (taken _ t inner rest most hold other) distinct two =
     joined_by (λ r. Unit {0}) (λ r. 0 < width r) t inner rest tt (λ ls m. omega arith) (λ ls deeper m. omega arith) (λ m other. omega arith)
 
+at_end : (r : Summands) → is_nothing r ≡ false → 2 ≤ suc (width r) + flag (has_constant r)
+at_end (end true) h = omega arith
+at_end (end false) h = absurd (false≢true (sym h))
+at_end (literals ms r) h = omega arith
+at_end (factored ms i r) h = omega arith
+
 one_of_many : (s : Summands) → 0 < width s → is_one s ≡ false → 2 ≤ width s + flag (has_constant s)
 one_of_many (end b) l h = absurd (omega (arith, l))
 one_of_many (literals ls rest) l h = at_end rest h
-  where
-    at_end : (r : Summands) → is_nothing r ≡ false → 2 ≤ suc (width r) + flag (has_constant r)
-    at_end (end true) h = omega arith
-    at_end (end false) h = absurd (false≢true (sym h))
-    at_end (literals ms r) h = omega arith
-    at_end (factored ms i r) h = omega arith
 one_of_many (factored ls inner rest) l h = at_end rest h
-  where
-    at_end : (r : Summands) → is_nothing r ≡ false → 2 ≤ suc (width r) + flag (has_constant r)
-    at_end (end true) h = omega arith
-    at_end (end false) h = absurd (false≢true (sym h))
-    at_end (literals ms r) h = omega arith
-    at_end (factored ms i r) h = omega arith
 
 nodes-plain : (ds : List Product) (b : Bool) → nodes (plain_sum ds b) ≡ length ds
 nodes-plain [] b = refl
@@ -189,23 +177,13 @@ fewer_others n t cs l there = standing_lt n t (others t cs) cs l (λ u m. other_
 
 over_without : (n : ℕ) (t : Literal) (c : Product) → IsOver n c → IsOver n (without_literal t c)
 over_without n t c (product, pos, neg) = (
-  λ j m. elim (cases_Bool (has (without_literal t c).neg j)) [
-    | inl k ↦ absurd (false≢true (sym (product j (stands_less (lit j true) t c m)) ∙ stands_less (lit j false) t c k))
-    | inr k ↦ k
-  ],
+  λ j m. false_from_ne_true _ (λ k. false≢true (sym (product j (stands_less (lit j true) t c m)) ∙ stands_less (lit j false) t c k)),
   has-inside (without_literal t c).pos (first n) (λ j m. inside-has c.pos (first n) pos j (stands_less (lit j true) t c m)),
   has-inside (without_literal t c).neg (first n) (λ j m. inside-has c.neg (first n) neg j (stands_less (lit j false) t c m)),
 )
 
-pub each_held : (P : Product → Type 0) (t : Literal) → ((c : Product) → stands t c ≡ true → P c → P (without_literal t c)) → (cs : List Product) → AllByRecursion P cs → AllByRecursion P (holding t cs)
-each_held P t f [] h = tt
-each_held P t f (c ∷ cs) (h, hs) = elim (cases_Bool (stands t c)) [
-  | inl e ↦ rw (holding_yes t c cs e) (f c e h, each_held P t f cs hs)
-  | inr e ↦ rw (holding_no t c cs e) (each_held P t f cs hs)
-]
-
 pub over_held : (n : ℕ) (t : Literal) (cs : List Product) → All (IsOver n) cs → All (IsOver n) (holding t cs)
-over_held n t cs h = All-from_recursion (IsOver n) (holding t cs) (each_held (IsOver n) t (λ c e over. over_without n t c over) cs (recursion_from_All (IsOver n) cs h))
+over_held n t cs h = All-from_recursion (IsOver n) (holding t cs) (each_held (IsOver n) (IsOver n) t (λ c e over. over_without n t c over) cs (recursion_from_All (IsOver n) cs h))
 
 pub over_others : (n : ℕ) (t : Literal) (cs : List Product) → All (IsOver n) cs → All (IsOver n) (others t cs)
 over_others n t cs h = All-from_recursion (IsOver n) (others t cs) (each-filter (IsOver n) (λ c. not (stands t c)) cs (recursion_from_All (IsOver n) cs h))
@@ -235,11 +213,7 @@ avoids_held t c product there u m same = by u.plain t.plain refl refl
     by false false p q = gone (at false u same p ∙ sym (at false t refl q))
 
 pub each_avoids : (t : Literal) (cs : List Product) → AllByRecursion IsProduct cs → AllByRecursion (Avoids t.input) (holding t cs)
-each_avoids t [] h = tt
-each_avoids t (c ∷ cs) (h, hs) = elim (cases_Bool (stands t c)) [
-  | inl e ↦ rw (holding_yes t c cs e) (avoids_held t c h e, each_avoids t cs hs)
-  | inr e ↦ rw (holding_no t c cs e) (each_avoids t cs hs)
-]
+each_avoids t cs h = each_held IsProduct (Avoids t.input) t (λ c e product. avoids_held t c product e) cs h
 
 pub none_stands : (j : ℕ) (cs : List Product) → AllByRecursion (Avoids j) cs → (u : Literal) → some_stands u cs ≡ true → u.input ≢ j
 none_stands j [] h u m = absurd (false≢true m)
@@ -382,21 +356,12 @@ joined_value t inner rest x =
 
 -- the cubes that hold the literal, and the others
 parts_value : (t : Literal) (cs : List Product) (x : Set) → cubes_value cs x ≡ differ (literal_value t x && cubes_value (holding t cs) x) (cubes_value (others t cs) x)
-parts_value t [] x = none (literal_value t x)
-  where
-    none : (a : Bool) → false ≡ differ (a && false) false
-    none true = refl
-    none false = refl
+parts_value t [] x = sym (ap (λ b. differ b false) (and-false (literal_value t x)))
 parts_value t (c ∷ cs) x = elim (cases_Bool (stands t c)) [
-  | inl e ↦
-      ap₂ differ (holds-without t c x e) (parts_value t cs x)
+  | inl e ↦ rw e (ap₂ differ (holds-without t c x e) (parts_value t cs x)
       ∙ sym (differ-assoc (literal_value t x && holds (without_literal t c) x) (literal_value t x && cubes_value (holding t cs) x) (cubes_value (others t cs) x))
-      ∙ ap (λ b. differ b (cubes_value (others t cs) x)) (sym (and-over_differ (literal_value t x) (holds (without_literal t c) x) (cubes_value (holding t cs) x)))
-      ∙ ap₂ (λ (hs os : List Product). differ (literal_value t x && cubes_value hs x) (cubes_value os x)) (sym (holding_yes t c cs e)) (sym (others_yes t c cs e))
-  | inr e ↦
-      ap (differ (holds c x)) (parts_value t cs x)
-      ∙ differ-front (holds c x) (literal_value t x && cubes_value (holding t cs) x) (cubes_value (others t cs) x)
-      ∙ ap₂ (λ (hs os : List Product). differ (literal_value t x && cubes_value hs x) (cubes_value os x)) (sym (holding_no t c cs e)) (sym (others_no t c cs e))
+      ∙ ap (λ b. differ b (cubes_value (others t cs) x)) (sym (and-over_differ (literal_value t x) (holds (without_literal t c) x) (cubes_value (holding t cs) x))))
+  | inr e ↦ rw e (ap (differ (holds c x)) (parts_value t cs x) ∙ differ-front (holds c x) (literal_value t x && cubes_value (holding t cs) x) (cubes_value (others t cs) x))
 ]
 
 -- ---- cubes as summands

@@ -1,23 +1,28 @@
 -- Literals of products: with one more, without one, and where a product holds.
 use Rattle.std.proofs.Common.{◌≡◌, ◌≢◌, ℕ, Bool, true, false, not, ◌&&◌, ◌||◌, ◌⊎◌, cond, inl, inr, refl, sym, ap, ap₂, ◌∙◌, eqb, eqb-true, eq-eqb, suc, ◌+◌, ◌<◌, ◌≤◌, List, [], ◌∷◌, length, subst, arith}
 use Rattle.std.proofs.Math.Bool.{and-true, and-false}
-use Rattle.std.proofs.lemmas.Bool.{cases_Bool, false≢true, and_parts, and_from, or_cases, or_left, or_right, not-true}
+use Rattle.std.proofs.lemmas.Bool.{cases_Bool, false≢true, and_parts, and_from, or_cases, or_left, or_right, not-true, false_from_ne_true}
 use Rattle.ae_base.specs.Mask.{Set, differ, has, empty}
 use Rattle.ae_base.specs.Cube.{Product, holds, whole, is_free, IsProduct}
 use Rattle.ae_base.proofs.Products.{holds-has, has-holds}
 use Rattle.ae_base.proofs.Sets.{same_set, has-empty, has-with, has-without}
-use Rattle.ae_base.proofs.Truth.{same_truth, equal_values}
+use Rattle.ae_base.proofs.Truth.{same_truth, equal_values, not_both}
 use Rattle.factor.specs.declared.literals.Literal.{Literal}
 use Rattle.factor.specs.Literals.{stands, is_empty, with_literal, without_literal, count, holding, others, IsMost, NoneTwice}
 use Rattle.std.specs.List.{list_any, AllByRecursion}
-use Rattle.std.proofs.lemmas.List.Sums.{sum_by-cons}
-use Rattle.ae_base.proofs.Distinct.{Distinct}
+use Rattle.std.proofs.lemmas.List.Sums.{sum_by-cons, length-filter}
+use Rattle.ae_base.proofs.Distinct.{Distinct, each-map, each_always}
 use Rattle.factor.specs.Sums.{Summands, is_nothing, is_one, joined, IsSum, IsApart, FactorsDiffer, has_constant, plain_sum, flat_sum}
 use Rattle.factor.specs.Sums.Summands.{end, literals, factored}
 use Rattle.std.specs.Prelude.{filter}
 use Rattle.factor.specs.Seen.{EachLiteral}
 use Rattle.factor.specs.Sums.IsSum.{flat, taken}
 use Rattle.ae_base.specs.Cube as cube
+use Rattle.std.proofs.lemmas.List.{length-map}
+use Rattle.std.proofs.lemmas.List.Filters.{length-filter_both}
+use Rattle.std.proofs.lemmas.Map.Views.{any-filter_same}
+use Rattle.std.proofs.lemmas.List.Folds.{list_any_none}
+use Rattle.std.proofs.lemmas.List.Elements.{All-from_recursion}
 
 abbrev pub lit : ℕ → Bool → Literal
 lit j b = record { input = j; plain = b }
@@ -136,10 +141,7 @@ holds-without t c x there =
 
 -- the input of the literal has no literal in a product without literals of it
 pub free_from : (c : Product) (j : ℕ) → ((t : Literal) → stands t c ≡ true → t.input ≢ j) → is_free c j ≡ true
-free_from c j h = ap₂ (λ p n. not p && not n) (none true (λ e. h (lit j true) e refl)) (none false (λ e. h (lit j false) e refl))
-  where
-    none : (b : Bool) → (stands (lit j b) c ≡ true → ⊥) → stands (lit j b) c ≡ false
-    none b k = elim (cases_Bool (stands (lit j b) c)) [ inl e ↦ absurd (k e) | inr e ↦ e ]
+free_from c j h = ap₂ (λ p n. not p && not n) (false_from_ne_true (has c.pos j) (λ e. h (lit j true) e refl)) (false_from_ne_true (has c.neg j) (λ e. h (lit j false) e refl))
 
 -- ---- How many cubes of a list a literal stands in.
 
@@ -159,64 +161,34 @@ counted_stands t (c ∷ cs) l = elim (cases_Bool (stands t c)) [ inl e ↦ or_le
 
 pub stands_counted : (t : Literal) (cs : List Product) → list_any (stands t) cs ≡ true → 0 < count t cs
 stands_counted t [] h = absurd (false≢true h)
-stands_counted t (c ∷ cs) h = elim (cases_Bool (stands t c)) [
-  | inl e ↦ omega (arith, count_yes t c cs e)
-  | inr e ↦ omega (arith, count_no t c cs e, stands_counted t cs (elim (or_cases _ _ h) [ inl k ↦ absurd (false≢true (sym e ∙ k)) | inr k ↦ k ]))
-]
+stands_counted t (c ∷ cs) h = elim (cases_Bool (stands t c)) [ inl e ↦ omega (arith, count_yes t c cs e) | inr e ↦ omega (arith, count_no t c cs e, stands_counted t cs (rw e at h)) ]
 
 -- ---- the cubes that hold a literal, and the others
 
-pub holding_yes : (t : Literal) (c : Product) (cs : List Product) → stands t c ≡ true → holding t (c ∷ cs) ≡ without_literal t c ∷ holding t cs
-holding_yes t c cs e = rw e refl
-
-pub holding_no : (t : Literal) (c : Product) (cs : List Product) → stands t c ≡ false → holding t (c ∷ cs) ≡ holding t cs
-holding_no t c cs e = rw e refl
-
-pub others_yes : (t : Literal) (c : Product) (cs : List Product) → stands t c ≡ true → others t (c ∷ cs) ≡ others t cs
-others_yes t c cs e = rw e refl
-
-pub others_no : (t : Literal) (c : Product) (cs : List Product) → stands t c ≡ false → others t (c ∷ cs) ≡ c ∷ others t cs
-others_no t c cs e = rw e refl
-
 pub length-holding : (t : Literal) (cs : List Product) → length (holding t cs) ≡ count t cs
-length-holding t [] = refl
-length-holding t (c ∷ cs) = elim (cases_Bool (stands t c)) [
-  | inl e ↦ ap length (holding_yes t c cs e) ∙ ap suc (length-holding t cs) ∙ sym (count_yes t c cs e)
-  | inr e ↦ ap length (holding_no t c cs e) ∙ length-holding t cs ∙ sym (count_no t c cs e)
-]
+length-holding t cs = length-map (filter (stands t) cs) (without_literal t) ∙ length-filter (stands t) cs
 
 pub length_parts : (t : Literal) (cs : List Product) → length (holding t cs) + length (others t cs) ≡ length cs
-length_parts t [] = refl
-length_parts t (c ∷ cs) = elim (cases_Bool (stands t c)) [
-  | inl e ↦ omega (arith, ap length (holding_yes t c cs e), ap length (others_yes t c cs e), length_parts t cs)
-  | inr e ↦ omega (arith, ap length (holding_no t c cs e), ap length (others_no t c cs e), length_parts t cs)
-]
+length_parts t cs = omega (arith, length-map (filter (stands t) cs) (without_literal t), length-filter_both (stands t) (λ c. not (stands t c)) (λ c. refl) cs)
 
 -- a literal of all cubes that hold t stands in as many of them as t, and may stand in others
 pub count_more : (u t : Literal) (cs : List Product) → AllByRecursion (λ c. stands u c ≡ true) (holding t cs) → count t cs + count u (others t cs) ≤ count u cs
 count_more u t [] h = omega arith
 count_more u t (c ∷ cs) h = elim (cases_Bool (stands t c)) [
-  | inl e ↦
-      let k = subst (AllByRecursion (λ d. stands u d ≡ true)) (holding_yes t c cs e) h in
-      omega (arith, count_yes t c cs e, count_yes u c cs (stands_less u t c k.0), ap (count u) (others_yes t c cs e), count_more u t cs k.1)
-  | inr e ↦
-      let k = subst (AllByRecursion (λ d. stands u d ≡ true)) (holding_no t c cs e) h in
-      omega (arith, count_no t c cs e, count-cons u c cs, ap (count u) (others_no t c cs e), count-cons u c (others t cs), count_more u t cs k)
+  | inl e ↦ let k = rw e at h in let z : others t (c ∷ cs) ≡ others t cs = rw e refl in omega (arith, count_yes t c cs e, count_yes u c cs (stands_less u t c k.0), ap (count u) z, count_more u t cs k.1)
+  | inr e ↦ rw e (omega (arith, count_no t c cs e, count-cons u c cs, count-cons u c (others t cs), count_more u t cs (rw e at h)))
 ]
 
--- no repeats goes down
-other_lists : (t : Literal) (c : Product) (cs : List Product) → stands t c ≡ true → AllByRecursion (λ d. c ≢ d) cs → AllByRecursion (λ d. without_literal t c ≢ d) (holding t cs)
-other_lists t c [] e h = tt
-other_lists t c (d ∷ ds) e (h, hs) = elim (cases_Bool (stands t d)) [
-  | inl k ↦ rw (holding_yes t d ds k) ((λ same. h (without_injective t c d e k same)), other_lists t c ds e hs)
-  | inr k ↦ rw (holding_no t d ds k) (other_lists t c ds e hs)
-]
+-- what is left of a cube that holds the literal
+pub each_held : (P Q : Product → Type 0) (t : Literal) → ((c : Product) → stands t c ≡ true → P c → Q (without_literal t c)) → (cs : List Product) → AllByRecursion P cs → AllByRecursion Q (holding t cs)
+each_held P Q t f [] h = tt
+each_held P Q t f (c ∷ cs) (h, hs) = elim (cases_Bool (stands t c)) [ inl e ↦ rw e (f c e h, each_held P Q t f cs hs) | inr e ↦ rw e (each_held P Q t f cs hs) ]
 
 pub Distinct-holding : (t : Literal) (cs : List Product) → Distinct cs → Distinct (holding t cs)
 Distinct-holding t [] d = tt
 Distinct-holding t (c ∷ cs) (h, d) = elim (cases_Bool (stands t c)) [
-  | inl e ↦ rw (holding_yes t c cs e) (other_lists t c cs e h, Distinct-holding t cs d)
-  | inr e ↦ rw (holding_no t c cs e) (Distinct-holding t cs d)
+  | inl e ↦ rw e (each_held (λ d. c ≢ d) (λ d. without_literal t c ≢ d) t (λ d k other same. other (without_injective t c d e k same)) cs h, Distinct-holding t cs d)
+  | inr e ↦ rw e (Distinct-holding t cs d)
 ]
 
 -- ---- what stands in the two lists
@@ -227,54 +199,36 @@ some_stands u cs = list_any (stands u) cs
 pub held_stands : (u t : Literal) (cs : List Product) → some_stands u (holding t cs) ≡ true → some_stands u cs ≡ true
 held_stands u t [] h = h
 held_stands u t (c ∷ cs) h = elim (cases_Bool (stands t c)) [
-  | inl e ↦ elim (or_cases (stands u (without_literal t c)) (some_stands u (holding t cs)) (ap (some_stands u) (sym (holding_yes t c cs e)) ∙ h)) [
-    | inl k ↦ or_left (stands u c) (some_stands u cs) (stands_less u t c k)
-    | inr k ↦ or_right (stands u c) (some_stands u cs) (held_stands u t cs k)
-  ]
-  | inr e ↦ or_right (stands u c) (some_stands u cs) (held_stands u t cs (ap (some_stands u) (sym (holding_no t c cs e)) ∙ h))
+  | inl e ↦ elim (or_cases _ _ (rw e at h)) [ inl k ↦ or_left _ _ (stands_less u t c k) | inr k ↦ or_right _ _ (held_stands u t cs k) ]
+  | inr e ↦ or_right _ _ (held_stands u t cs (rw e at h))
 ]
 
 pub other_stands : (u t : Literal) (cs : List Product) → some_stands u (others t cs) ≡ true → some_stands u cs ≡ true
 other_stands u t [] h = h
 other_stands u t (c ∷ cs) h = elim (cases_Bool (stands t c)) [
-  | inl e ↦ or_right (stands u c) (some_stands u cs) (other_stands u t cs (ap (some_stands u) (sym (others_yes t c cs e)) ∙ h))
-  | inr e ↦ elim (or_cases (stands u c) (some_stands u (others t cs)) (ap (some_stands u) (sym (others_no t c cs e)) ∙ h)) [
-    | inl k ↦ or_left (stands u c) (some_stands u cs) k
-    | inr k ↦ or_right (stands u c) (some_stands u cs) (other_stands u t cs k)
-  ]
+  | inl e ↦ or_right (stands u c) (some_stands u cs) (other_stands u t cs (rw e at h))
+  | inr e ↦ elim (or_cases (stands u c) (some_stands u (others t cs)) (rw e at h)) [ inl k ↦ or_left (stands u c) (some_stands u cs) k | inr k ↦ or_right (stands u c) (some_stands u cs) (other_stands u t cs k) ]
 ]
 
 -- t stands neither in the others nor in what is left of the cubes that hold it
 pub not_in_others : (t : Literal) (cs : List Product) → some_stands t (others t cs) ≡ false
-not_in_others t [] = refl
-not_in_others t (c ∷ cs) = elim (cases_Bool (stands t c)) [
-  | inl e ↦ ap (some_stands t) (others_yes t c cs e) ∙ not_in_others t cs
-  | inr e ↦ ap (some_stands t) (others_no t c cs e) ∙ ap (λ b. b || some_stands t (others t cs)) e ∙ not_in_others t cs
-]
+not_in_others t cs = any-filter_same (stands t) (λ c. not (stands t c)) false (λ c e. ap not e) cs
 
 pub not_held : (t : Literal) (cs : List Product) → some_stands t (holding t cs) ≡ false
-not_held t [] = refl
-not_held t (c ∷ cs) = elim (cases_Bool (stands t c)) [
-  | inl e ↦ ap (some_stands t) (holding_yes t c cs e) ∙ ap (λ b. b || some_stands t (holding t cs)) (itself_goes t c) ∙ not_held t cs
-  | inr e ↦ ap (some_stands t) (holding_no t c cs e) ∙ not_held t cs
-]
+not_held t cs =
+    list_any_none (stands t) (holding t cs) (All-from_recursion (λ c. stands t c ≡ false) (holding t cs) (each-map (λ c. stands t c ≡ false) (without_literal t) (filter (stands t) cs) (each_always (λ c. stands t (without_literal t c) ≡ false) (itself_goes t) (filter (stands t) cs))))
 
 -- where there are no others, each cube holds t
 pub all_hold : (t : Literal) (cs : List Product) → others t cs ≡ [] → AllByRecursion (λ c. stands t c ≡ true) cs
 all_hold t [] h = tt
-all_hold t (c ∷ cs) h = elim (cases_Bool (stands t c)) [
-  | inl e ↦ (e, all_hold t cs (sym (others_yes t c cs e) ∙ h))
-  | inr e ↦ let k : c ∷ others t cs ≡ [] = sym (others_no t c cs e) ∙ h in cc
-]
+all_hold t (c ∷ cs) h = elim (cases_Bool (stands t c)) [ inl e ↦ (e, all_hold t cs (rw e at h)) | inr e ↦ let k : c ∷ others t cs ≡ [] = rw e at h in cc ]
 
 -- and what stands in all that is left of these stands in each cube
 pub all_from_held : (u t : Literal) (cs : List Product) → others t cs ≡ [] → AllByRecursion (λ c. stands u c ≡ true) (holding t cs) → AllByRecursion (λ c. stands u c ≡ true) cs
 all_from_held u t [] none h = tt
 all_from_held u t (c ∷ cs) none h = elim (cases_Bool (stands t c)) [
-  | inl e ↦
-      let k = subst (AllByRecursion (λ d. stands u d ≡ true)) (holding_yes t c cs e) h in
-      (stands_less u t c k.0, all_from_held u t cs (sym (others_yes t c cs e) ∙ none) k.1)
-  | inr e ↦ let k : c ∷ others t cs ≡ [] = sym (others_no t c cs e) ∙ none in cc
+  | inl e ↦ let k = rw e at h in (stands_less u t c k.0, all_from_held u t cs (rw e at none) k.1)
+  | inr e ↦ let k : c ∷ others t cs ≡ [] = rw e at none in cc
 ]
 
 -- ---- What a literal joined to an inner sum gives, case by case.
@@ -337,14 +291,8 @@ each_literal cs s (taken _ t inner rest most hold other) P h =
 
 -- ---- a sum without summand and constant is that of no cube
 
-not_literals : (ls : Product) (rest : Summands) → literals ls rest ≡ end false → ⊥
-not_literals ls rest e = cc
-
-not_factored : (ls : Product) (inner rest : Summands) → factored ls inner rest ≡ end false → ⊥
-not_factored ls inner rest e = cc
-
 joined_some : (t : Literal) (inner rest : Summands) → joined t inner rest ≡ end false → ⊥
-joined_some t inner rest = joined_by (λ s. Unit {0}) (λ s. s ≡ end false → ⊥) t inner rest tt (λ ls h e. not_literals _ rest e) (λ ls deeper h e. not_factored _ deeper rest e) (λ h other e. not_factored _ inner rest e)
+joined_some t inner rest = joined_by (λ s. Unit {0}) (λ s. s ≡ end false → ⊥) t inner rest tt (λ ls h e. cc) (λ ls deeper h e. cc) (λ h other e. cc)
 
 pub constant-plain : (ds : List Product) (b : Bool) → has_constant (plain_sum ds b) ≡ b
 constant-plain [] b = refl
@@ -356,7 +304,7 @@ kept cs = filter (λ c. not (is_empty c)) cs
 
 plain_none : (ds : List Product) (b : Bool) → plain_sum ds b ≡ end false → ds ≡ []
 plain_none [] b e = refl
-plain_none (d ∷ ds) b e = absurd (not_literals d _ e)
+plain_none (d ∷ ds) b e = cc
 
 pub kept_all : (cs : List Product) → list_any is_empty cs ≡ false → kept cs ≡ cs
 kept_all [] h = refl
@@ -407,25 +355,18 @@ in_all cs s (taken _ t inner rest most hold other) one = first_in_all cs t inner
 
 -- ---- no literal is a direct factor of two summands
 
-not_in : (b c : Bool) → (c ≡ true → b ≡ false) → b ≡ true → c ≡ false
-not_in b true h e = absurd (false≢true (sym (h refl) ∙ e))
-not_in b false h e = refl
-
 apart_from : (c : Product) (s : Summands) → EachLiteral (λ u. stands u c ≡ false) s → IsApart c s
 apart_from c (end b) h = tt
-apart_from c (literals ls rest) h = ((λ u m. not_in (stands u c) (stands u ls) (h.0 u) m), apart_from c rest h.1)
-apart_from c (factored ls inner rest) h = ((λ u m. not_in (stands u c) (stands u ls) (h.0 u) m), apart_from c rest h.2)
+apart_from c (literals ls rest) h = ((λ u m. not_both (stands u ls) (stands u c) (h.0 u) m), apart_from c rest h.1)
+apart_from c (factored ls inner rest) h = ((λ u m. not_both (stands u ls) (stands u c) (h.0 u) m), apart_from c rest h.2)
 
 -- factors that each stand in all cubes that hold t are no factors of the others' sum
 apart_rest : (cs : List Product) (t : Literal) (c : Product) (rest : Summands) → IsMost cs t → IsSum (others t cs) rest → ((u : Literal) → stands u c ≡ true → (u ≡ t) ⊎ InAll (holding t cs) u) → IsApart c rest
-apart_rest cs t c rest most other h = apart_from c rest (each_literal (others t cs) rest other (λ u. stands u c ≡ false) (λ u m. by u m (stands u c) refl))
-  where
-    by : (u : Literal) → some_stands u (others t cs) ≡ true → (b : Bool) → stands u c ≡ b → b ≡ false
-    by u m true e = elim (h u e) [
-      | inl same ↦ absurd (false≢true (sym (not_in_others t cs) ∙ ap (λ v. some_stands v (others t cs)) (sym same) ∙ m))
-      | inr all ↦ absurd (omega (arith, count_more u t cs all, stands_counted u (others t cs) m, most.most u))
-    ]
-    by u m false e = refl
+apart_rest cs t c rest most other h =
+    apart_from c rest (each_literal (others t cs) rest other (λ u. stands u c ≡ false) (λ u m. false_from_ne_true (stands u c) (λ e. elim (h u e) [
+      | inl same ↦ false≢true (sym (not_in_others t cs) ∙ ap (λ v. some_stands v (others t cs)) (sym same) ∙ m)
+      | inr all ↦ omega (arith, count_more u t cs all, stands_counted u (others t cs) m, most.most u)
+    ])))
 
 with_all : (cs : List Product) (t : Literal) (ls : Product) → ((u : Literal) → stands u ls ≡ true → InAll (holding t cs) u) → (u : Literal) → stands u (with_literal t ls) ≡ true → (u ≡ t) ⊎ InAll (holding t cs) u
 with_all cs t ls h u m = elim (or_cases _ _ (sym (stands-with u t ls) ∙ m)) [ inl e ↦ inl (same_is u t e) | inr e ↦ inr (h u e) ]
@@ -440,27 +381,17 @@ joined_differ cs t inner rest most other h r =
 kept_count : (u : Literal) (cs : List Product) → count u (kept cs) ≤ count u cs
 kept_count u [] = omega arith
 kept_count u (c ∷ cs) = elim (cases_Bool (is_empty c)) [
-  | inl e ↦ omega (arith, ap (count u) (dropped e), count-cons u c cs, kept_count u cs)
-  | inr e ↦ omega (arith, ap (count u) (stays e), count-cons u c (kept cs), count-cons u c cs, kept_count u cs)
+  | inl e ↦ rw e (omega (arith, count-cons u c cs, kept_count u cs))
+  | inr e ↦ rw e (omega (arith, count-cons u c (kept cs), count-cons u c cs, kept_count u cs))
 ]
-  where
-    dropped : is_empty c ≡ true → kept (c ∷ cs) ≡ kept cs
-    dropped e = rw e refl
-
-    stays : is_empty c ≡ false → kept (c ∷ cs) ≡ c ∷ kept cs
-    stays e = rw e refl
 
 -- a literal of the first cube stands in no later one
 later_apart : (d : Product) (ds : List Product) → NoneTwice (d ∷ ds) → (es : List Product) → ((u : Literal) → some_stands u es ≡ true → some_stands u ds ≡ true) → AllByRecursion (λ e. (u : Literal) → stands u e ≡ true → stands u d ≡ false) es
 later_apart d ds none [] h = tt
 later_apart d ds none (e ∷ es) h = (
-  λ u m. by u (h u (or_left (stands u e) (some_stands u es) m)) (stands u d) refl,
+  λ u m. false_from_ne_true (stands u d) (λ k. omega (arith, none u, count_yes u d ds k, stands_counted u ds (h u (or_left _ _ m)))),
   later_apart d ds none es (λ u m. h u (or_right (stands u e) (some_stands u es) m)),
 )
-  where
-    by : (u : Literal) → some_stands u ds ≡ true → (b : Bool) → stands u d ≡ b → b ≡ false
-    by u m true k = absurd (omega (arith, none u, count_yes u d ds k, stands_counted u ds m))
-    by u m false k = refl
 
 plain_differ : (ds : List Product) (b : Bool) → NoneTwice ds → FactorsDiffer (plain_sum ds b)
 plain_differ [] b none = tt
