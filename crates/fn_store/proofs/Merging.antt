@@ -5,7 +5,7 @@ use Rattle.std.proofs.Math.ListN.{drop_of_length-le}
 use Rattle.ae_base.specs.Mask.{Set, differ, cmp_terms}
 use Rattle.ae_base.specs.Terms.{exor_of, IsInOrder}
 use Rattle.ae_base.proofs.Order.{less_trans}
-use Rattle.ae_base.proofs.Truth.{differ-assoc, differ-front, differ-cancel}
+use Rattle.ae_base.proofs.Truth.{differ-assoc, differ-flip, differ-front, differ-cancel}
 use Rattle.fn_store.specs.Scratch.{IsReduced}
 use Rattle.ae_base.proofs.Exor.{exor_of-append}
 use Rattle.ae_base.proofs.InOrder.{Ordered, After, Ordered-from, from_Ordered}
@@ -72,26 +72,23 @@ Merged-left a b both more i j s t in_a in_b at_a at_b less e now =
       same = λ h. ap (λ us. differ (exor_of h us) (exor_of h (drop j b))) moved ∙ now.same h;
     }
 
+-- the two lists may change places
+turned : (a b both : List Set) (i j : ℕ) → Merged a b i j both → Merged b a j i both
+turned a b both i j now = record {
+  in_a = now.in_b;
+  in_b = now.in_a;
+  count = omega (arith, now.count);
+  left = λ p q. now.right q p;
+  right = λ p q. now.left q p;
+  same = λ h.
+      ap (λ v. differ v (exor_of h (drop i a))) (exor_of-append h both (drop j b)) ∙ differ-assoc (exor_of h both) (exor_of h (drop j b)) (exor_of h (drop i a))
+      ∙ ap (differ (exor_of h both)) (differ-flip (exor_of h (drop j b)) (exor_of h (drop i a))) ∙ sym (differ-assoc (exor_of h both) (exor_of h (drop i a)) (exor_of h (drop j b)))
+      ∙ ap (λ v. differ v (exor_of h (drop j b))) (sym (exor_of-append h both (drop i a))) ∙ now.same h
+      ∙ exor_of-append h a b ∙ differ-flip (exor_of h a) (exor_of h b) ∙ sym (exor_of-append h b a);
+}
+
 pub Merged-right : (a b both more : List Set) (i j : ℕ) (s t : Set) → i < length a → j < length b → s ≡ get_or a i s → t ≡ get_or b j t → cmp_terms t s ≡ Less → more ≡ both ++ t ∷ [] → Merged a b i j both → Merged a b i (j + 1) more
-Merged-right a b both more i j s t in_a in_b at_a at_b less e now =
-    let d = rest_at a i s in_a at_a in
-    let f = rest_at b j t in_b at_b in
-    record {
-      in_a = now.in_a;
-      in_b = omega arith;
-      count = omega (arith, ap length e, length-append both (t ∷ []), now.count);
-      left = λ p q.
-          subst Ordered (sym (ap (λ us. us ++ drop i a) e ∙ behind both t (drop i a) ∙ ap (λ us. both ++ t ∷ us) d))
-          (put both t (drop (j + 1) b) s (drop (i + 1) a) (subst (λ us. Ordered (both ++ us)) f (now.right p q)) (subst (λ us. Ordered (both ++ us)) d (now.left p q)) less);
-      right = λ p q. subst Ordered (sym (ap (λ us. us ++ drop (j + 1) b) e ∙ behind both t (drop (j + 1) b) ∙ ap (λ us. both ++ us) (sym f))) (now.right p q);
-      same = λ h.
-          ap (λ us. differ (exor_of h us) (exor_of h (drop (j + 1) b))) (ap (λ us. us ++ drop i a) e ∙ behind both t (drop i a))
-          ∙ ap (λ v. differ v (exor_of h (drop (j + 1) b))) (exor_of-front h both t (drop i a))
-          ∙ differ-assoc (h t) (exor_of h (both ++ drop i a)) (exor_of h (drop (j + 1) b))
-          ∙ differ-front (h t) (exor_of h (both ++ drop i a)) (exor_of h (drop (j + 1) b))
-          ∙ ap (λ us. differ (exor_of h (both ++ drop i a)) (exor_of h us)) (sym f)
-          ∙ now.same h;
-    }
+Merged-right a b both more i j s t in_a in_b at_a at_b less e now = turned b a more (j + 1) i (Merged-left b a both more j i t s in_b in_a at_b at_a less e (turned a b both i j now))
 
 pub Merged-both : (a b both : List Set) (i j : ℕ) (s t : Set) → i < length a → j < length b → s ≡ get_or a i s → t ≡ get_or b j t → s ≡ t → Merged a b i j both → Merged a b (i + 1) (j + 1) both
 Merged-both a b both i j s t in_a in_b at_a at_b e now =
