@@ -6,13 +6,13 @@ use Rattle.ae_base.specs.Mask.{Set, differ, has, empty}
 use Rattle.ae_base.specs.Cube.{Signs}
 use Rattle.ae_base.specs.Terms.{IsPoint, literal}
 use Rattle.ae_base.proofs.Sets.{has-empty, inside-from}
-use Rattle.ae_base.proofs.Truth.{differ-same, differ-false, differ-assoc}
+use Rattle.ae_base.proofs.Truth.{differ-same, differ-false, differ-back}
 use Rattle.ae_base.specs.Points.{put}
 use Rattle.ae_base.proofs.Points.{literal-put, literal-low, literal-high, inside-put}
 use Rattle.fn_store.specs.Davio.{low, high}
 use Rattle.davio_dd.specs.declared.node.Node.{Node}
 use Rattle.davio_dd.specs.Diagram.{place_value, top, IsDiagram, IsPlace}
-use Rattle.davio_dd.proofs.Places.{value-zero, value-one, value-node, top-zero, top-one, top-node, IsNodeAt, place-cases}
+use Rattle.davio_dd.proofs.Places.{value-zero, value-one, value-node, top-constant, top-node, IsNodeAt, place-cases}
 
 pub top-place : (n : ℕ) (nodes : List Node) → IsDiagram n nodes → (at : ℕ) (c : IsNodeAt nodes at) → top n nodes at ≡ c.node.input
 top-place n nodes is at c = ap (top n nodes) c.place ∙ top-node n nodes is c.k c.node c.got
@@ -54,12 +54,11 @@ parts n nodes is at c =
 pub each_place : (n : ℕ) (nodes : List Node) → IsDiagram n nodes → (P : ℕ → Type 0) → P 0 → P 1 → ((at : ℕ) (c : IsNodeAt nodes at) → P c.node.low → P c.node.high → P at) → (at : ℕ) → IsPlace nodes at → P at
 each_place n nodes is P on_zero on_one on_node at place = below (suc at) at (omega arith) place
   where
-    step : (at : ℕ) → ((c : ℕ) → c < at → IsPlace nodes c → P c) → (at ≡ 0) ⊎ ((at ≡ 1) ⊎ IsNodeAt nodes at) → P at
-    step at ih (inl e) = subst (λ (a : ℕ). P a) (sym e) on_zero
-    step at ih (inr (inl e)) = subst (λ (a : ℕ). P a) (sym e) on_one
-    step at ih (inr (inr c)) =
-        let q = parts n nodes is at c in
-        on_node at c (ih c.node.low q.low_before q.low_place) (ih c.node.high q.high_before q.high_place)
+    step : (at : ℕ) → ((c : ℕ) → c < at → IsPlace nodes c → P c) → (at < 2) ⊎ IsNodeAt nodes at → P at
+    step zero ih cases = on_zero
+    step (suc zero) ih cases = on_one
+    step (suc (suc k)) ih (inl l) = absurd (omega arith)
+    step (suc (suc k)) ih (inr c) = let q = parts n nodes is _ c in on_node _ c (ih c.node.low q.low_before q.low_place) (ih c.node.high q.high_before q.high_place)
 
     below : (m : ℕ) (at : ℕ) → at < m → IsPlace nodes at → P at
     below zero at l place = absurd (omega arith)
@@ -82,9 +81,6 @@ value-put p nodes is at j v x place =
 
 -- ---- the parts of a node, by its values
 
-pub differ-twice : (a b : Bool) → differ a (differ a b) ≡ b
-differ-twice a b = sym (differ-assoc a a b) ∙ ap (λ c. differ c b) (differ-same a)
-
 -- where its literal is 0 a node is its low part
 pub value-low : (p : Signs) (nodes : List Node) → IsDiagram p.n nodes → (at : ℕ) (c : IsNodeAt nodes at) (x : Set) → place_value p nodes at (low p c.node.input x) ≡ place_value p nodes c.node.low x
 value-low p nodes is at c x =
@@ -105,7 +101,7 @@ value-high p nodes is at c x =
     value-place p nodes is at c (high p i x)
     ∙ ap (λ b. differ (place_value p nodes c.node.low (high p i x)) (b && place_value p nodes c.node.high (high p i x))) (literal-high p i x)
     ∙ ap₂ differ (value-put p nodes is c.node.low i (has p.plain i) x q.low_place q.over_low) (value-put p nodes is c.node.high i (has p.plain i) x q.high_place q.over_high) in
-    ap₂ differ (value-low p nodes is at c x) at_one ∙ differ-twice _ _
+    ap₂ differ (value-low p nodes is at c x) at_one ∙ differ-back _ _
 
 -- ---- the induction on places
 
@@ -155,34 +151,25 @@ nodes_agree p nodes is a b c d ih e same =
     let place : c.k ≡ d.k = is.once c.k d.k d.node (c.got ∙ ap Some one) d.got in
     omega (arith, place, c.place, d.place)
 
-two_nodes : (p : Signs) (nodes : List Node) → IsDiagram p.n nodes → (a b : ℕ) (c : IsNodeAt nodes a) (d : IsNodeAt nodes b) → IsPlace nodes a → IsPlace nodes b → Below p nodes (a + b) → AreSame p nodes a b
-    → (c.node.input ≡ d.node.input) ⊎ ((c.node.input < d.node.input) ⊎ (d.node.input < c.node.input)) → a ≡ b
-unfolding Below
-two_nodes p nodes is a b c d pa pb ih same (inl e) = nodes_agree p nodes is a b c d ih e same
-two_nodes p nodes is a b c d pa pb ih same (inr (inl l)) = absurd (node_differs p nodes is a b c ih pb (omega (arith, top-place p.n nodes is b d)) same)
-two_nodes p nodes is a b c d pa pb ih same (inr (inr l)) =
-    absurd (node_differs p nodes is b a d (λ u v l. ih u v (omega arith)) pa (omega (arith, top-place p.n nodes is a c)) (λ x point. sym (same x point)))
-
 -- the constants differ
 zero_one : (p : Signs) (nodes : List Node) → AreSame p nodes 0 1 → ⊥
 zero_one p nodes same = false≢true (sym (value-zero p nodes empty) ∙ same empty (inside-from p.n empty (λ k l. has-empty k)) ∙ value-one p nodes empty)
 
-same_step : (p : Signs) (nodes : List Node) → IsDiagram p.n nodes → (a b : ℕ) → IsPlace nodes a → IsPlace nodes b → Below p nodes (a + b) → AreSame p nodes a b
-    → (a ≡ 0) ⊎ ((a ≡ 1) ⊎ IsNodeAt nodes a) → (b ≡ 0) ⊎ ((b ≡ 1) ⊎ IsNodeAt nodes b) → a ≡ b
+same_step : (p : Signs) (nodes : List Node) → IsDiagram p.n nodes → (a b : ℕ) → IsPlace nodes a → IsPlace nodes b → Below p nodes (a + b) → AreSame p nodes a b → (a < 2) ⊎ IsNodeAt nodes a → (b < 2) ⊎ IsNodeAt nodes b → a ≡ b
 unfolding Below
-same_step p nodes is a b pa pb ih same (inl e) (inl f) = omega arith
-same_step p nodes is a b pa pb ih same (inl e) (inr (inl f)) = absurd (zero_one p nodes (rw (e, f) at same))
-same_step p nodes is a b pa pb ih same (inr (inl e)) (inl f) = absurd (zero_one p nodes (λ x point. sym ((rw (e, f) at same) x point)))
-same_step p nodes is a b pa pb ih same (inr (inl e)) (inr (inl f)) = omega arith
-same_step p nodes is a b pa pb ih same (inr (inr c)) (inr (inr d)) = two_nodes p nodes is a b c d pa pb ih same (cases_order c.node.input d.node.input)
-same_step p nodes is a b pa pb ih same (inr (inr c)) (inl f) =
-    absurd (node_differs p nodes is a b c ih pb (omega (arith, (parts p.n nodes is a c).below, ap (top p.n nodes) f, top-zero p.n nodes)) same)
-same_step p nodes is a b pa pb ih same (inr (inr c)) (inr (inl f)) =
-    absurd (node_differs p nodes is a b c ih pb (omega (arith, (parts p.n nodes is a c).below, ap (top p.n nodes) f, top-one p.n nodes)) same)
-same_step p nodes is a b pa pb ih same (inl e) (inr (inr d)) =
-    absurd (node_differs p nodes is b a d (λ u v l. ih u v (omega arith)) pa (omega (arith, (parts p.n nodes is b d).below, ap (top p.n nodes) e, top-zero p.n nodes)) (λ x point. sym (same x point)))
-same_step p nodes is a b pa pb ih same (inr (inl e)) (inr (inr d)) =
-    absurd (node_differs p nodes is b a d (λ u v l. ih u v (omega arith)) pa (omega (arith, (parts p.n nodes is b d).below, ap (top p.n nodes) e, top-one p.n nodes)) (λ x point. sym (same x point)))
+same_step p nodes is a b pa pb ih same (inl l) (inl m) = elim (cases_order a b) [
+  | inl e ↦ e
+  | inr (inl h) ↦ let e : a ≡ 0 = omega arith in let f : b ≡ 1 = omega arith in absurd (zero_one p nodes (rw (e, f) at same))
+  | inr (inr h) ↦ let e : a ≡ 1 = omega arith in let f : b ≡ 0 = omega arith in absurd (zero_one p nodes (λ x point. sym ((rw (e, f) at same) x point)))
+]
+same_step p nodes is a b pa pb ih same (inr c) (inl m) = absurd (node_differs p nodes is a b c ih pb (omega (arith, (parts p.n nodes is a c).below, top-constant p.n nodes b m)) same)
+same_step p nodes is a b pa pb ih same (inl l) (inr d) =
+    absurd (node_differs p nodes is b a d (λ u v h. ih u v (omega arith)) pa (omega (arith, (parts p.n nodes is b d).below, top-constant p.n nodes a l)) (λ x point. sym (same x point)))
+same_step p nodes is a b pa pb ih same (inr c) (inr d) = elim (cases_order c.node.input d.node.input) [
+  | inl e ↦ nodes_agree p nodes is a b c d ih e same
+  | inr (inl l) ↦ absurd (node_differs p nodes is a b c ih pb (omega (arith, l, top-place p.n nodes is b d)) same)
+  | inr (inr l) ↦ absurd (node_differs p nodes is b a d (λ u v h. ih u v (omega arith)) pa (omega (arith, l, top-place p.n nodes is a c)) (λ x point. sym (same x point)))
+]
 
 same_below : (p : Signs) (nodes : List Node) → IsDiagram p.n nodes → (m : ℕ) → Below p nodes m
 unfolding Below

@@ -5,7 +5,8 @@ use Rattle.std.proofs.Math.ListN.{get_or-append}
 use Rattle.std.proofs.Math.Seq.{get_or-append_seam}
 use Rattle.std.proofs.lemmas.List.{append-nil}
 use Rattle.std.proofs.lemmas.Option.{slice_get_within, slice_get-get_or, get_or_from_slice_get, none-some, same_Some}
-use Rattle.std.proofs.lemmas.Bool.{cases_lt, false≢true, or_left, or_right, and_right}
+use Rattle.std.proofs.lemmas.List.Folds.{list_any_at}
+use Rattle.std.proofs.lemmas.Bool.{cases_lt, cases_Bool, false≢true, or_left, or_right, and_right}
 use Rattle.ae_base.specs.Mask.{Set, differ, empty}
 use Rattle.ae_base.proofs.Truth.{differ-false}
 use Rattle.ae_base.specs.Cube.{Signs}
@@ -136,17 +137,14 @@ node-top n after k node is got at e = ap (top n after) e ∙ top-node n after is
 -- ---- a set after an insert
 
 any-got : (h : Node → Bool) (ns : List Node) (k : ℕ) (m : Node) → slice_get ns k ≡ Some m → h m ≡ true → list_any h ns ≡ true
-any-got h [] k m got e = absurd (none-some m got)
-any-got h (n ∷ ns) zero m got e = or_left _ _ (ap h (same_Some n m got) ∙ e)
-any-got h (n ∷ ns) (suc k) m got e = or_right _ _ (any-got h ns k m got e)
+any-got h ns k m got e = list_any_at h ns k m (slice_get_within ns k m got) (ap h (get_or_from_slice_get ns k m m got) ∙ e)
 
 pub added-key : (eq : Node → Node → Bool) → ((n : Node) → eq n n ≡ true) → (before : List Node) (node : Node) (after : List Node)
     → after ≡ cond (list_any (eq node) before) before (before ++ node ∷ []) → IsAdded before node after
-added-key eq self before node after h = by_test (list_any (eq node) before) refl h
-  where
-    by_test : (b : Bool) → list_any (eq node) before ≡ b → after ≡ cond b before (before ++ node ∷ []) → IsAdded before node after
-    by_test true e h = inl h
-    by_test false e h = inr (λ k got. false≢true (sym e ∙ any-got (eq node) before k node got (self node)), h)
+added-key eq self before node after h = elim (cases_Bool (list_any (eq node) before)) [
+  | inl e ↦ inl (rw e at h)
+  | inr e ↦ inr (λ k got. false≢true (sym e ∙ any-got (eq node) before k node got (self node)), rw e at h)
+]
 
 -- ---- the operations at constants
 

@@ -3,6 +3,7 @@ use Rattle.std.proofs.Common.{◌≡◌, ℕ, ◌+◌, ◌<◌, Bool, true, fals
 use Rattle.std.specs.Option.{MatchOption, is_some}
 use Rattle.std.proofs.Math.Bool.{and-true}
 use Rattle.std.proofs.lemmas.Bool.{false≢true, ltb-true}
+use Rattle.std.proofs.lemmas.List.Sorted.{length_permutation}
 use Rattle.ae_base.specs.Mask.{Set, differ}
 use Rattle.ae_base.specs.Cube.{Signs}
 use Rattle.ae_base.specs.Terms.{IsPoint, literal, value, in_order}
@@ -15,7 +16,7 @@ use Rattle.davio_dd.proofs.Places.{value-zero, value-one}
 use Rattle.davio_dd.proofs.Canonical.{same_place}
 use Rattle.davio_dd.proofs.Growing.{Moved, place-moved, value-moved, terms-grows}
 use Rattle.davio_dd.proofs.Terms.{terms-once, value-in_order, place-expansion}
-use Rattle.davio_dd.proofs.Once.{length-in_order}
+use Rattle.davio_dd.proofs.Once.{in_order-permutation}
 
 -- ---- places and functions
 
@@ -85,14 +86,9 @@ place-agree p nodes is a b f g shows_a shows_b e x point =
 -- ---- how many terms there are
 
 length-terms : (p : Signs) (nodes : List Node) → IsDiagram p.n nodes → (r : FnRef) → IsLive (functions_of p nodes) r → length (in_order (place_terms nodes r.at)) ≡ length (place_terms nodes r.at)
-length-terms p nodes is r live = length-in_order (place_terms nodes r.at) (terms-once p.n nodes is r.at (live-place p nodes r live))
+length-terms p nodes is r live = length_permutation _ _ (in_order-permutation (place_terms nodes r.at) (terms-once p.n nodes is r.at (live-place p nodes r live)))
 
-pub more-terms : (p : Signs) (nodes : List Node) → IsDiagram p.n nodes → (r : FnRef) → IsLive (functions_of p nodes) r → (k : ℕ) (left : Option ℕ)
-    → MatchOption left (k < length (place_terms nodes r.at)) (λ rest. rest + length (place_terms nodes r.at) ≡ k) → is_some left ≡ false → k < length (in_order (place_terms nodes r.at))
-more-terms p nodes is r live k None h e = omega (arith, h, length-terms p nodes is r live)
-more-terms p nodes is r live k (Some rest) h e = absurd (false≢true (sym e))
-
-pub no-more-terms : (p : Signs) (nodes : List Node) → IsDiagram p.n nodes → (r : FnRef) → IsLive (functions_of p nodes) r → (k : ℕ) (left : Option ℕ)
-    → MatchOption left (k < length (place_terms nodes r.at)) (λ rest. rest + length (place_terms nodes r.at) ≡ k) → is_some left ≡ true → k < length (in_order (place_terms nodes r.at)) → ⊥
-no-more-terms p nodes is r live k None h e l = false≢true e
-no-more-terms p nodes is r live k (Some rest) h e l = omega (arith, h, l, length-terms p nodes is r live)
+pub more-terms : (p : Signs) (nodes : List Node) → IsDiagram p.n nodes → (r : FnRef) → IsLive (functions_of p nodes) r → (k : ℕ) (left : Option ℕ) → MatchOption left (k < length (place_terms nodes r.at)) (λ rest. rest + length (place_terms nodes r.at) ≡ k)
+    → (is_some left ≡ false → k < length (in_order (place_terms nodes r.at))) × (is_some left ≡ true → k < length (in_order (place_terms nodes r.at)) → ⊥)
+more-terms p nodes is r live k None h = (λ e. omega (arith, h, length-terms p nodes is r live), λ e l. false≢true e)
+more-terms p nodes is r live k (Some rest) h = (λ e. absurd (false≢true (sym e)), λ e l. omega (arith, h, l, length-terms p nodes is r live))

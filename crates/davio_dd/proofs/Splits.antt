@@ -5,56 +5,32 @@ use Rattle.std.proofs.lemmas.Bool.{and_right, cases_lt}
 use Rattle.ae_base.specs.Mask.{Set, differ}
 use Rattle.ae_base.specs.Cube.{Signs}
 use Rattle.ae_base.specs.Terms.{literal}
-use Rattle.ae_base.proofs.Truth.{differ-same, differ-false, differ-swap, and-differ}
+use Rattle.ae_base.proofs.Truth.{differ-same, differ-false, differ-back, differ-swap, and-differ}
 use Rattle.davio_dd.specs.declared.node.Node.{Node}
 use Rattle.davio_dd.specs.Diagram.{place_value, top, IsDiagram, IsPlace, IsAnswer, product}
 use Rattle.davio_dd.specs.Scratch.{AreParts, IsNode, IsPart, IsSplit, IsLater, IsHigh}
-use Rattle.davio_dd.proofs.Places.{value-zero, value-one, top-zero, top-one, IsNodeAt, node_at, place-cases}
-use Rattle.davio_dd.proofs.Canonical.{top-place, value-place, parts, differ-twice}
+use Rattle.davio_dd.proofs.Places.{value-zero, value-one, top-constant, IsNodeAt, place-cases}
+use Rattle.davio_dd.proofs.Canonical.{top-place, value-place, parts}
 use Rattle.davio_dd.proofs.Growing.{Moved, Moved-trans, place-moved, top-moved, value-moved, answer-moved, later-moved}
 
 -- ---- tops
 
-pub top-constant : (n : ℕ) (nodes : List Node) (at : ℕ) → at < 2 → top n nodes at ≡ n
-top-constant n nodes at l = by_place at l (place_cases at l)
-  where
-    place_cases : (at : ℕ) → at < 2 → (at ≡ 0) ⊎ (at ≡ 1)
-    place_cases at l = search (arith, rules)
+-- a constant tests no input, a node tests one
+top-cases : (n : ℕ) (nodes : List Node) → IsDiagram n nodes → (at : ℕ) → IsPlace nodes at → ((at < 2) × (top n nodes at ≡ n)) ⊎ (top n nodes at < n)
+top-cases n nodes is at place = elim (place-cases nodes at place) [
+  | inl l ↦ inl (l, top-constant n nodes at l)
+  | inr c ↦ inr (omega (arith, top-place n nodes is at c, (parts n nodes is at c).below))
+]
 
-    by_place : (at : ℕ) → at < 2 → (at ≡ 0) ⊎ (at ≡ 1) → top n nodes at ≡ n
-    by_place at l (inl e) = ap (top n nodes) e ∙ top-zero n nodes
-    by_place at l (inr e) = ap (top n nodes) e ∙ top-one n nodes
-
-pub top-read : (n : ℕ) (nodes : List Node) → IsDiagram n nodes → (at : ℕ) (node : Node) → IsNode n nodes at node → top n nodes at ≡ node.input
-unfolding node_at
-top-read n nodes is at node h = top-place n nodes is at (node_at n nodes at node h)
-
-pub top-below : (n : ℕ) (nodes : List Node) → IsDiagram n nodes → (at : ℕ) → IsPlace nodes at → 2 ≤ at → top n nodes at < n
-top-below n nodes is at place two = by_place (place-cases nodes at place)
-  where
-    by_place : (at ≡ 0) ⊎ ((at ≡ 1) ⊎ IsNodeAt nodes at) → top n nodes at < n
-    by_place (inl e) = absurd (omega arith)
-    by_place (inr (inl e)) = absurd (omega arith)
-    by_place (inr (inr c)) = omega (arith, top-place n nodes is at c, (parts n nodes is at c).below)
-
-pub top-within : (n : ℕ) (nodes : List Node) → IsDiagram n nodes → (at : ℕ) → IsPlace nodes at → top n nodes at ≤ n
-top-within n nodes is at place = by_place (place-cases nodes at place)
-  where
-    by_place : (at ≡ 0) ⊎ ((at ≡ 1) ⊎ IsNodeAt nodes at) → top n nodes at ≤ n
-    by_place (inl e) = omega (arith, ap (top n nodes) e, top-zero n nodes)
-    by_place (inr (inl e)) = omega (arith, ap (top n nodes) e, top-one n nodes)
-    by_place (inr (inr c)) = omega (arith, top-place n nodes is at c, (parts n nodes is at c).below)
+top-within : (n : ℕ) (nodes : List Node) → IsDiagram n nodes → (at : ℕ) → IsPlace nodes at → top n nodes at ≤ n
+top-within n nodes is at place = elim (top-cases n nodes is at place) [ inl h ↦ omega (arith, h.1) | inr l ↦ omega (arith, l) ]
 
 -- of two places that are no constant 0 and differ, one tests an input
 pub first-below : (n : ℕ) (nodes : List Node) → IsDiagram n nodes → (a b : ℕ) → IsPlace nodes a → IsPlace nodes b → 0 < a → 0 < b → (a ≢ b) → min (top n nodes a) (top n nodes b) < n
-first-below n nodes is a b pa pb some other apart = by_order (two a b some other apart)
-  where
-    two : (a b : ℕ) → 0 < a → 0 < b → (a ≢ b) → (2 ≤ a) ⊎ (2 ≤ b)
-    two a b some other apart = elim (cases_lt a 2) [ inl l ↦ inr (omega (arith, apart)) | inr l ↦ inl l ]
-
-    by_order : (2 ≤ a) ⊎ (2 ≤ b) → min (top n nodes a) (top n nodes b) < n
-    by_order (inl l) = omega (arith, top-below n nodes is a pa l)
-    by_order (inr l) = omega (arith, top-below n nodes is b pb l)
+first-below n nodes is a b pa pb some other apart = elim (top-cases n nodes is a pa) [
+  | inr l ↦ omega (arith, l)
+  | inl h ↦ elim (top-cases n nodes is b pb) [ inr l ↦ omega (arith, l) | inl k ↦ absurd (omega (arith, h.0, k.0, apart)) ]
+]
 
 -- ---- parts
 
@@ -67,7 +43,7 @@ part-whole p nodes at input below first = record {
   low_falls = λ e. absurd (omega (arith, e, first));
   high_falls = λ some. some;
   over_low = first;
-  over_high = omega (arith, top-zero p.n nodes, below);
+  over_high = omega (arith, top-constant p.n nodes 0 (omega arith), below);
 }
 
 pub part-node : (p : Signs) (nodes : List Node) → IsDiagram p.n nodes → (at : ℕ) (c : IsNodeAt nodes at) → IsPart p nodes at c.node.input c.node.low c.node.high
@@ -83,10 +59,6 @@ part-node p nodes is at c =
       over_high = q.over_high;
     }
 
-pub part-read : (p : Signs) (nodes : List Node) → IsDiagram p.n nodes → (at input : ℕ) (node : Node) → IsNode p.n nodes at node → node.input ≡ input → IsPart p nodes at input node.low node.high
-unfolding node_at
-part-read p nodes is at input node h e = rw (← e) (part-node p nodes is at (node_at p.n nodes at node h))
-
 pub split-parts : (p : Signs) (nodes : List Node) (a b input al ah bl bh : ℕ) → input ≡ min (top p.n nodes a) (top p.n nodes b) → input < p.n → IsPart p nodes a input al ah → IsPart p nodes b input bl bh
     → IsSplit p nodes a b input al ah bl bh
 split-parts p nodes a b input al ah bl bh first below l r = record {
@@ -94,15 +66,8 @@ split-parts p nodes a b input al ah bl bh first below l r = record {
   right = r;
   below = below;
   least = λ j x y. omega arith;
-  low_falls = by_first (either (top p.n nodes a) (top p.n nodes b) input first);
+  low_falls = elim (cases_lt (top p.n nodes a) (top p.n nodes b)) [ inl m ↦ omega (arith, l.low_falls (omega (arith, m)), r.low_le) | inr m ↦ omega (arith, r.low_falls (omega (arith, m)), l.low_le) ];
 }
-  where
-    either : (s t i : ℕ) → i ≡ min s t → (i ≡ s) ⊎ (i ≡ t)
-    either s t i e = elim (cases_lt s t) [ inl l ↦ inl (omega arith) | inr l ↦ inr (omega arith) ]
-
-    by_first : (input ≡ top p.n nodes a) ⊎ (input ≡ top p.n nodes b) → al + bl < a + b
-    by_first (inl e) = omega (arith, l.low_falls e, r.low_le)
-    by_first (inr e) = omega (arith, r.low_falls e, l.low_le)
 
 -- the parts test later inputs alone
 pub later-parts : (p : Signs) (nodes : List Node) (a b i al ah bl bh : ℕ) → IsSplit p nodes a b i al ah bl bh → IsPlace nodes a → IsPlace nodes b → AreParts p.n nodes i al ah bl bh
@@ -139,7 +104,7 @@ module _ (op : Bool → Bool → Bool) (p : Signs) (nodes : List Node) where
     right_place = pb;
     place = omega arith;
     is = λ x. value-zero p nodes x ∙ sym (is x);
-    over = λ j la lb. omega (arith, top-zero p.n nodes, top-within p.n nodes diagram a pa);
+    over = λ j la lb. omega (arith, top-constant p.n nodes 0 (omega arith), top-within p.n nodes diagram a pa);
   }
 
   -- the answer for later places is later
@@ -163,7 +128,7 @@ part-value p p2 p3 n0 n2 n3 m2 m3 at i low high part place x =
 -- an operation by the parts of its operands
 by_literal : (op : Bool → Bool → Bool) (l al ah bl bh : Bool) → differ (op al bl) (l && differ (op al bl) (op (differ al ah) (differ bl bh))) ≡ op (differ al (l && ah)) (differ bl (l && bh))
 by_literal op false al ah bl bh = differ-false _ ∙ sym (ap₂ op (differ-false al) (differ-false bl))
-by_literal op true al ah bl bh = differ-twice _ _
+by_literal op true al ah bl bh = differ-back _ _
 
 -- A node over the answer for the low parts and over the high part of the operation is the answer for the places.
 pub answer-step : (op : Bool → Bool → Bool) (p p1 p2 p3 : Signs) (n0 n1 n2 n3 : List Node) (a b i al ah bl bh low high r : ℕ) → Moved p n0 p1 n1 → Moved p1 n1 p2 n2 → Moved p2 n2 p3 n3
@@ -210,7 +175,7 @@ high-sum p nodes i al ah bl bh r parts is = record {
 }
   where
     swapped : (al ah bl bh : Bool) → differ (differ al bl) (differ (differ al ah) (differ bl bh)) ≡ differ ah bh
-    swapped al ah bl bh = ap (differ (differ al bl)) (differ-swap al ah bl bh) ∙ differ-twice (differ al bl) (differ ah bh)
+    swapped al ah bl bh = ap (differ (differ al bl)) (differ-swap al ah bl bh) ∙ differ-back (differ al bl) (differ ah bh)
 
 -- so the step of EXOR asks for the answer for the high parts
 pub sum-step : (p p1 p2 p3 : Signs) (n0 n1 n2 n3 : List Node) (a b i al ah bl bh low high r : ℕ) → Moved p n0 p1 n1 → Moved p1 n1 p2 n2 → Moved p2 n2 p3 n3
@@ -247,7 +212,7 @@ high-right_none p p1 n0 n1 i al ah bl bh r m parts none is = record {
 }
   where
     at_none : (al ah bl bh : Bool) → bh ≡ false → differ (al && bl) (differ al ah && differ bl bh) ≡ (ah && bl)
-    at_none al ah bl bh e = ap (λ b. differ (al && bl) (differ al ah && b)) (ap (differ bl) e ∙ differ-false bl) ∙ ap (differ (al && bl)) (and-differ al ah bl) ∙ differ-twice (al && bl) (ah && bl)
+    at_none al ah bl bh e = ap (λ b. differ (al && bl) (differ al ah && b)) (ap (differ bl) e ∙ differ-false bl) ∙ ap (differ (al && bl)) (and-differ al ah bl) ∙ differ-back (al && bl) (ah && bl)
 
 pub high-left_none : (p p1 : Signs) (n0 n1 : List Node) (i al ah bl bh r : ℕ) → Moved p n0 p1 n1 → AreParts p.n n0 i al ah bl bh → ah ≡ 0 → IsAnswer product p1 n1 al bh r → IsHigh product p1 n1 i al ah bl bh r
 high-left_none p p1 n0 n1 i al ah bl bh r m parts none is = record {
@@ -256,7 +221,7 @@ high-left_none p p1 n0 n1 i al ah bl bh r m parts none is = record {
 }
   where
     at_none : (al ah bl bh : Bool) → ah ≡ false → differ (al && bl) (differ al ah && differ bl bh) ≡ (al && bh)
-    at_none true ah bl bh e = ap (λ a. differ bl (not a && differ bl bh)) e ∙ differ-twice bl bh
+    at_none true ah bl bh e = ap (λ a. differ bl (not a && differ bl bh)) e ∙ differ-back bl bh
     at_none false ah bl bh e = ap (λ a. a && differ bl bh) e
 
 -- else by the two products

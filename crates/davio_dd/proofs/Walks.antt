@@ -15,10 +15,6 @@ use Rattle.davio_dd.proofs.Terms.{terms-zero, terms-one, terms-place}
 
 -- ---- the terms of a place that is read
 
-terms-read : (n : ℕ) (nodes : List Node) → IsDiagram n nodes → (at : ℕ) (node : Node) → IsNode n nodes at node → place_terms nodes at ≡ place_terms nodes node.low ++ map (λ t. with t node.input) (place_terms nodes node.high)
-unfolding node_at
-terms-read n nodes is at node h = terms-place n nodes is at (node_at n nodes at node h)
-
 terms-none : (nodes : List Node) (at : ℕ) → at ≡ 0 → place_terms nodes at ≡ []
 terms-none nodes at e = ap (place_terms nodes) e ∙ terms-zero nodes
 
@@ -60,7 +56,7 @@ pushed-node n nodes is at node h path before between after low high =
     ∙ ap₂ (λ ts us. ts ++ us) low (sym (map_path path node.input (place_terms nodes node.high)))
     ∙ append_assoc before lows (map (λ t. either path t) (map (λ t. with t node.input) (place_terms nodes node.high)))
     ∙ ap (λ us. before ++ us) (sym (map-append (λ t. either path t) (place_terms nodes node.low) (map (λ t. with t node.input) (place_terms nodes node.high))))
-    ∙ ap (λ us. before ++ map (λ t. either path t) us) (sym (terms-read n nodes is at node h))
+    ∙ ap (λ us. before ++ map (λ t. either path t) us) (sym (terms-place n nodes is at (node_at n nodes at node h)))
 
 pub pushed-none : (nodes : List Node) (at : ℕ) → at ≡ 0 → (path : Set) (before : List Set) → before ≡ before ++ map (λ t. either path t) (place_terms nodes at)
 pushed-none nodes at e path before = sym (ap (λ us. before ++ map (λ t. either path t) us) (terms-none nodes at e) ∙ append-nil before)
@@ -77,7 +73,7 @@ Leaves room terms left = MatchOption left (room < terms) (λ rest. rest + terms 
 
 length-read : (n : ℕ) (nodes : List Node) → IsDiagram n nodes → (at : ℕ) (node : Node) → IsNode n nodes at node → length (place_terms nodes at) ≡ length (place_terms nodes node.low) + length (place_terms nodes node.high)
 length-read n nodes is at node h =
-    ap length (terms-read n nodes is at node h)
+    ap length (terms-place n nodes is at (node_at n nodes at node h))
     ∙ length-append (place_terms nodes node.low) (map (λ t. with t node.input) (place_terms nodes node.high))
     ∙ ap (λ k. length (place_terms nodes node.low) + k) (length-map (place_terms nodes node.high) (λ t. with t node.input))
 
