@@ -152,20 +152,11 @@ answer-step op p p1 p2 p3 n0 n1 n2 n3 a b i al ah bl bh low high r m1 m2 m3 s pa
 
 -- ---- EXOR
 
-at-zero : (p : Signs) (nodes : List Node) (a : ℕ) → a ≡ 0 → (x : Set) → place_value p nodes a x ≡ false
+pub at-zero : (p : Signs) (nodes : List Node) (a : ℕ) → a ≡ 0 → (x : Set) → place_value p nodes a x ≡ false
 at-zero p nodes a e x = ap (λ (c : ℕ). place_value p nodes c x) e ∙ value-zero p nodes x
 
-at-one : (p : Signs) (nodes : List Node) (a : ℕ) → a ≡ 1 → (x : Set) → place_value p nodes a x ≡ true
+pub at-one : (p : Signs) (nodes : List Node) (a : ℕ) → a ≡ 1 → (x : Set) → place_value p nodes a x ≡ true
 at-one p nodes a e x = ap (λ (c : ℕ). place_value p nodes c x) e ∙ value-one p nodes x
-
-pub sum-same : (p : Signs) (nodes : List Node) → IsDiagram p.n nodes → (a b : ℕ) → IsPlace nodes a → IsPlace nodes b → a ≡ b → IsAnswer differ p nodes a b 0
-sum-same p nodes is a b pa pb e = answer-zero differ p nodes a b is pa pb (λ x. ap (λ (c : ℕ). differ (place_value p nodes c x) (place_value p nodes b x)) e ∙ differ-same (place_value p nodes b x))
-
-pub sum-left : (p : Signs) (nodes : List Node) (a b : ℕ) → IsPlace nodes a → IsPlace nodes b → a ≡ 0 → IsAnswer differ p nodes a b b
-sum-left p nodes a b pa pb e = answer-right differ p nodes a b pa pb (λ x. ap (λ v. differ v (place_value p nodes b x)) (at-zero p nodes a e x))
-
-pub sum-right : (p : Signs) (nodes : List Node) (a b : ℕ) → IsPlace nodes a → IsPlace nodes b → b ≡ 0 → IsAnswer differ p nodes a b a
-sum-right p nodes a b pa pb e = answer-left differ p nodes a b pa pb (λ x. ap (differ (place_value p nodes a x)) (at-zero p nodes b e x) ∙ differ-false _)
 
 -- the EXOR of the high parts is the high part of the EXOR
 high-sum : (p : Signs) (nodes : List Node) (i al ah bl bh r : ℕ) → AreParts p.n nodes i al ah bl bh → IsAnswer differ p nodes ah bh r → IsHigh differ p nodes i al ah bl bh r
@@ -186,23 +177,6 @@ sum-step p p1 p2 p3 n0 n1 n2 n3 a b i al ah bl bh low high r m1 m2 m3 s pa pb is
     answer-step differ p p1 p2 p3 n0 n1 n2 n3 a b i al ah bl bh low high r m1 m2 m3 s pa pb is_low (high-sum p2 n2 i al ah bl bh high now is_high)
 
 -- ---- products
-
-pub product-same : (p : Signs) (nodes : List Node) (a b : ℕ) → IsPlace nodes a → IsPlace nodes b → (a ≡ b) ⊎ ((a ≢ b) × (b ≡ 1)) → IsAnswer product p nodes a b a
-product-same p nodes a b pa pb either = answer-left product p nodes a b pa pb (by_case either)
-  where
-    by_case : (a ≡ b) ⊎ ((a ≢ b) × (b ≡ 1)) → (x : Set) → (place_value p nodes a x && place_value p nodes b x) ≡ place_value p nodes a x
-    by_case (inl e) x = ap (λ (c : ℕ). place_value p nodes a x && place_value p nodes c x) (sym e) ∙ and_self (place_value p nodes a x)
-    by_case (inr (apart, e)) x = ap (λ v. place_value p nodes a x && v) (at-one p nodes b e x) ∙ and-true (place_value p nodes a x)
-
-pub product-left_one : (p : Signs) (nodes : List Node) (a b : ℕ) → IsPlace nodes a → IsPlace nodes b → a ≡ 1 → IsAnswer product p nodes a b b
-product-left_one p nodes a b pa pb e = answer-right product p nodes a b pa pb (λ x. ap (λ v. v && place_value p nodes b x) (at-one p nodes a e x))
-
-pub product-zero : (p : Signs) (nodes : List Node) → IsDiagram p.n nodes → (a b : ℕ) → IsPlace nodes a → IsPlace nodes b → (a ≡ 0) ⊎ ((a ≢ 0) × (b ≡ 0)) → IsAnswer product p nodes a b 0
-product-zero p nodes is a b pa pb either = answer-zero product p nodes a b is pa pb (by_case either)
-  where
-    by_case : (a ≡ 0) ⊎ ((a ≢ 0) × (b ≡ 0)) → (x : Set) → (place_value p nodes a x && place_value p nodes b x) ≡ false
-    by_case (inl e) x = ap (λ v. v && place_value p nodes b x) (at-zero p nodes a e x)
-    by_case (inr (apart, e)) x = and_right _ _ (at-zero p nodes b e x)
 
 -- The high part of a product: where one high part is the constant 0, the product of the other one with that place's low part,
 pub high-right_none : (p p1 : Signs) (n0 n1 : List Node) (i al ah bl bh r : ℕ) → Moved p n0 p1 n1 → AreParts p.n n0 i al ah bl bh → bh ≡ 0 → IsAnswer product p1 n1 ah bl r → IsHigh product p1 n1 i al ah bl bh r
