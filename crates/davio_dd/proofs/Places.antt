@@ -1,10 +1,9 @@
 -- What places have, while nodes are added.
 use Rattle.std.proofs.Common.{◌≡◌, ℕ, ◌+◌, ◌-◌, ◌<◌, suc, zero, true, false, ◌&&◌, ◌⊎◌, inl, inr, List, [], ◌∷◌, ◌++◌, length, take, drop, get_or, slice_get, Some, refl, ap, ap₂, sym, ◌∙◌, arith, length-append}
 use Rattle.std.proofs.Math.ListN.{get_or-append}
-use Rattle.std.proofs.Math.Seq.{get_or-append_seam, drop-cons}
+use Rattle.std.proofs.Math.Seq.{get_or-append_seam}
 use Rattle.std.proofs.lemmas.Bool.{cases_lt}
-use Rattle.std.proofs.lemmas.List.{take-append-drop, length-take}
-use Rattle.std.proofs.lemmas.Option.{slice_get_within, slice_get-get_or, get_or_from_slice_get}
+use Rattle.std.proofs.lemmas.Option.{slice_get-get_or, none-some, same_Some}
 use Rattle.ae_base.specs.Mask.{Set, differ}
 use Rattle.ae_base.specs.Cube.{Signs}
 use Rattle.ae_base.specs.Terms.{literal}
@@ -44,34 +43,27 @@ pub entry-constant : {A : Type 0} (z o : A) (rule : Node → A → A → A) (nod
 unfolding entry
 entry-constant z o rule nodes at l = entries-keep z rule (z ∷ o ∷ []) nodes at l
 
-entry-seam : {A : Type 0} (z o : A) (rule : Node → A → A → A) (front : List Node) (node : Node) (rest : List Node) → node.low < length front + 2 → node.high < length front + 2
-    → entry z o rule (front ++ node ∷ rest) (length front + 2) ≡ rule node (entry z o rule (front ++ node ∷ rest) node.low) (entry z o rule (front ++ node ∷ rest) node.high)
-unfolding entry entries_from
-entry-seam z o rule front node rest low high =
-    let es = entries_from z rule (z ∷ o ∷ []) front in
-    let e = rule node (get_or es node.low z) (get_or es node.high z) in
-    let long : length front + 2 ≡ length es = omega (arith, length-entries z rule (z ∷ o ∷ []) front) in
-    ap (λ fs. get_or fs (length front + 2) z) (entries-append z rule (z ∷ o ∷ []) front (node ∷ rest))
-    ∙ ap (λ i. get_or (entries_from z rule (es ++ e ∷ []) rest) i z) long
-    ∙ entries-keep z rule (es ++ e ∷ []) rest (length es) (omega (arith, length-append es (e ∷ [])))
-    ∙ get_or-append_seam es e [] z
-    ∙ sym (ap₂ (rule node) (entry-grows z o rule front (node ∷ rest) node.low low) (entry-grows z o rule front (node ∷ rest) node.high high))
-
-pub around : (nodes : List Node) (k : ℕ) (node : Node) → slice_get nodes k ≡ Some node → nodes ≡ take k nodes ++ node ∷ drop (suc k) nodes
-around nodes k node got =
-    let lt : k < length nodes = slice_get_within nodes k node got in
-    sym (take-append-drop k nodes) ∙ ap (λ l. take k nodes ++ l) (drop-cons nodes k node lt ∙ ap (λ n. n ∷ drop (suc k) nodes) (get_or_from_slice_get nodes k node node got))
+entries-node : {A : Type 0} (z : A) (rule : Node → A → A → A) (es : List A) (ns : List Node) (k : ℕ) (node : Node) → slice_get ns k ≡ Some node → node.low < length es + k → node.high < length es + k
+    → get_or (entries_from z rule es ns) (length es + k) z ≡ rule node (get_or (entries_from z rule es ns) node.low z) (get_or (entries_from z rule es ns) node.high z)
+unfolding entries_from
+entries-node z rule es [] k node got low high = absurd (none-some node got)
+entries-node z rule es (n ∷ ns) zero node got low high =
+    let e = rule n (get_or es n.low z) (get_or es n.high z) in
+    let same : n ≡ node = same_Some n node got in
+    let kept = λ (i : ℕ) (l : i < length es). entries-keep z rule (es ++ e ∷ []) ns i (omega (arith, l, length-append es (e ∷ []))) ∙ get_or-append es (e ∷ []) z i l in
+    let long : length es + 0 ≡ length es = omega arith in
+    rw long (entries-keep z rule (es ++ e ∷ []) ns (length es) (omega (arith, length-append es (e ∷ []))) ∙ get_or-append_seam es e [] z
+    ∙ ap (λ (m : Node). rule m (get_or es m.low z) (get_or es m.high z)) same ∙ sym (ap₂ (rule node) (kept node.low (omega (arith, low))) (kept node.high (omega (arith, high)))))
+entries-node z rule es (n ∷ ns) (suc k) node got low high =
+    let e = rule n (get_or es n.low z) (get_or es n.high z) in
+    let long : length es + suc k ≡ length (es ++ e ∷ []) + k = omega (arith, length-append es (e ∷ [])) in
+    rw long (entries-node z rule (es ++ e ∷ []) ns k node got (omega (arith, low, long)) (omega (arith, high, long)))
 
 -- a node's place, by its parts
 pub entry-node : {A : Type 0} (z o : A) (rule : Node → A → A → A) (nodes : List Node) (k : ℕ) (node : Node) → slice_get nodes k ≡ Some node → node.low < k + 2 → node.high < k + 2
     → entry z o rule nodes (k + 2) ≡ rule node (entry z o rule nodes node.low) (entry z o rule nodes node.high)
-entry-node z o rule nodes k node got low high =
-    let lt : k < length nodes = slice_get_within nodes k node got in
-    let long : length (take k nodes) ≡ k = simp length-take (omega arith) in
-    let whole = around nodes k node got in
-    ap₂ (λ ns i. entry z o rule ns (i + 2)) whole (sym long)
-    ∙ entry-seam z o rule (take k nodes) node (drop (suc k) nodes) (omega (arith, long)) (omega (arith, long))
-    ∙ ap (λ ns. rule node (entry z o rule ns node.low) (entry z o rule ns node.high)) (sym whole)
+unfolding entry
+entry-node z o rule nodes k node got low high = let e : k + 2 ≡ 2 + k = omega arith in rw e (entries-node z rule (z ∷ o ∷ []) nodes k node got (omega (arith, low)) (omega (arith, high)))
 
 -- ---- values, terms and tops
 

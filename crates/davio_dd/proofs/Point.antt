@@ -118,31 +118,23 @@ path-constant p nodes (suc zero) l = entry-constant (all_zero p) (all_zero p) _ 
 path-constant p nodes (suc (suc k)) l = absurd (omega arith)
 
 pub path-place : (p : Signs) (nodes : List Node) → IsDiagram p.n nodes → (at : ℕ) (c : IsNodeAt nodes at)
-    → path_point p nodes at ≡ cond (eqb c.node.low 0) (high p c.node.input (path_point p nodes c.node.high)) (path_point p nodes c.node.low)
+    → (c.node.low ≡ 0 → path_point p nodes at ≡ high p c.node.input (path_point p nodes c.node.high)) × ((c.node.low ≢ 0) → path_point p nodes at ≡ path_point p nodes c.node.low)
 unfolding path_point
-path-place p nodes is at c = ap (λ (a : ℕ). path_point p nodes a) c.place ∙ entry-node (all_zero p) (all_zero p) _ nodes c.k c.node c.got (is.low c.k c.node c.got) (is.high c.k c.node c.got)
+path-place p nodes is at c =
+    let by = λ (b : Bool). cond b (high p c.node.input (path_point p nodes c.node.high)) (path_point p nodes c.node.low) in
+    let whole : path_point p nodes at ≡ by (eqb c.node.low 0) =
+    ap (λ (a : ℕ). path_point p nodes a) c.place ∙ entry-node (all_zero p) (all_zero p) _ nodes c.k c.node c.got (is.low c.k c.node c.got) (is.high c.k c.node c.got) in
+    (λ e. whole ∙ ap by (eq-eqb c.node.low 0 e), λ e. whole ∙ ap by (ne_eqb c.node.low 0 e))
 
 walked : (p : Signs) (nodes : List Node) → IsDiagram p.n nodes → (at : ℕ) → IsPlace nodes at → Walked p nodes at (path_point p nodes at)
 walked p nodes is =
     each_place p.n nodes is (λ at. Walked p nodes at (path_point p nodes at))
-    (subst (λ (x : Set). Walked p nodes 0 x) (sym (path-constant p nodes 0 (omega arith))) (walked-constant p nodes 0 (λ l. absurd (omega arith))))
-    (subst (λ (x : Set). Walked p nodes 1 x) (sym (path-constant p nodes 1 (omega arith))) (walked-constant p nodes 1 (λ l. value-one p nodes (all_zero p))))
-    (λ at c on_low on_high. subst (λ (x : Set). Walked p nodes at x) (sym (path-place p nodes is at c)) (by_low at c on_low on_high (cases_eq c.node.low 0)))
-  where
-    by_low : (at : ℕ) (c : IsNodeAt nodes at) → Walked p nodes c.node.low (path_point p nodes c.node.low) → Walked p nodes c.node.high (path_point p nodes c.node.high)
-        → (c.node.low ≡ 0) ⊎ (c.node.low ≢ 0) → Walked p nodes at (cond (eqb c.node.low 0) (high p c.node.input (path_point p nodes c.node.high)) (path_point p nodes c.node.low))
-    by_low at c on_low on_high (inl e) = rw (eq-eqb c.node.low 0 e) (walked-high p nodes is at c (path_point p nodes c.node.high) e on_high)
-    by_low at c on_low on_high (inr e) = rw (ne_eqb c.node.low 0 e) (walked-low p nodes is at c (path_point p nodes c.node.low) (omega (arith, e)) on_low)
-
--- ---- one step of the path
-
-pub path-high : (p : Signs) (nodes : List Node) → IsDiagram p.n nodes → (at : ℕ) (node : Node) → IsNode p.n nodes at node → node.low ≡ 0 → path_point p nodes at ≡ high p node.input (path_point p nodes node.high)
-path-high p nodes is at node h e =
-    path-place p nodes is at (node_at p.n nodes at node h) ∙ ap (λ b. cond b (high p node.input (path_point p nodes node.high)) (path_point p nodes node.low)) (eq-eqb node.low 0 e)
-
-pub path-low : (p : Signs) (nodes : List Node) → IsDiagram p.n nodes → (at : ℕ) (node : Node) → IsNode p.n nodes at node → (node.low ≢ 0) → path_point p nodes at ≡ path_point p nodes node.low
-path-low p nodes is at node h e =
-    path-place p nodes is at (node_at p.n nodes at node h) ∙ ap (λ b. cond b (high p node.input (path_point p nodes node.high)) (path_point p nodes node.low)) (ne_eqb node.low 0 e)
+    (rw (path-constant p nodes 0 (omega arith)) (walked-constant p nodes 0 (λ l. absurd (omega arith))))
+    (rw (path-constant p nodes 1 (omega arith)) (walked-constant p nodes 1 (λ l. value-one p nodes (all_zero p))))
+    (λ at c on_low on_high. elim (cases_eq c.node.low 0) [
+      | inl e ↦ rw ((path-place p nodes is at c).0 e) (walked-high p nodes is at c (path_point p nodes c.node.high) e on_high)
+      | inr e ↦ rw ((path-place p nodes is at c).1 e) (walked-low p nodes is at c (path_point p nodes c.node.low) (omega (arith, e)) on_low)
+    ])
 
 -- ---- the order of points is total
 

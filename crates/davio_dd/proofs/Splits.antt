@@ -9,8 +9,8 @@ use Rattle.ae_base.proofs.Truth.{differ-same, differ-false, differ-back, differ-
 use Rattle.davio_dd.specs.declared.node.Node.{Node}
 use Rattle.davio_dd.specs.Diagram.{place_value, top, IsDiagram, IsPlace, IsAnswer, product}
 use Rattle.davio_dd.specs.Scratch.{AreParts, IsNode, IsPart, IsSplit, IsLater, IsHigh}
-use Rattle.davio_dd.proofs.Places.{value-zero, value-one, top-constant, IsNodeAt, place-cases}
-use Rattle.davio_dd.proofs.Canonical.{top-place, value-place, parts}
+use Rattle.davio_dd.proofs.Places.{value-zero, value-one, top-constant, place-cases}
+use Rattle.davio_dd.proofs.Canonical.{top-place, parts}
 use Rattle.davio_dd.proofs.Growing.{Moved, Moved-trans, place-moved, top-moved, value-moved, answer-moved, later-moved}
 
 -- ---- tops
@@ -33,31 +33,6 @@ first-below n nodes is a b pa pb some other apart = elim (top-cases n nodes is a
 ]
 
 -- ---- parts
-
--- a place that tests later inputs alone is its own low part, beside the constant 0
-pub part-whole : (p : Signs) (nodes : List Node) (at input : ℕ) → input < p.n → input < top p.n nodes at → IsPart p nodes at input at 0
-part-whole p nodes at input below first = record {
-  is = λ x. sym (ap (λ h. differ (place_value p nodes at x) (literal p input x && h)) (value-zero p nodes x) ∙ ap (differ (place_value p nodes at x)) (and_right _ _ refl) ∙ differ-false _);
-  low_le = omega arith;
-  high_le = omega arith;
-  low_falls = λ e. absurd (omega (arith, e, first));
-  high_falls = λ some. some;
-  over_low = first;
-  over_high = omega (arith, top-constant p.n nodes 0 (omega arith), below);
-}
-
-pub part-node : (p : Signs) (nodes : List Node) → IsDiagram p.n nodes → (at : ℕ) (c : IsNodeAt nodes at) → IsPart p nodes at c.node.input c.node.low c.node.high
-part-node p nodes is at c =
-    let q = parts p.n nodes is at c in
-    record {
-      is = value-place p nodes is at c;
-      low_le = omega (arith, q.low_before);
-      high_le = omega (arith, q.high_before);
-      low_falls = λ e. q.low_before;
-      high_falls = λ some. q.high_before;
-      over_low = q.over_low;
-      over_high = q.over_high;
-    }
 
 pub split-parts : (p : Signs) (nodes : List Node) (a b input al ah bl bh : ℕ) → input ≡ min (top p.n nodes a) (top p.n nodes b) → input < p.n → IsPart p nodes a input al ah → IsPart p nodes b input bl bh
     → IsSplit p nodes a b input al ah bl bh
@@ -110,11 +85,6 @@ module _ (op : Bool → Bool → Bool) (p : Signs) (nodes : List Node) where
   -- the answer for later places is later
   pub answer-later : (i u v r : ℕ) → IsLater p.n nodes i u → IsLater p.n nodes i v → IsAnswer op p nodes u v r → IsLater p.n nodes i r
   answer-later i u v r lu lv is = record { place = is.place; over = is.over i lu.over lv.over }
-
--- so it is when some nodes more were added
-pub answer-over : (op : Bool → Bool → Bool) (p p1 p2 : Signs) (n0 n1 n2 : List Node) → Moved p n0 p1 n1 → Moved p1 n1 p2 n2 → (i u v r : ℕ) → IsLater p.n n0 i u → IsLater p.n n0 i v → IsAnswer op p1 n1 u v r → i < top p2.n n2 r
-answer-over op p p1 p2 n0 n1 n2 m1 m2 i u v r lu lv is =
-    (later-moved p1 p2 n1 n2 m2 i r (answer-later op p1 n1 i u v r (later-moved p p1 n0 n1 m1 i u lu) (later-moved p p1 n0 n1 m1 i v lv) is)).over
 
 -- the value of a place, by its parts as they are later
 part-value : (p p2 p3 : Signs) (n0 n2 n3 : List Node) → Moved p n0 p2 n2 → Moved p2 n2 p3 n3 → (at i low high : ℕ) → IsPart p n0 at i low high → IsPlace n0 at

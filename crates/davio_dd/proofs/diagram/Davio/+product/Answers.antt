@@ -3,7 +3,8 @@ use Rattle.std.proofs.Math.Bool.{and-true, and_self}
 use Rattle.std.proofs.lemmas.Bool.{and_left, and_right}
 use Rattle.std.proofs.lemmas.Result.{IfOk-weaker}
 use Rattle.davio_dd.specs.Diagram.{place_value, product, top}
-use Rattle.davio_dd.proofs.Splits.{later-parts, parts-moved, answer-left, answer-right, answer-zero, answer-over, answer-step, at-zero, at-one, high-right_none, high-left_none, high-both, both-later, deeper-high, deeper-low, deeper}
+use Rattle.davio_dd.proofs.Growing.{later-moved}
+use Rattle.davio_dd.proofs.Splits.{later-parts, parts-moved, answer-left, answer-right, answer-zero, answer-later, answer-step, at-zero, at-one, high-right_none, high-left_none, high-both, both-later, deeper-high, deeper-low, deeper}
 use Rattle.davio_dd.proofs.diagram.Davio.+product.Goals as goal
 
 -- ---- the product
@@ -48,7 +49,8 @@ product-node-requires-clause-before_low t c =
     let low = c.in_ok-low.ensures in
     let high = c.in_ok-high.ensures in
     let parts = later-parts _ _ c.args.a c.args.b _ _ _ _ _ c.split-split.ensures c.requires.a c.requires.b in
-    answer-over product _ _ _ _ _ _ (low.polarity, low.grows) (high.polarity, high.grows) _ _ _ _ parts.left_low parts.right_low low.answer
+    let now = parts-moved _ _ _ _ (low.polarity, low.grows) _ _ _ _ _ parts in
+    (later-moved _ _ _ _ (high.polarity, high.grows) _ _ (answer-later product _ _ _ _ _ _ now.left_low now.right_low low.answer)).over
 
 pub product-remember_product-requires : goal.product-remember_product-requires
 product-remember_product-requires t c =

@@ -2,8 +2,8 @@ use Rattle.std.proofs.Common.{ℕ, ap, ◌∙◌}
 use Rattle.ae_base.specs.Mask.{differ}
 use Rattle.ae_base.proofs.Truth.{differ-same, differ-false}
 use Rattle.davio_dd.specs.Diagram.{place_value}
-use Rattle.davio_dd.proofs.Growing.{Moved-trans}
-use Rattle.davio_dd.proofs.Splits.{later-parts, parts-moved, answer-later, answer-over, answer-left, answer-right, answer-zero, at-zero, sum-step}
+use Rattle.davio_dd.proofs.Growing.{Moved-trans, later-moved}
+use Rattle.davio_dd.proofs.Splits.{later-parts, parts-moved, answer-later, answer-left, answer-right, answer-zero, at-zero, sum-step}
 use Rattle.davio_dd.proofs.diagram.Davio.+sum.Goals as goal
 
 pub returns-then-a-b-clause-answer : goal.returns-then-a-b-clause-answer
@@ -26,7 +26,8 @@ node-requires-clause-before_low t c =
     let low = c.in_ok-low.ensures in
     let high = c.in_ok-high.ensures in
     let parts = later-parts _ _ c.args.a c.args.b _ _ _ _ _ c.split-split.ensures c.requires.a c.requires.b in
-    answer-over differ _ _ _ _ _ _ (low.polarity, low.grows) (high.polarity, high.grows) _ _ _ _ parts.left_low parts.right_low low.answer
+    let now = parts-moved _ _ _ _ (low.polarity, low.grows) _ _ _ _ _ parts in
+    (later-moved _ _ _ _ (high.polarity, high.grows) _ _ (answer-later differ _ _ _ _ _ _ now.left_low now.right_low low.answer)).over
 
 pub node-requires-clause-before_high : goal.node-requires-clause-before_high
 node-requires-clause-before_high t c =

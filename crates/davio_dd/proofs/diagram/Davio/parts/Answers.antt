@@ -1,7 +1,6 @@
 use Rattle.std.proofs.Common.{arith}
-use Rattle.davio_dd.proofs.Canonical.{top-place}
+use Rattle.davio_dd.proofs.Canonical.{top-place, part-whole, part-node}
 use Rattle.davio_dd.proofs.Places.{top-constant, node_at}
-use Rattle.davio_dd.proofs.Splits.{part-whole, part-node}
 use Rattle.davio_dd.proofs.diagram.Davio.parts.Goals as goal
 
 pub returns-in-Some : goal.returns-in-Some
