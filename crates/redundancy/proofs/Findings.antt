@@ -1,7 +1,9 @@
 -- What the search finds: the tree of the fault, or the first visit that ends the search.
 use Rattle.std.proofs.Common.{◌≡◌, ℕ, zero, suc, ◌+◌, ◌-◌, ◌<◌, ◌≤◌, Bool, true, false, cond, inl, inr, List, [], ◌∷◌, ◌++◌, length, refl, sym, ap, ap₂, ◌∙◌, subst, arith, length-append, eqb}
 use Rattle.std.specs.Prelude.{Option, Some, None, slice_get, unwrap_or, ◌⊎◌}
-use Rattle.std.proofs.lemmas.Bool.{false≢true, cases_Bool, eqb-true, eqb-false}
+use Rattle.std.specs.Option.{option_or}
+use Rattle.std.proofs.lemmas.Bool.{false≢true, cases_Bool}
+use Rattle.std.proofs.lemmas.Option.{none-some}
 use Rattle.ae_net.specs.declared.net.Fault.{Fault}
 use Rattle.ae_net.specs.Network.{Network}
 use Rattle.redundancy.specs.declared.TheConstants.{LEAVES}
@@ -16,29 +18,24 @@ use Rattle.redundancy.specs.Leaves.{LeafTells}
 use Rattle.redundancy.specs.Visits.{Visit, holds, detects, visits, met, BeginsWithLeaves, IsFound}
 use Rattle.redundancy.specs.Worked.{leaf_holds}
 use Rattle.redundancy.proofs.EvidenceTrees.{IsTree-tree_of}
-use Rattle.redundancy.proofs.Growths.{first_stop-none, first_stop-some, visits_leaf, visits_point, visits_halves, tree_leaf, tree_halves}
+use Rattle.redundancy.proofs.Growths.{room, first_stop-append}
 
 -- ---- the first stop in a list of visits
 
 -- with no stop there are few leaves
 few_visits : (l : ℕ) (vs : List Visit) → l ≤ LEAVES → first_stop l vs ≡ None → l + length vs ≤ LEAVES
 few_visits l [] h e = omega arith
-few_visits l (holds ∷ vs) h e = by_room (eqb l LEAVES) (eqb-false l LEAVES) (few_visits (suc l) vs) e
-  where
-    by_room : (r : Bool) → (r ≡ false → l ≡ LEAVES → ⊥) → (suc l ≤ LEAVES → first_stop (suc l) vs ≡ None → suc l + length vs ≤ LEAVES) → cond r (Some TooWide) (first_stop (suc l) vs) ≡ None → l + suc (length vs) ≤ LEAVES
-    by_room true w f e = absurd (let s : ⊥ = cc in s)
-    by_room false w f e = let below : suc l ≤ LEAVES = omega (arith, w refl, h) in omega (arith, f below e)
+few_visits l (holds ∷ vs) h e = elim (room l vs) [
+  | inl r ↦ absurd (none-some TooWide (sym e ∙ r.1))
+  | inr r ↦ omega (arith, few_visits (suc l) vs (omega (arith, r.0, h)) (sym r.1 ∙ e))
+]
 few_visits l (detects x ∷ vs) h e = absurd (let s : ⊥ = cc in s)
 
 -- too many leaves come before any stop
 wide_visits : (l : ℕ) (vs : List Visit) → first_stop l vs ≡ Some TooWide → (j : ℕ) → l + j ≤ LEAVES → slice_get vs j ≡ Some holds
 wide_visits l [] e j h = absurd (let s : ⊥ = cc in s)
 wide_visits l (holds ∷ vs) e zero h = refl
-wide_visits l (holds ∷ vs) e (suc j) h = by_room (eqb l LEAVES) (eqb-true l LEAVES) (wide_visits (suc l) vs) e
-  where
-    by_room : (r : Bool) → (r ≡ true → l ≡ LEAVES) → (first_stop (suc l) vs ≡ Some TooWide → (j : ℕ) → suc l + j ≤ LEAVES → slice_get vs j ≡ Some holds) → cond r (Some TooWide) (first_stop (suc l) vs) ≡ Some TooWide → slice_get vs j ≡ Some holds
-    by_room true w f e = absurd (omega (arith, w refl, h))
-    by_room false w f e = f e j (omega (arith, h))
+wide_visits l (holds ∷ vs) e (suc j) h = elim (room l vs) [ inl r ↦ absurd (omega (arith, r.0, h)) | inr r ↦ wide_visits (suc l) vs (sym r.1 ∙ e) j (omega (arith, h)) ]
 wide_visits l (detects x ∷ vs) e j h = absurd (let s : ⊥ = cc in s)
 
 -- the first visit that detects comes after few leaves
@@ -47,64 +44,58 @@ DetectsAt l vs x k = (l + k ≤ LEAVES) × BeginsWithLeaves k vs × (slice_get v
 
 differing_visit : (l : ℕ) (vs : List Visit) (x : ℕ) → l ≤ LEAVES → first_stop l vs ≡ Some (Differs x) → (k : ℕ) × DetectsAt l vs x k
 differing_visit l [] x h e = absurd (let s : ⊥ = cc in s)
-differing_visit l (holds ∷ vs) x h e = by_room (eqb l LEAVES) (eqb-false l LEAVES) (differing_visit (suc l) vs x) e
+differing_visit l (holds ∷ vs) x h e = elim (room l vs) [
+  | inl r ↦ absurd (let s : Some TooWide ≡ Some (Differs x) = sym r.1 ∙ e in let z : ⊥ = cc in z)
+  | inr r ↦
+      let at = differing_visit (suc l) vs x (omega (arith, r.0, h)) (sym r.1 ∙ e) in
+      (suc at.0, (omega (arith, at.1.0), begins at.0 at.1.1, at.1.2))
+]
   where
-    later : (k : ℕ) × DetectsAt (suc l) vs x k → (k : ℕ) × DetectsAt l (holds ∷ vs) x k
-    later (k, (few, leaves, there)) = (suc k, (omega (arith, few), begins, there))
-      where
-        begins : (j : ℕ) → j < suc k → slice_get (holds ∷ vs) j ≡ Some holds
-        begins zero m = refl
-        begins (suc j) m = leaves j (omega arith)
-
-    by_room : (r : Bool) → (r ≡ false → l ≡ LEAVES → ⊥) → (suc l ≤ LEAVES → first_stop (suc l) vs ≡ Some (Differs x) → (k : ℕ) × DetectsAt (suc l) vs x k) → cond r (Some TooWide) (first_stop (suc l) vs) ≡ Some (Differs x) → (k : ℕ) × DetectsAt l (holds ∷ vs) x k
-    by_room true w f e = absurd (let s : ⊥ = cc in s)
-    by_room false w f e = let below : suc l ≤ LEAVES = omega (arith, w refl, h) in later (f below e)
+    begins : (k : ℕ) → BeginsWithLeaves k vs → BeginsWithLeaves (suc k) (holds ∷ vs)
+    begins k leaves zero m = refl
+    begins k leaves (suc j) m = leaves j (omega arith)
 differing_visit l (detects y ∷ vs) x h e = (0, (omega arith, λ j m. absurd (omega (arith, m)), (let s : y ≡ x = cc in ap (λ z. Some (detects z)) s)))
 
 -- no stop is a tree
-no_tree : (l : ℕ) (vs : List Visit) (f : Found) → first_stop l vs ≡ Some f → (f ≡ TooWide) ⊎ ((x : ℕ) × (f ≡ Differs x))
-no_tree l [] f e = absurd (let s : ⊥ = cc in s)
-no_tree l (holds ∷ vs) f e = by_room (eqb l LEAVES) (no_tree (suc l) vs f) e
-  where
-    by_room : (r : Bool) → (first_stop (suc l) vs ≡ Some f → (f ≡ TooWide) ⊎ ((x : ℕ) × (f ≡ Differs x))) → cond r (Some TooWide) (first_stop (suc l) vs) ≡ Some f → (f ≡ TooWide) ⊎ ((x : ℕ) × (f ≡ Differs x))
-    by_room true g e = inl cc
-    by_room false g e = g e
-no_tree l (detects x ∷ vs) f e = inr (x, cc)
+no_tree : (l : ℕ) (vs : List Visit) (w : Growth) → first_stop l vs ≡ Some (found_tree w.word) → ⊥
+no_tree l [] w e = cc
+no_tree l (holds ∷ vs) w e = elim (room l vs) [ inl r ↦ (let s : Some TooWide ≡ Some (found_tree w.word) = sym r.1 ∙ e in cc) | inr r ↦ no_tree (suc l) vs w (sym r.1 ∙ e) ]
+no_tree l (detects x ∷ vs) w e = cc
 
 -- ---- with no stop, the tree that is gone through is that of the fault
 
 first_none : (l : ℕ) (a b : List Visit) → first_stop l (a ++ b) ≡ None → first_stop l a ≡ None
-first_none l a b e = by_stop (first_stop l a) (first_stop-some l a b)
+first_none l a b e = by_stop (first_stop l a) (sym (first_stop-append l a b) ∙ e)
   where
-    by_stop : (o : Option Found) → ((f : Found) → o ≡ Some f → first_stop l (a ++ b) ≡ Some f) → o ≡ None
+    by_stop : (o : Option Found) → option_or o (first_stop (l + length a) b) ≡ None → o ≡ None
     by_stop None h = refl
-    by_stop (Some f) h = absurd (let g : first_stop l (a ++ b) ≡ Some f = h f refl in let s : ⊥ = cc in s)
+    by_stop (Some f) h = h
 
 module _ (n : Network) (fault : Fault) where
   leaf_count-tree_of : (m : ℕ) (d : Subcube) → leaf_count (tree_of n fault m d) ≡ length (visits n fault m d)
-  leaf_count-tree_of m d = by_test m d (cases_Bool (leaf_holds n fault d))
-    where
-      by_test : (m : ℕ) (d : Subcube) → (leaf_holds n fault d ≡ true) ⊎ (leaf_holds n fault d ≡ false) → leaf_count (tree_of n fault m d) ≡ length (visits n fault m d)
-      by_test m d (inl e) = ap leaf_count (tree_leaf n fault m d e) ∙ sym (ap length (visits_leaf n fault m d e))
-      by_test zero d (inr e) = unfold tree_of in sym (ap length (visits_point n fault d e))
-      by_test (suc m) d (inr e) =
-          ap leaf_count (tree_halves n fault m d e)
-          ∙ ap₂ (λ a b. a + b) (by_test m (low d) (cases_Bool (leaf_holds n fault (low d)))) (by_test m (high d) (cases_Bool (leaf_holds n fault (high d))))
-          ∙ sym (ap length (visits_halves n fault m d e) ∙ length-append (visits n fault m (low d)) (visits n fault m (high d)))
+  unfolding tree_of visits
+  leaf_count-tree_of zero d = elim (cases_Bool (leaf_holds n fault d)) [ inl e ↦ rw e refl | inr e ↦ rw e refl ]
+  leaf_count-tree_of (suc m) d = elim (cases_Bool (leaf_holds n fault d)) [
+    | inl e ↦ rw e refl
+    | inr e ↦ rw e (omega (arith, leaf_count-tree_of m (low d), leaf_count-tree_of m (high d), length-append (visits n fault m (low d)) (visits n fault m (high d))))
+  ]
 
-  split_on_need : ((d : Subcube) → LeafTells n fault d) → (m : ℕ) (d : Subcube) (l : ℕ) → first_stop l (visits n fault m d) ≡ None → (leaf_holds n fault d ≡ true) ⊎ (leaf_holds n fault d ≡ false) → SplitsOnNeed n fault d (tree_of n fault m d)
-  split_on_need tells m d l e (inl held) = subst (SplitsOnNeed n fault d) (sym (tree_leaf n fault m d held)) ((tells d).worked.0 held)
-  split_on_need tells zero d l e (inr unheld) = absurd (let point : first_stop l (detects d.point ∷ []) ≡ None = ap (first_stop l) (sym (visits_point n fault d unheld)) ∙ e in let s : ⊥ = cc in s)
-  split_on_need tells (suc m) d l e (inr unheld) =
-      let a = visits n fault m (low d) in
-      let b = visits n fault m (high d) in
-      let both : first_stop l (a ++ b) ≡ None = ap (first_stop l) (sym (visits_halves n fault m d unheld)) ∙ e in
-      let first : first_stop l a ≡ None = first_none l a b both in
-      subst (SplitsOnNeed n fault d) (sym (tree_halves n fault m d unheld)) (
-        λ leaf. false≢true (sym unheld ∙ (tells d).worked.1 leaf),
-        split_on_need tells m (low d) l first (cases_Bool (leaf_holds n fault (low d))),
-        split_on_need tells m (high d) (l + length a) (sym (first_stop-none l a b first) ∙ both) (cases_Bool (leaf_holds n fault (high d))),
-      )
+  split_on_need : ((d : Subcube) → LeafTells n fault d) → (m : ℕ) (d : Subcube) (l : ℕ) → first_stop l (visits n fault m d) ≡ None → SplitsOnNeed n fault d (tree_of n fault m d)
+  unfolding tree_of visits
+  split_on_need tells zero d l e = elim (cases_Bool (leaf_holds n fault d)) [
+    | inl held ↦ (tells d).worked.0 held
+    | inr unheld ↦ absurd (none-some (Differs d.point) (sym (rw unheld at e)))
+  ]
+  split_on_need tells (suc m) d l e = elim (cases_Bool (leaf_holds n fault d)) [
+    | inl held ↦ rw held ((tells d).worked.0 held)
+    | inr unheld ↦
+        let a = visits n fault m (low d) in
+        let b = visits n fault m (high d) in
+        let both : first_stop l (a ++ b) ≡ None = rw unheld at e in
+        let first : first_stop l a ≡ None = first_none l a b both in
+        let second : first_stop (l + length a) b ≡ None = sym (first_stop-append l a b ∙ ap (λ o. option_or o (first_stop (l + length a) b)) first) ∙ both in
+        rw unheld (λ leaf. false≢true (sym unheld ∙ (tells d).worked.1 leaf), split_on_need tells m (low d) l first, split_on_need tells m (high d) (l + length a) second)
+  ]
 
   pub found : ((d : Subcube) → LeafTells n fault d) → (old new : Growth) → old.word.items ≡ [] → old.leaves ≡ 0 → (stop : Option Found) → Grows n fault (length n.inputs - whole.depth) whole old new stop → IsFound n fault (unwrap_or stop (found_tree new.word))
   found tells old new empty none stop grows =
@@ -118,14 +109,10 @@ module _ (n : Network) (fault : Fault) where
           let all : length n.inputs + whole.depth ≡ length n.inputs = omega arith in
           let few : 0 + length (met n fault) ≤ LEAVES = few_visits 0 (met n fault) (omega arith) (sym e) in (
             tree_of n fault (length n.inputs) whole,
-            record { is_tree = IsTree-tree_of n fault (length n.inputs) whole all; on_need = split_on_need tells (length n.inputs) whole 0 (sym e) (cases_Bool (leaf_holds n fault whole)) },
+            record { is_tree = IsTree-tree_of n fault (length n.inputs) whole all; on_need = split_on_need tells (length n.inputs) whole 0 (sym e) },
             grows.grown.word ∙ ap (λ w. w ++ written (tree_of n fault (length n.inputs - whole.depth) whole)) empty ∙ ap (λ k. written (tree_of n fault k whole)) inputs,
             omega (arith, leaf_count-tree_of (length n.inputs) whole, few),
           )
-      by_stop (Some f) e grows = by_kind f (no_tree 0 (met n fault) f (sym e)) (sym e)
-        where
-          by_kind : (f : Found) → (f ≡ TooWide) ⊎ ((x : ℕ) × (f ≡ Differs x)) → first_stop 0 (met n fault) ≡ Some f → IsFound n fault f
-          by_kind f (inl wide) e = subst (IsFound n fault) (sym wide) (λ j l. wide_visits 0 (met n fault) (e ∙ ap Some wide) j (omega (arith, l)))
-          by_kind f (inr (x, differs)) e =
-              subst (IsFound n fault) (sym differs)
-              (let at = differing_visit 0 (met n fault) x (omega arith) (e ∙ ap Some differs) in (at.0, omega (arith, at.1.0), at.1.1, at.1.2))
+      by_stop (Some (found_tree w)) e grows = absurd (no_tree 0 (met n fault) (record { word = w; leaves = 0 }) (sym e))
+      by_stop (Some TooWide) e grows = λ j l. wide_visits 0 (met n fault) (sym e) j (omega (arith, l))
+      by_stop (Some (Differs x)) e grows = let at = differing_visit 0 (met n fault) x (omega arith) (sym e) in (at.0, omega (arith, at.1.0), at.1.1, at.1.2)

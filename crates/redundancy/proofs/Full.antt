@@ -1,9 +1,10 @@
 -- Whether a leaf holds can be worked out, and where all inputs are known it holds exactly where its point does not detect the fault.
 use Rattle.std.proofs.Common.{◌≡◌, ℕ, zero, suc, ◌+◌, ◌<◌, ◌≤◌, Bool, true, false, not, cond, ◌&&◌, inl, inr, List, length, refl, sym, ap, ◌∙◌, subst, arith, ltb}
 use Rattle.std.specs.Prelude.{Option, Some, None, slice_index, All, ◌⊎◌}
-use Rattle.std.proofs.lemmas.Bool.{false≢true, cases_Bool, and_from, or_cases, or_left, or_right, lt-ltb, cond-true}
+use Rattle.std.proofs.lemmas.Bool.{false≢true, cases_Bool, and_from, or_cases, or_left, or_right, lt-ltb, cond-true, not-true}
 use Rattle.ae_base.specs.Mask.{Set, has, differ, where_below}
 use Rattle.ae_base.proofs.Sets.{has-where_below}
+use Rattle.ae_base.proofs.Truth.{differ-same, equal_values}
 use Rattle.ae_net.specs.declared.net.Gate.{Gate}
 use Rattle.ae_net.specs.declared.net.Place.TheVariants.{Port}
 use Rattle.ae_net.specs.declared.net.Fault.{Fault}
@@ -20,7 +21,7 @@ use Rattle.redundancy.specs.Leaves.{IsSound, SoundFor, AreKnown, LeafTells}
 use Rattle.redundancy.specs.Simulation.{each_below, held, input_line, gate_line, line_of, IsSimulation}
 use Rattle.redundancy.specs.Worked.{known_lines, lines_in, is_known, are_same, is_untouched, holds_by, leaf_holds}
 use Rattle.redundancy.proofs.Simulated.{evaluation-of_simulation, only_simulation, IsSimulation-lines_in}
-use Rattle.redundancy.proofs.Sound.{each_at, port-sound, leaf-covers}
+use Rattle.redundancy.proofs.Sound.{each_at, each-sound, leaf-covers}
 use Rattle.redundancy.proofs.Tables.{table-decided}
 
 each_from : (n : ℕ) (p : ℕ → Bool) → ((k : ℕ) → k < n → p k ≡ true) → each_below n p ≡ true
@@ -31,17 +32,10 @@ each_from (suc n) p h = and_from _ _ (h n (omega arith)) (each_from n p (λ k l.
 
 known_is : (b : Bool) (k : Option Bool) → is_known b k ≡ true → k ≡ Some b
 known_is b None h = absurd (false≢true h)
-known_is true (Some true) h = refl
-known_is false (Some false) h = refl
-known_is true (Some false) h = absurd (false≢true h)
-known_is false (Some true) h = absurd (false≢true h)
+known_is b (Some c) h = ap Some (sym (equal_values b c (not-true _ h)))
 
 known_at : (b : Bool) (k : Option Bool) → k ≡ Some b → is_known b k ≡ true
-known_at b k e = ap (is_known b) e ∙ itself b
-  where
-    itself : (b : Bool) → not (differ b b) ≡ true
-    itself true = refl
-    itself false = refl
+known_at b k e = ap (is_known b) e ∙ ap not (differ-same b)
 
 same_is : (g h : Option Bool) → are_same g h ≡ true → (b : Bool) × (g ≡ Some b) × (h ≡ Some b)
 same_is None h e = absurd (false≢true e)
@@ -81,18 +75,6 @@ module _ (n : Network) (fault : Fault) (d : Subcube) (one : HasOneEvaluation (kn
 
 -- ---- where all inputs are known
 
-known_held : (t v : Bool) (l : Line) → AreKnown l → AreKnown (cond t (record { good = l.good; faulty = Some v; quiet = false }) l)
-known_held true v l h = (h.0, (v, refl))
-known_held false v l h = h
-
-known_input : (d : Subcube) (j : ℕ) → j < d.depth → AreKnown (input_line d j)
-known_input d j l =
-    let e : cond (ltb j d.depth) (Some (has d.point j)) None ≡ Some (has d.point j) = cond-true _ _ _ (lt-ltb j d.depth l) in
-    ((has d.point j, e), (has d.point j, e))
-
-known_gate : (gate : Gate) (p : ℕ → Line) → All (IsRowOf (length gate.pins)) gate.rows → ((k : ℕ) → k < length gate.pins → AreKnown (p k)) → AreKnown (gate_line gate p)
-known_gate gate p rows h = (table-decided gate (length gate.pins) (λ k. (p k).good) (λ k l. (h k l).0) rows, table-decided gate (length gate.pins) (λ k. (p k).faulty) (λ k l. (h k l).1) rows)
-
 -- tests with equal sets agree
 same_below : (n : ℕ) (p q : ℕ → Bool) → where_below n p ≡ where_below n q → (k : ℕ) → k < n → p k ≡ q k
 same_below n p q e k l =
@@ -103,9 +85,11 @@ untouched_known l a b ((g, e), (h, f)) s same = or_right _ _ (same_at g l.good l
 
 known_kept : (n : Network) (fault : Fault) (d : Subcube) → length n.inputs ≤ d.depth → IsKept (λ (l m : Line). AreKnown l) n (known_lines fault d) (known_lines fault d)
 known_kept n fault d full = record {
-  inputs = λ j l. known_input d j (omega arith);
-  tables = λ s gate is p q h. known_gate gate p is.rows h;
-  places = λ at l m h. known_held (same_place fault.place at) fault.value l h;
+  inputs = λ j l. let e = cond-true (ltb j d.depth) (Some (has d.point j)) None (lt-ltb j d.depth (omega arith)) in ((has d.point j, e), (has d.point j, e));
+  tables = λ s gate is p q h.
+      let rows = is.rows in
+      (table-decided gate (length gate.pins) (λ k. (p k).good) (λ k l. (h k l).0) rows, table-decided gate (length gate.pins) (λ k. (p k).faulty) (λ k l. (h k l).1) rows);
+  places = λ at l m h. elim (cases_Bool (same_place fault.place at)) [ inl t ↦ rw t (h.0, (fault.value, refl)) | inr t ↦ rw t h ];
 }
 
 -- what the laws of ae_net say of lines
@@ -127,7 +111,7 @@ module _ (n : Network) (fault : Fault) (d : Subcube) (valid : IsValid n) (laws :
       or_right _ _
       (each_from (length n.outputs) _ (λ o l.
       untouched_known (port_line n fault lines o) _ _ (known.ports o l)
-      (port-sound n fault d d.point lines w v laws.sound valid sim (λ j m. refl) good faulty o l)
+      ((each-sound n fault d d.point lines w v laws.sound valid sim (λ j m. refl) good faulty).ports o l)
       (same_below (length n.outputs) (λ o. seen (Some fault) (Port o) (value_of v (slice_index n.outputs o))) (λ o. value_of w (slice_index n.outputs o)) same o l)))
 
   -- a leaf that does not hold

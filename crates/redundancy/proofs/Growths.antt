@@ -1,6 +1,8 @@
 -- How the search for a tree goes on, subcube by subcube.
-use Rattle.std.proofs.Common.{◌≡◌, ℕ, zero, suc, ◌+◌, Bool, true, false, cond, List, [], ◌∷◌, ◌++◌, length, refl, sym, ap, ◌∙◌, arith, append_assoc, length-append, eqb}
-use Rattle.std.specs.Prelude.{Option, Some, None, IfNone}
+use Rattle.std.proofs.Common.{◌≡◌, ℕ, zero, suc, ◌+◌, Bool, true, false, inl, inr, List, [], ◌∷◌, ◌++◌, length, refl, sym, ap, ◌∙◌, arith, append_assoc, length-append}
+use Rattle.std.specs.Prelude.{◌⊎◌, Option, Some, None, IfNone}
+use Rattle.std.specs.Option.{option_or}
+use Rattle.std.proofs.lemmas.Bool.{cases_eq, eq-eqb, ne_eqb}
 use Rattle.ae_net.specs.declared.net.Fault.{Fault}
 use Rattle.ae_net.specs.Network.{Network}
 use Rattle.redundancy.specs.declared.TheConstants.{LEAVES}
@@ -18,47 +20,33 @@ use Rattle.redundancy.specs.Worked.{leaf_holds}
 
 -- ---- what ends the search in two parts
 
-pub first_stop-none : (l : ℕ) (a b : List Visit) → first_stop l a ≡ None → first_stop l (a ++ b) ≡ first_stop (l + length a) b
-first_stop-none l [] b e = let z : l + 0 ≡ l = omega arith in rw z refl
-first_stop-none l (holds ∷ a) b e = by_room (eqb l LEAVES) (first_stop-none (suc l) a b) e
-  where
-    by_room : (r : Bool) → (first_stop (suc l) a ≡ None → first_stop (suc l) (a ++ b) ≡ first_stop (suc l + length a) b) → cond r (Some TooWide) (first_stop (suc l) a) ≡ None → cond r (Some TooWide) (first_stop (suc l) (a ++ b)) ≡ first_stop (l + suc (length a)) b
-    by_room true h e = absurd (let s : ⊥ = cc in s)
-    by_room false h e = h e ∙ ap (λ k. first_stop k b) (let z : suc l + length a ≡ l + suc (length a) = omega arith in z)
-first_stop-none l (detects x ∷ a) b e = absurd (let s : ⊥ = cc in s)
+-- a leaf more, where there is room for it
+pub room : (l : ℕ) (vs : List Visit) → ((l ≡ LEAVES) × (first_stop l (holds ∷ vs) ≡ Some TooWide)) ⊎ ((l ≡ LEAVES → ⊥) × (first_stop l (holds ∷ vs) ≡ first_stop (suc l) vs))
+room l vs = elim (cases_eq l LEAVES) [ inl e ↦ inl (e, rw (eq-eqb l LEAVES e) refl) | inr e ↦ inr (e, rw (ne_eqb l LEAVES e) refl) ]
 
-pub first_stop-some : (l : ℕ) (a b : List Visit) (f : Found) → first_stop l a ≡ Some f → first_stop l (a ++ b) ≡ Some f
-first_stop-some l [] b f e = absurd (let s : ⊥ = cc in s)
-first_stop-some l (holds ∷ a) b f e = by_room (eqb l LEAVES) (first_stop-some (suc l) a b f) e
-  where
-    by_room : (r : Bool) → (first_stop (suc l) a ≡ Some f → first_stop (suc l) (a ++ b) ≡ Some f) → cond r (Some TooWide) (first_stop (suc l) a) ≡ Some f → cond r (Some TooWide) (first_stop (suc l) (a ++ b)) ≡ Some f
-    by_room true h e = e
-    by_room false h e = h e
-first_stop-some l (detects x ∷ a) b f e = e
+pub first_stop-append : (l : ℕ) (a b : List Visit) → first_stop l (a ++ b) ≡ option_or (first_stop l a) (first_stop (l + length a) b)
+first_stop-append l [] b = let z : l ≡ l + 0 = omega arith in ap (λ k. first_stop k b) z
+first_stop-append l (holds ∷ a) b = elim (cases_eq l LEAVES) [
+  | inl e ↦ rw (eq-eqb l LEAVES e) refl
+  | inr e ↦ rw (ne_eqb l LEAVES e) (first_stop-append (suc l) a b ∙ ap (λ k. option_or (first_stop (suc l) a) (first_stop k b)) (let z : suc l + length a ≡ l + suc (length a) = omega arith in z))
+]
+first_stop-append l (detects x ∷ a) b = refl
 
 -- ---- what is met
 
-pub visits_leaf : (n : Network) (fault : Fault) (m : ℕ) (d : Subcube) → leaf_holds n fault d ≡ true → visits n fault m d ≡ holds ∷ []
-unfolding visits
-visits_leaf n fault zero d e = rw e refl
-visits_leaf n fault (suc m) d e = rw e refl
+pub leaf_met : (n : Network) (fault : Fault) (m : ℕ) (d : Subcube) → leaf_holds n fault d ≡ true → (visits n fault m d ≡ holds ∷ []) × (tree_of n fault m d ≡ leaf)
+unfolding visits tree_of
+leaf_met n fault zero d e = (rw e refl, refl)
+leaf_met n fault (suc m) d e = (rw e refl, rw e refl)
 
 pub visits_point : (n : Network) (fault : Fault) (d : Subcube) → leaf_holds n fault d ≡ false → visits n fault 0 d ≡ detects d.point ∷ []
 unfolding visits
 visits_point n fault d e = rw e refl
 
-pub visits_halves : (n : Network) (fault : Fault) (m : ℕ) (d : Subcube) → leaf_holds n fault d ≡ false → visits n fault (suc m) d ≡ visits n fault m (low d) ++ visits n fault m (high d)
-unfolding visits
-visits_halves n fault m d e = rw e refl
-
-pub tree_leaf : (n : Network) (fault : Fault) (m : ℕ) (d : Subcube) → leaf_holds n fault d ≡ true → tree_of n fault m d ≡ leaf
-unfolding tree_of
-tree_leaf n fault zero d e = refl
-tree_leaf n fault (suc m) d e = rw e refl
-
-pub tree_halves : (n : Network) (fault : Fault) (m : ℕ) (d : Subcube) → leaf_holds n fault d ≡ false → tree_of n fault (suc m) d ≡ split (tree_of n fault m (low d)) (tree_of n fault m (high d))
-unfolding tree_of
-tree_halves n fault m d e = rw e refl
+pub halves_met : (n : Network) (fault : Fault) (m : ℕ) (d : Subcube) → leaf_holds n fault d ≡ false
+    → (visits n fault (suc m) d ≡ visits n fault m (low d) ++ visits n fault m (high d)) × (tree_of n fault (suc m) d ≡ split (tree_of n fault m (low d)) (tree_of n fault m (high d)))
+unfolding visits tree_of
+halves_met n fault m d e = (rw e refl, rw e refl)
 
 -- ---- steps
 
@@ -73,9 +61,9 @@ none_both (Some x) P Q g h = g
 module _ (n : Network) (fault : Fault) where
   pub grows_leaf : (m : ℕ) (d : Subcube) (old new : Growth) → leaf_holds n fault d ≡ true → (stop : Option Found) → AddsLeaf old new stop → Grows n fault m d old new stop
   grows_leaf m d old new e stop adds = record {
-    stop_is = adds.stop_is ∙ ap (first_stop old.leaves) (sym (visits_leaf n fault m d e));
+    stop_is = adds.stop_is ∙ ap (first_stop old.leaves) (sym (leaf_met n fault m d e).0);
     grown = none_weaker stop _ _
-        (λ (word, leaves). record { word = word ∙ ap (λ t. old.word.items ++ written t) (sym (tree_leaf n fault m d e)); leaves = leaves ∙ ap (λ vs. old.leaves + length vs) (sym (visits_leaf n fault m d e)) })
+        (λ (word, leaves). record { word = word ∙ ap (λ t. old.word.items ++ written t) (sym (leaf_met n fault m d e).1); leaves = leaves ∙ ap (λ vs. old.leaves + length vs) (sym (leaf_met n fault m d e).0) })
         (none_both stop _ _ adds.word adds.leaves);
   }
 
@@ -87,8 +75,9 @@ module _ (n : Network) (fault : Fault) where
     grows_stopped found new grows = record {
       stop_is =
           sym (ap (λ k. first_stop old.leaves (visits n fault k d)) more
-          ∙ ap (first_stop old.leaves) (visits_halves n fault m d e)
-          ∙ first_stop-some old.leaves (visits n fault m (low d)) (visits n fault m (high d)) found (ap (λ l. first_stop l (visits n fault m (low d))) (sym adds.leaves) ∙ sym grows.stop_is));
+          ∙ ap (first_stop old.leaves) (halves_met n fault m d e).0
+          ∙ first_stop-append old.leaves (visits n fault m (low d)) (visits n fault m (high d))
+          ∙ ap (λ o. option_or o (first_stop (old.leaves + length (visits n fault m (low d))) (visits n fault m (high d)))) (ap (λ l. first_stop l (visits n fault m (low d))) (sym adds.leaves) ∙ sym grows.stop_is));
       grown = tt;
     }
 
@@ -97,11 +86,11 @@ module _ (n : Network) (fault : Fault) where
         let a = visits n fault m (low d) in
         let b = visits n fault m (high d) in
         let before : first_stop old.leaves a ≡ None = ap (λ l. first_stop l a) (sym adds.leaves) ∙ sym first.stop_is in
-        let all : visits n fault k d ≡ a ++ b = ap (λ k. visits n fault k d) more ∙ visits_halves n fault m d e in
+        let all : visits n fault k d ≡ a ++ b = ap (λ k. visits n fault k d) more ∙ (halves_met n fault m d e).0 in
         let count : mid.leaves ≡ old.leaves + length a = first.grown.leaves ∙ ap (λ l. l + length a) adds.leaves in
-        let tree : tree_of n fault k d ≡ split (tree_of n fault m (low d)) (tree_of n fault m (high d)) = ap (λ k. tree_of n fault k d) more ∙ tree_halves n fault m d e in
+        let tree : tree_of n fault k d ≡ split (tree_of n fault m (low d)) (tree_of n fault m (high d)) = ap (λ k. tree_of n fault k d) more ∙ (halves_met n fault m d e).1 in
         record {
-          stop_is = second.stop_is ∙ ap (λ l. first_stop l b) count ∙ sym (ap (first_stop old.leaves) all ∙ first_stop-none old.leaves a b before);
+          stop_is = second.stop_is ∙ ap (λ l. first_stop l b) count ∙ sym (ap (first_stop old.leaves) all ∙ first_stop-append old.leaves a b ∙ ap (λ o. option_or o (first_stop (old.leaves + length a) b)) before);
           grown = none_weaker stop _ _
               (λ grown. record {
                 word = grown.word ∙ words (old.word.items) (start.word.items) (mid.word.items) (written (tree_of n fault m (low d))) (written (tree_of n fault m (high d))) adds.word first.grown.word ∙ ap (λ t. old.word.items ++ written t) (sym tree);

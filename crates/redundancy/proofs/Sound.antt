@@ -1,8 +1,8 @@
 -- What a simulation says of a signal holds in the runs at every point of the subcube.
 use Rattle.std.proofs.Common.{◌≡◌, ℕ, zero, suc, ◌+◌, ◌<◌, Bool, true, false, cond, inl, inr, List, length, refl, sym, ap, ap₂, ◌∙◌, arith, ltb, eqb, eqb-true}
 use Rattle.std.specs.Prelude.{Option, Some, None, is_some, slice_get, slice_index, ◌⊎◌}
-use Rattle.std.proofs.lemmas.Bool.{false≢true, cases_eq, and_parts, or_cases, ltb-true}
-use Rattle.std.proofs.lemmas.Option.{slice_get_within, get_or_from_slice_get}
+use Rattle.std.proofs.lemmas.Bool.{false≢true, cases_Bool, cases_eq, and_parts, or_cases, ltb-true}
+use Rattle.std.proofs.lemmas.Option.{none-some, slice_get_within, get_or_from_slice_get}
 use Rattle.ae_base.specs.Mask.{Set, has, where_below}
 use Rattle.ae_base.proofs.Below.{where_below_agree}
 use Rattle.ae_net.specs.declared.net.Gate.{Gate}
@@ -26,12 +26,11 @@ use Rattle.redundancy.proofs.Tables.{table-known}
 
 -- ---- one line
 
-sound_held : (t v : Bool) (l : Line) (a b : Bool) → IsSound l a b → IsSound (cond t (record { good = l.good; faulty = Some v; quiet = false }) l) a (cond t v b)
-sound_held true v l a b s = record { good = s.good; faulty = λ c e. cc; quiet = λ q. absurd (false≢true q) }
-sound_held false v l a b s = s
-
 held-sound : (fault : Fault) (at : Place) (l : Line) (a b : Bool) → IsSound l a b → IsSound (held fault at l) (seen None at a) (seen (Some fault) at b)
-held-sound fault at l a b s = sound_held (same_place fault.place at) fault.value l a b s
+held-sound fault at l a b s = elim (cases_Bool (same_place fault.place at)) [
+  | inl t ↦ rw t (record { good = s.good; faulty = λ c e. cc; quiet = λ q. absurd (false≢true q) })
+  | inr t ↦ rw t s
+]
 
 known_when : (t v a : Bool) → (t ≡ true → a ≡ v) → IsAs (cond t (Some v) None) a
 known_when true v a h c e = h refl ∙ cc
@@ -49,19 +48,8 @@ each_at (suc n) p h k l = elim (cases_eq k n) [ inl e ↦ ap p e ∙ (and_parts 
 abbrev alone : Line → Known
 alone l = cond l.quiet l.good None
 
-alone_good : (l : Line) (a b : Bool) → IsSound l a b → IsAs (alone l) a
-alone_good l a b s = by_quiet l.quiet
-  where
-    by_quiet : (q : Bool) → IsAs (cond q l.good None) a
-    by_quiet true = s.good
-    by_quiet false = λ c e. absurd (let w : ⊥ = cc in w)
-
-alone_bad : (l : Line) (a b : Bool) → IsSound l a b → IsAs (alone l) b
-alone_bad l a b s = by_quiet l.quiet s.quiet
-  where
-    by_quiet : (q : Bool) → (q ≡ true → b ≡ a) → IsAs (cond q l.good None) b
-    by_quiet true h = λ c e. h refl ∙ s.good c e
-    by_quiet false h = λ c e. absurd (let w : ⊥ = cc in w)
+alone_as : (l : Line) (v : Bool) → (l.quiet ≡ true → IsAs l.good v) → IsAs (alone l) v
+alone_as l v h c e = elim (cases_Bool l.quiet) [ inl q ↦ h q c (rw q at e) | inr q ↦ absurd (none-some c (rw q at e)) ]
 
 some_known : (k : Option Bool) → is_some k ≡ true → (c : Bool) × (k ≡ Some c)
 some_known None h = absurd (false≢true h)
@@ -73,15 +61,14 @@ gate-sound gate p a b h =
     record {
       good = table-known gate n (λ k. (p k).good) a (λ k l. (h k l).good);
       faulty = table-known gate n (λ k. (p k).faulty) b (λ k l. (h k l).faulty);
-      quiet = λ q. by_cause (or_cases _ _ q);
+      quiet = λ q. elim (or_cases _ _ q) [
+        | inl all ↦ ap (table gate) (where_below_agree n b a (λ k l. (h k l).quiet (each_at n (λ k. (p k).quiet) all k l)))
+        | inr some ↦
+            let known = some_known _ some in
+            table-known gate n (λ k. alone (p k)) b (λ k l. alone_as (p k) (b k) (λ q c e. (h k l).quiet q ∙ (h k l).good c e)) known.0 known.1
+            ∙ sym (table-known gate n (λ k. alone (p k)) a (λ k l. alone_as (p k) (a k) (λ q. (h k l).good)) known.0 known.1)
+      ];
     }
-  where
-    by_cause : (each_below (length gate.pins) (λ k. (p k).quiet) ≡ true) ⊎ (is_some (known_table gate (known_pins (length gate.pins) (λ k. alone (p k)))) ≡ true) → table gate (where_below (length gate.pins) b) ≡ table gate (where_below (length gate.pins) a)
-    by_cause (inl all) = ap (table gate) (where_below_agree (length gate.pins) b a (λ k l. (h k l).quiet (each_at (length gate.pins) (λ k. (p k).quiet) all k l)))
-    by_cause (inr some) =
-        let known = some_known _ some in
-        table-known gate (length gate.pins) (λ k. alone (p k)) b (λ k l. alone_bad (p k) (a k) (b k) (h k l)) (known.0) (known.1)
-        ∙ sym (table-known gate (length gate.pins) (λ k. alone (p k)) a (λ k l. alone_good (p k) (a k) (b k) (h k l)) (known.0) (known.1))
 
 -- ---- places
 
@@ -91,13 +78,9 @@ same-place-is (Pin i k) (Pin j l) h = let both = and_parts (eqb i j) (eqb k l) h
 same-place-is (Port o) (Port p) h = ap (λ o. Port o) (eqb-true o p h)
 same-place-is _ _ h = absurd (false≢true h)
 
-kept_value : (t v a b : Bool) → (t ≡ true → a ≡ v) → b ≡ a → cond t v b ≡ a
-kept_value true v a b h e = sym (h refl)
-kept_value false v a b h e = e
-
 -- a place whose value is the stuck value already sees the same with the fault
 seen_inactive : (fault : Fault) (at : Place) (a b : Bool) → (same_place fault.place at ≡ true → a ≡ fault.value) → b ≡ a → seen (Some fault) at b ≡ a
-seen_inactive fault at a b h e = kept_value (same_place fault.place at) fault.value a b h e
+seen_inactive fault at a b h e = elim (cases_Bool (same_place fault.place at)) [ inl t ↦ rw t (sym (h t)) | inr t ↦ rw t e ]
 
 -- ---- all signals, at a point of the subcube
 
@@ -110,25 +93,16 @@ pairs fault x = record {
   seen = λ at v. (seen None at v.0, seen (Some fault) at v.1);
 }
 
-two_runs : (n : Network) (fault : Fault) (x : Set) (w v : List Bool) → IsRun n None x w → IsRun n (Some fault) x v → IsEvaluation (pairs fault x) n (λ s. (value_of w s, value_of v s))
-two_runs n fault x w v good faulty = record {
-  inputs = λ j l. ap₂ (λ a b. (a, b)) (good.inputs j l) (faulty.inputs j l);
-  gates = λ i gate there. ap₂ (λ a b. (a, b)) (good.gates i gate there) (faulty.gates i gate there);
-}
-
-soundness_kept : (n : Network) (fault : Fault) (d : Subcube) (x : Set) → IsIn x d → IsKept SoundFor n (known_lines fault d) (pairs fault x)
-soundness_kept n fault d x within = record {
-  inputs = λ j l. input-sound d x j within;
-  tables = λ s gate is p q h. gate-sound gate p (λ k. (q k).0) (λ k. (q k).1) h;
-  places = λ at l v h. held-sound fault at l v.0 v.1 h;
-}
-
 module _ (n : Network) (fault : Fault) (d : Subcube) (x : Set) (lines : List Line) (w v : List Bool) (law : HoldsWhereKept SoundFor) (valid : IsValid n) (sim : IsSimulation n fault d lines) (within : IsIn x d) (good : IsRun n None x w) (faulty : IsRun n (Some fault) x v) where
   pub each-sound : HoldsAtEach SoundFor n (known_lines fault d) (pairs fault x) (line_of lines) (λ s. (value_of w s, value_of v s))
-  each-sound = law n (known_lines fault d) (pairs fault x) (line_of lines) (λ s. (value_of w s, value_of v s)) valid (soundness_kept n fault d x within) (evaluation-of_simulation n fault d lines sim) (two_runs n fault x w v good faulty)
-
-  pub port-sound : (o : ℕ) → o < length n.outputs → IsSound (port_line n fault lines o) (value_of w (slice_index n.outputs o)) (seen (Some fault) (Port o) (value_of v (slice_index n.outputs o)))
-  port-sound o l = each-sound.ports o l
+  each-sound = law n (known_lines fault d) (pairs fault x) (line_of lines) (λ s. (value_of w s, value_of v s)) valid (record {
+    inputs = λ j l. input-sound d x j within;
+    tables = λ s gate is p q h. gate-sound gate p (λ k. (q k).0) (λ k. (q k).1) h;
+    places = λ at l v h. held-sound fault at l v.0 v.1 h;
+  }) (evaluation-of_simulation n fault d lines sim) (record {
+    inputs = λ j l. ap₂ (λ a b. (a, b)) (good.inputs j l) (faulty.inputs j l);
+    gates = λ i gate there. ap₂ (λ a b. (a, b)) (good.gates i gate there) (faulty.gates i gate there);
+  })
 
   -- the fault's line has the stuck value without the fault
   abbrev IsInactive : Type 0
@@ -140,14 +114,6 @@ module _ (n : Network) (fault : Fault) (d : Subcube) (x : Set) (lines : List Lin
   stem_site : IsInactive → (s : ℕ) → s < signals n → same_place fault.place (Stem s) ≡ true → value_of w s ≡ fault.value
   stem_site known s l e = site_value known s l (ap (line_at n lines) (same-place-is fault.place (Stem s) e))
 
-  pin_site : IsInactive → (i : ℕ) (gate : Gate) → slice_get n.gates i ≡ Some gate → (k : ℕ) → k < length gate.pins → same_place fault.place (Pin i k) ≡ true → value_of w (slice_index gate.pins k) ≡ fault.value
-  pin_site known i gate there k l e =
-      site_value known (slice_index gate.pins k) (omega (arith, (valid.gates i gate there).earlier k 0 l, slice_get_within n.gates i gate there))
-      (ap (line_at n lines) (same-place-is fault.place (Pin i k) e) ∙ ap (λ g. line_of lines (slice_index g.pins k)) (get_or_from_slice_get n.gates i gate _ there))
-
-  port_site : IsInactive → (o : ℕ) → o < length n.outputs → same_place fault.place (Port o) ≡ true → value_of w (slice_index n.outputs o) ≡ fault.value
-  port_site known o l e = site_value known (slice_index n.outputs o) ((valid.ports o 0 l).1) (ap (line_at n lines) (same-place-is fault.place (Port o) e))
-
   -- the run without the fault is then one with it
   inactive_run : IsInactive → IsRun n (Some fault) x w
   inactive_run known = record {
@@ -156,19 +122,21 @@ module _ (n : Network) (fault : Fault) (d : Subcube) (x : Set) (lines : List Lin
     gates = λ i gate there.
         good.gates i gate there
         ∙ sym (seen_inactive fault (Stem (length n.inputs + i)) _ _ (λ e. sym (good.gates i gate there) ∙ stem_site known (length n.inputs + i) (omega (arith, slice_get_within n.gates i gate there)) e)
-        (ap (table gate) (where_below_agree (length gate.pins) _ _ (λ k l. seen_inactive fault (Pin i k) _ _ (pin_site known i gate there k l) refl))));
+        (ap (table gate) (where_below_agree (length gate.pins) _ _ (λ k l.
+        seen_inactive fault (Pin i k) _ _ (λ e. site_value known (slice_index gate.pins k) (omega (arith, (valid.gates i gate there).earlier k 0 l, slice_get_within n.gates i gate there))
+        (ap (line_at n lines) (same-place-is fault.place (Pin i k) e) ∙ ap (λ g. line_of lines (slice_index g.pins k)) (get_or_from_slice_get n.gates i gate _ there))) refl))));
   }
-
-  port_same : (o : ℕ) → o < length n.outputs → IsUntouched (port_line n fault lines o) → seen (Some fault) (Port o) (value_of v (slice_index n.outputs o)) ≡ value_of w (slice_index n.outputs o)
-  port_same o l (inl quiet) = (port-sound o l).quiet quiet
-  port_same o l (inr (b, g, h)) = (port-sound o l).faulty b h ∙ sym ((port-sound o l).good b g)
 
   -- what the leaf shows leaves each port as it is without the fault
   pub ports_same : HasOneRun n (Some fault) x → ((line_at n lines fault.place).good ≡ Some fault.value) ⊎ ((o : ℕ) → o < length n.outputs → IsUntouched (port_line n fault lines o)) → ports_of n (Some fault) v ≡ ports_of n None w
   ports_same run (inl known) =
       let same : v ≡ w = run.2 v faulty ∙ sym (run.2 w (inactive_run known)) in
-      where_below_agree (length n.outputs) _ _ (λ o l. seen_inactive fault (Port o) _ _ (port_site known o l) (ap (λ u. value_of u (slice_index n.outputs o)) same))
-  ports_same run (inr untouched) = where_below_agree (length n.outputs) _ _ (λ o l. port_same o l (untouched o l))
+      where_below_agree (length n.outputs) _ _ (λ o l.
+      seen_inactive fault (Port o) _ _ (λ e. site_value known (slice_index n.outputs o) ((valid.ports o 0 l).1) (ap (line_at n lines) (same-place-is fault.place (Port o) e))) (ap (λ u. value_of u (slice_index n.outputs o)) same))
+  ports_same run (inr untouched) = where_below_agree (length n.outputs) _ _ (λ o l. elim (untouched o l) [
+    | inl quiet ↦ (each-sound.ports o l).quiet quiet
+    | inr (b, g, h) ↦ (each-sound.ports o l).faulty b h ∙ sym ((each-sound.ports o l).good b g)
+  ])
 
 -- a leaf that holds covers every point in it
 pub leaf-covers : (n : Network) (fault : Fault) (d : Subcube) (x : Set) → HoldsWhereKept SoundFor → HasOneRun n (Some fault) x → IsValid n → LeafHolds n fault d → IsIn x d → Detects n fault x → ⊥
