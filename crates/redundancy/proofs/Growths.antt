@@ -1,5 +1,5 @@
 -- How the search for a tree goes on, subcube by subcube.
-use Rattle.std.proofs.Common.{◌≡◌, ℕ, zero, suc, ◌+◌, Bool, true, false, inl, inr, List, [], ◌∷◌, ◌++◌, length, refl, sym, ap, ◌∙◌, arith, append_assoc, length-append}
+use Rattle.std.proofs.Common.{◌≡◌, ℕ, zero, suc, ◌+◌, ◌-◌, ◌<◌, Bool, true, false, inl, inr, List, [], ◌∷◌, ◌++◌, length, refl, sym, ap, ◌∙◌, arith, append_assoc, length-append}
 use Rattle.std.specs.Prelude.{◌⊎◌, Option, Some, None, IfNone}
 use Rattle.std.specs.Option.{option_or}
 use Rattle.std.proofs.lemmas.Bool.{cases_eq, eq-eqb, ne_eqb}
@@ -70,7 +70,16 @@ module _ (n : Network) (fault : Fault) where
   pub grows_point : (m : ℕ) (d : Subcube) (old new : Growth) → leaf_holds n fault d ≡ false → m ≡ 0 → Grows n fault m d old new (Some (Differs d.point))
   grows_point m d old new e none = record { stop_is = ap (first_stop old.leaves) (sym (ap (λ k. visits n fault k d) none ∙ visits_point n fault d e)); grown = tt }
 
-  module _ (m k : ℕ) (d : Subcube) (old start mid : Growth) (e : leaf_holds n fault d ≡ false) (more : k ≡ suc m) (adds : AddsSplit old start) where
+  module _ (d : Subcube) (old start mid : Growth) (e : leaf_holds n fault d ≡ false) (deeper : d.depth < length n.inputs) (adds : AddsSplit old start) where
+    abbrev m : ℕ
+    m = length n.inputs - suc d.depth
+
+    abbrev k : ℕ
+    k = length n.inputs - d.depth
+
+    more : k ≡ suc m
+    more = omega arith
+
     pub grows_stopped : (found : Found) (new : Growth) → Grows n fault m (low d) start mid (Some found) → Grows n fault k d old new (Some found)
     grows_stopped found new grows = record {
       stop_is =
