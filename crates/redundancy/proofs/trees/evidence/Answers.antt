@@ -1,5 +1,5 @@
 use Rattle.std.proofs.Common.{refl}
-use Rattle.redundancy.proofs.Findings.{found}
+use Rattle.redundancy.proofs.Growths.{found}
 use Rattle.redundancy.proofs.trees.evidence.Goals as goal
 
 pub returns : goal.returns
