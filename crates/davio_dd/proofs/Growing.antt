@@ -5,7 +5,8 @@ use Rattle.std.proofs.Math.ListN.{get_or-append}
 use Rattle.std.proofs.Math.Seq.{get_or-append_seam}
 use Rattle.std.proofs.lemmas.List.{append-nil}
 use Rattle.std.proofs.lemmas.Option.{slice_get_within, slice_get-get_or, get_or_from_slice_get, none-some, same_Some}
-use Rattle.std.proofs.lemmas.Bool.{cases_lt, false≢true, or_left, or_right, and_right}
+use Rattle.std.proofs.lemmas.List.Folds.{list_any_at}
+use Rattle.std.proofs.lemmas.Bool.{cases_lt, cases_Bool, false≢true, or_left, or_right, and_right}
 use Rattle.ae_base.specs.Mask.{Set, differ, empty}
 use Rattle.ae_base.proofs.Truth.{differ-false}
 use Rattle.ae_base.specs.Cube.{Signs}
@@ -14,15 +15,11 @@ use Rattle.davio_dd.specs.declared.node.Node.{Node}
 use Rattle.davio_dd.specs.declared.node.Question.{Question}
 use Rattle.davio_dd.specs.Diagram.{place_value, place_terms, top, IsDiagram, IsPlace, IsAnswer, AllRight}
 use Rattle.davio_dd.specs.Scratch.{Grows, IsAdded, IsLater}
-use Rattle.davio_dd.proofs.Places.{entry-grows, value-zero, value-node, top-node}
+use Rattle.davio_dd.proofs.Places.{entry-grows, value-zero, value-node}
 
 pub top-grows : (n : ℕ) (before after : List Node) → Grows before after → (at : ℕ) → IsPlace before at → top n after at ≡ top n before at
 unfolding top
 top-grows n before after g at place = ap (λ (ns : List Node). top n ns at) g.1 ∙ entry-grows n n _ before g.0 at place
-
-pub value-grows : (p : Signs) (before after : List Node) → Grows before after → (at : ℕ) → IsPlace before at → (x : Set) → place_value p after at x ≡ place_value p before at x
-unfolding place_value
-value-grows p before after g at place x = ap (λ (ns : List Node). place_value p ns at x) g.1 ∙ entry-grows false true _ before g.0 at place
 
 pub terms-grows : (before after : List Node) → Grows before after → (at : ℕ) → IsPlace before at → place_terms after at ≡ place_terms before at
 unfolding place_terms
@@ -80,25 +77,6 @@ diagram-added n before node after is low high some below before_low before_high 
 
 -- ---- what was right stays right
 
-pub answer-grows : (op : Bool → Bool → Bool) (p : Signs) (before after : List Node) → Grows before after → (a b r : ℕ) → IsAnswer op p before a b r → IsAnswer op p after a b r
-answer-grows op p before after g a b r h =
-    let more = length-grows before after g in
-    let ta = top-grows p.n before after g a h.left_place in
-    let tb = top-grows p.n before after g b h.right_place in
-    let tr = top-grows p.n before after g r h.place in
-    record {
-      left_place = omega (arith, h.left_place);
-      right_place = omega (arith, h.right_place);
-      place = omega (arith, h.place);
-      is = λ x. value-grows p before after g r h.place x ∙ h.is x ∙ ap₂ op (sym (value-grows p before after g a h.left_place x)) (sym (value-grows p before after g b h.right_place x));
-      over = λ j la lb. omega (arith, h.over j (omega arith) (omega arith));
-    }
-
-pub right-grows : (op : Bool → Bool → Bool) (p : Signs) (before after : List Node) (known : Question → Option ℕ) → Grows before after → AllRight op p before known → AllRight op p after known
-right-grows op p before after known g right q r got = answer-grows op p before after g q.left q.right r (right q r got)
-
--- ---- the polarity too
-
 -- the polarity is the same, and the list begins with the other
 abbrev pub Moved : Signs → List Node → Signs → List Node → Type 0
 Moved p n q m = (q ≡ p) × Grows n m
@@ -113,10 +91,21 @@ pub top-moved : (p q : Signs) (n m : List Node) → Moved p n q m → (at : ℕ)
 top-moved p q n m (e, g) at place = ap (λ (s : Signs). top s.n m at) e ∙ top-grows p.n n m g at place
 
 pub value-moved : (p q : Signs) (n m : List Node) → Moved p n q m → (at : ℕ) → IsPlace n at → (x : Set) → place_value q m at x ≡ place_value p n at x
-value-moved p q n m (e, g) at place x = ap (λ (s : Signs). place_value s m at x) e ∙ value-grows p n m g at place x
+unfolding place_value
+value-moved p q n m (e, g) at place x = ap₂ (λ (s : Signs) (ns : List Node). place_value s ns at x) e g.1 ∙ entry-grows false true _ n g.0 at place
 
 pub answer-moved : (op : Bool → Bool → Bool) (p q : Signs) (n m : List Node) → Moved p n q m → (a b r : ℕ) → IsAnswer op p n a b r → IsAnswer op q m a b r
-answer-moved op p q n m (e, g) a b r is = rw e (answer-grows op p n m g a b r is)
+answer-moved op p q n m moved a b r h = record {
+  left_place = place-moved p q n m moved a h.left_place;
+  right_place = place-moved p q n m moved b h.right_place;
+  place = place-moved p q n m moved r h.place;
+  is = λ x. value-moved p q n m moved r h.place x ∙ h.is x ∙ ap₂ op (sym (value-moved p q n m moved a h.left_place x)) (sym (value-moved p q n m moved b h.right_place x));
+  over = λ j la lb.
+      omega (arith, top-moved p q n m moved r h.place, h.over j (omega (arith, la, top-moved p q n m moved a h.left_place)) (omega (arith, lb, top-moved p q n m moved b h.right_place)));
+}
+
+pub right-grows : (op : Bool → Bool → Bool) (p : Signs) (before after : List Node) (known : Question → Option ℕ) → Grows before after → AllRight op p before known → AllRight op p after known
+right-grows op p before after known g right q r got = answer-moved op p p before after (refl, g) q.left q.right r (right q r got)
 
 pub later-moved : (p q : Signs) (n m : List Node) → Moved p n q m → (i at : ℕ) → IsLater p.n n i at → IsLater q.n m i at
 later-moved p q n m moved i at is = record { place = place-moved p q n m moved at is.place; over = omega (arith, is.over, top-moved p q n m moved at is.place) }
@@ -128,33 +117,16 @@ pub node-value : (p : Signs) (before after : List Node) (k : ℕ) (node : Node) 
 node-value p before after k node is g got low high at e x =
     ap (λ a. place_value p after a x) e
     ∙ value-node p p.n after is k node got x
-    ∙ ap₂ (λ a b. differ a (literal p node.input x && b)) (value-grows p before after g node.low low x) (value-grows p before after g node.high high x)
-
-pub node-top : (n : ℕ) (after : List Node) (k : ℕ) (node : Node) → IsDiagram n after → slice_get after k ≡ Some node → (at : ℕ) → at ≡ k + 2 → top n after at ≡ node.input
-node-top n after k node is got at e = ap (top n after) e ∙ top-node n after is k node got
+    ∙ ap₂ (λ a b. differ a (literal p node.input x && b)) (value-moved p p before after (refl, g) node.low low x) (value-moved p p before after (refl, g) node.high high x)
 
 -- ---- a set after an insert
 
 any-got : (h : Node → Bool) (ns : List Node) (k : ℕ) (m : Node) → slice_get ns k ≡ Some m → h m ≡ true → list_any h ns ≡ true
-any-got h [] k m got e = absurd (none-some m got)
-any-got h (n ∷ ns) zero m got e = or_left _ _ (ap h (same_Some n m got) ∙ e)
-any-got h (n ∷ ns) (suc k) m got e = or_right _ _ (any-got h ns k m got e)
+any-got h ns k m got e = list_any_at h ns k m (slice_get_within ns k m got) (ap h (get_or_from_slice_get ns k m m got) ∙ e)
 
 pub added-key : (eq : Node → Node → Bool) → ((n : Node) → eq n n ≡ true) → (before : List Node) (node : Node) (after : List Node)
     → after ≡ cond (list_any (eq node) before) before (before ++ node ∷ []) → IsAdded before node after
-added-key eq self before node after h = by_test (list_any (eq node) before) refl h
-  where
-    by_test : (b : Bool) → list_any (eq node) before ≡ b → after ≡ cond b before (before ++ node ∷ []) → IsAdded before node after
-    by_test true e h = inl h
-    by_test false e h = inr (λ k got. false≢true (sym e ∙ any-got (eq node) before k node got (self node)), h)
-
--- ---- the operations at constants
-
-pub node-zero : (p : Signs) (nodes : List Node) (node : Node) (x : Set) → node.high ≡ 0 → place_value p nodes node.low x ≡ differ (place_value p nodes node.low x) (literal p node.input x && place_value p nodes node.high x)
-node-zero p nodes node x e =
-    sym (
-    ap (λ (h : ℕ). differ (place_value p nodes node.low x) (literal p node.input x && place_value p nodes h x)) e
-    ∙ ap (λ b. differ (place_value p nodes node.low x) (literal p node.input x && b)) (value-zero p nodes x)
-    ∙ ap (differ (place_value p nodes node.low x)) (and_right _ _ refl)
-    ∙ differ-false _
-    )
+added-key eq self before node after h = elim (cases_Bool (list_any (eq node) before)) [
+  | inl e ↦ inl (rw e at h)
+  | inr e ↦ inr (λ k got. false≢true (sym e ∙ any-got (eq node) before k node got (self node)), rw e at h)
+]

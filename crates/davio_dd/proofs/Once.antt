@@ -1,157 +1,76 @@
--- Lists in which no term stands twice: put in term order they are as long, and each EXOR over them stays. Such a list that is sorted is in
--- term order.
-use Rattle.std.proofs.Common.{◌≡◌, ◌≢◌, ℕ, zero, suc, ◌+◌, ◌<◌, ◌≤◌, Bool, true, false, not, ◌&&◌, ◌||◌, cond, inl, inr, List, [], ◌∷◌, ◌++◌, map, length, get_or, refl, sym, ap, ap₂, ◌∙◌, eqb, ltb, eqb-true, eq-eqb, ne_eqb, lt-ltb, arith}
-use Rattle.std.specs.Prelude.{count_by}
-use Rattle.std.specs.List.{list_any}
+-- Lists in which no term stands twice: put in term order they have the same terms, and where such a list is sorted it is in term order.
+use Rattle.std.proofs.Common.{◌≡◌, ℕ, ◌+◌, ◌<◌, ◌≤◌, Bool, true, false, inl, inr, List, [], ◌∷◌, ◌++◌, map, length, get_or, sym, ap, ◌∙◌, eqb, eqb-true, eq-eqb, ne_eqb, arith}
+use Rattle.std.specs.List.{AllByRecursion, IsDistinct}
 use Rattle.std.specs.List.Sorted.{IsSorted, IsPermutation}
 use Rattle.std.specs.Ordering.{is_lt}
-use Rattle.std.proofs.lemmas.Bool.{cases_eq, cases_Bool, false≢true, or_parts, or_left}
-use Rattle.std.proofs.lemmas.List.Folds.{list_any_at}
-use Rattle.std.proofs.lemmas.List.Sorted.{sorted_far, ranks_by, sum_by-IsPermutation}
-use Rattle.std.proofs.lemmas.List.Sums.{sum_by-cons, sum_by-append}
-use Rattle.ae_base.specs.Mask.{Set, differ, has, with, without, cmp_terms}
-use Rattle.ae_base.specs.Terms.{IsInOrder, exor_of, placed, in_order}
+use Rattle.std.proofs.lemmas.Bool.{cases_eq, cases_Bool, eqb-false, false≢true}
+use Rattle.std.proofs.lemmas.List.Elements.{All-from_recursion, recursion_from_All}
+use Rattle.std.proofs.lemmas.List.Sorted.{sorted_far, ranks_by, list_any-IsPermutation, All-permutation, IsPermutation-refl, IsPermutation-sym, IsPermutation-trans, IsPermutation-cons, IsPermutation-middle}
+use Rattle.std.proofs.lemmas.Map.Keys.{IsDistinct-IsPermutation, apart_from_distinct}
+use Rattle.ae_base.specs.Mask.{Set, has, with, cmp_terms}
+use Rattle.ae_base.specs.Terms.{IsInOrder, placed, in_order}
+use Rattle.ae_base.proofs.Distinct.{each-append, each-map, each_always}
 use Rattle.ae_base.proofs.Order.{cmp_terms_total}
-use Rattle.ae_base.proofs.Sets.{same_set, has-with, has-without}
-use Rattle.ae_base.proofs.Truth.{same_truth, differ-front}
+use Rattle.ae_base.proofs.Points.{put-same, put-other}
+use Rattle.ae_base.proofs.Sets.{same_set}
+use Rattle.ae_base.proofs.Truth.{same_truth}
 use Rattle.ae_base.proofs.InOrder.{less_from_sorted, in_order-order, in_order-same, any-in_order}
 
--- how often a term stands in a list
-abbrev pub times : Set → List Set → ℕ
-times t ts = count_by (λ u. eqb u t) ts
-
 abbrev pub IsOnce : List Set → Type 0
-IsOnce ts = (t : Set) → times t ts ≤ 1
+IsOnce ts = IsDistinct eqb ts
 
-times-cons : (t u : Set) (us : List Set) → times t (u ∷ us) ≡ cond (eqb u t) 1 0 + times t us
-times-cons t u us = sum_by-cons (λ u. cond (eqb u t) 1 0) u us
-
-any-times : (t : Set) (ts : List Set) → list_any (λ u. eqb u t) ts ≡ ltb 0 (times t ts)
-any-times t [] = refl
-any-times t (u ∷ us) = by_head (eqb u t) (any-times t us) ∙ ap (ltb 0) (sym (times-cons t u us))
-  where
-    by_head : (b : Bool) → list_any (λ u. eqb u t) us ≡ ltb 0 (times t us) → (b || list_any (λ u. eqb u t) us) ≡ ltb 0 (cond b 1 0 + times t us)
-    by_head true h = sym (lt-ltb 0 (1 + times t us) (omega arith))
-    by_head false h = h ∙ ap (ltb 0) (omega arith)
-
-once-tail : (u : Set) (us : List Set) → IsOnce (u ∷ us) → IsOnce us
-once-tail u us h t = omega (arith, h t, times-cons t u us)
-
-pub once-one : (u : Set) → IsOnce (u ∷ [])
-once-one u t = omega (arith, times-cons t u [], by_head (eqb u t))
-  where
-    by_head : (b : Bool) → cond b 1 0 ≤ 1
-    by_head true = omega arith
-    by_head false = omega arith
-
--- the first does not stand in the rest
-not_again : (u : Set) (us : List Set) → IsOnce (u ∷ us) → list_any (λ v. eqb v u) us ≡ false
-not_again u us h =
-    let e : times u (u ∷ us) ≡ 1 + times u us = times-cons u u us ∙ ap (λ b. cond b 1 0 + times u us) (eq-eqb u u refl) in
-    let none : times u us ≡ 0 = omega (arith, h u, e) in
-    any-times u us ∙ ap (ltb 0) none
+-- no term holds the input
+abbrev pub Lacks : ℕ → List Set → Type 0
+Lacks i ts = AllByRecursion (λ t. has t i ≡ false) ts
 
 -- ---- a list, and another with an input in each term
 
-with-without : (i : ℕ) (u t : Set) → has t i ≡ true → has u i ≡ false → eqb (with u i) t ≡ eqb u (without t i)
-with-without i u t ht hu = same_truth _ _ (λ e. eq-eqb u (without t i) (there (eqb-true (with u i) t e))) (λ e. eq-eqb (with u i) t (back (eqb-true u (without t i) e)))
+with_same : (i : ℕ) (t u : Set) → has t i ≡ false → has u i ≡ false → with t i ≡ with u i → t ≡ u
+with_same i t u ht hu e =
+    same_set t u (λ k. elim (cases_eq k i) [ inl f ↦ rw f (ht ∙ sym hu) | inr f ↦ sym (put-other i k true t f) ∙ ap (λ s. has s k) e ∙ put-other i k true u f ])
+
+once-with : (i : ℕ) (ts : List Set) → Lacks i ts → IsOnce ts → IsOnce (map (λ t. with t i) ts)
+unfolding IsDistinct
+once-with i [] none d = tt
+once-with i (t ∷ ts) (n, ns) (h, d) = (apart ts ns h, once-with i ts ns d)
   where
-    there : with u i ≡ t → u ≡ without t i
-    there e = same_set u (without t i) (λ k. elim (cases_eq k i) [
-      | inl f ↦ ap (has u) f ∙ hu ∙ sym (has-without t i k ∙ ap (λ b. not b && has t k) (eq-eqb k i f))
-      | inr f ↦ sym (has-without t i k ∙ ap (λ b. not b && has t k) (ne_eqb k i f) ∙ ap (λ s. has s k) (sym e) ∙ has-with u i k ∙ ap (λ b. b || has u k) (ne_eqb k i f))
-    ])
+    apart : (us : List Set) → Lacks i us → AllByRecursion (λ u. eqb t u ≡ false) us → AllByRecursion (λ u. eqb (with t i) u ≡ false) (map (λ u. with u i) us)
+    apart [] ms hs = tt
+    apart (u ∷ us) (m, ms) (k, ks) = (ne_eqb (with t i) (with u i) (λ e. eqb-false t u k (with_same i t u n m e)), apart us ms ks)
 
-    back : u ≡ without t i → with u i ≡ t
-    back e = same_set (with u i) t (λ k. has-with u i k ∙ elim (cases_eq k i) [
-      | inl f ↦ ap (λ b. b || has u k) (eq-eqb k i f) ∙ sym (ap (has t) f ∙ ht)
-      | inr f ↦ ap (λ b. b || has u k) (ne_eqb k i f) ∙ ap (λ s. has s k) e ∙ has-without t i k ∙ ap (λ b. not b && has t k) (ne_eqb k i f)
-    ])
-
-with-apart : (i : ℕ) (u t : Set) → has t i ≡ false → eqb (with u i) t ≡ false
-with-apart i u t ht = ne_eqb (with u i) t (λ e. false≢true (sym ht ∙ ap (λ s. has s i) (sym e) ∙ has-with u i i ∙ or_left _ _ (eq-eqb i i refl)))
-
-low-apart : (i : ℕ) (u t : Set) → has t i ≡ true → has u i ≡ false → eqb u t ≡ false
-low-apart i u t ht hu = ne_eqb u t (λ e. false≢true (sym hu ∙ ap (λ s. has s i) e ∙ ht))
-
-times_with : (i : ℕ) (t : Set) → has t i ≡ true → (ts : List Set) → list_any (λ u. has u i) ts ≡ false → times t (map (λ u. with u i) ts) ≡ times (without t i) ts
-times_with i t ht [] none = refl
-times_with i t ht (u ∷ us) none =
-    let both = or_parts (has u i) (list_any (λ u. has u i) us) none in
-    times-cons t (with u i) (map (λ u. with u i) us)
-    ∙ ap₂ (λ b n. cond b 1 0 + n) (with-without i u t ht both.0) (times_with i t ht us both.1)
-    ∙ sym (times-cons (without t i) u us)
-
-times_apart : (i : ℕ) (t : Set) → has t i ≡ false → (ts : List Set) → times t (map (λ u. with u i) ts) ≡ 0
-times_apart i t ht [] = refl
-times_apart i t ht (u ∷ us) = times-cons t (with u i) (map (λ u. with u i) us) ∙ ap₂ (λ b n. cond b 1 0 + n) (with-apart i u t ht) (times_apart i t ht us)
-
-times_low : (i : ℕ) (t : Set) → has t i ≡ true → (ts : List Set) → list_any (λ u. has u i) ts ≡ false → times t ts ≡ 0
-times_low i t ht [] none = refl
-times_low i t ht (u ∷ us) none =
-    let both = or_parts (has u i) (list_any (λ u. has u i) us) none in
-    times-cons t u us ∙ ap₂ (λ b n. cond b 1 0 + n) (low-apart i u t ht both.0) (times_low i t ht us both.1)
-
-pub once-append : (i : ℕ) (ls hs : List Set) → list_any (λ u. has u i) ls ≡ false → list_any (λ u. has u i) hs ≡ false → IsOnce ls → IsOnce hs → IsOnce (ls ++ map (λ t. with t i) hs)
-once-append i ls hs no_ls no_hs once_ls once_hs t =
-    let sum : times t (ls ++ map (λ t. with t i) hs) ≡ times t ls + times t (map (λ t. with t i) hs) = sum_by-append (λ u. cond (eqb u t) 1 0) ls (map (λ t. with t i) hs) in
-    elim (cases_Bool (has t i)) [
-      | inl ht ↦ omega (arith, sum, times_low i t ht ls no_ls, times_with i t ht hs no_hs, once_hs (without t i))
-      | inr ht ↦ omega (arith, sum, times_apart i t ht hs, once_ls t)
-    ]
+pub once-append : (i : ℕ) (ls hs : List Set) → Lacks i ls → Lacks i hs → IsOnce ls → IsOnce hs → IsOnce (ls ++ map (λ t. with t i) hs)
+unfolding IsDistinct
+once-append i [] hs no_ls no_hs d e = once-with i hs no_hs e
+once-append i (l ∷ ls) hs (n, ns) no_hs (h, d) e =
+    let others = each_always (λ t. eqb l (with t i) ≡ false) (λ t. ne_eqb l (with t i) (λ same. false≢true (sym n ∙ ap (λ s. has s i) same ∙ put-same i true t))) hs in
+    (each-append (λ u. eqb l u ≡ false) ls (map (λ t. with t i) hs) h (each-map (λ u. eqb l u ≡ false) (λ t. with t i) hs others), once-append i ls hs ns no_hs d e)
 
 -- ---- put in term order
 
-apart_both : (t u : Set) → eqb u t ≡ false → eqb t u ≡ false
-apart_both t u h = ne_eqb t u (λ e. false≢true (sym h ∙ eq-eqb u t (sym e)))
+placed-permutation : (t : Set) (us : List Set) → AllByRecursion (λ u. eqb t u ≡ false) us → IsPermutation (t ∷ us) (placed t us)
+placed-permutation t [] h = IsPermutation-refl (t ∷ [])
+placed-permutation t (u ∷ us) (h, hs) = elim (cases_Bool (is_lt (cmp_terms t u))) [
+  | inl e ↦ rw (h, e) (IsPermutation-refl (t ∷ u ∷ us))
+  | inr e ↦ rw (h, e) (IsPermutation-trans _ (u ∷ t ∷ us) _ (IsPermutation-sym _ _ (IsPermutation-middle (u ∷ []) t us)) (IsPermutation-cons u _ _ (placed-permutation t us hs)))
+]
 
-length-placed : (t : Set) (us : List Set) → list_any (λ v. eqb v t) us ≡ false → length (placed t us) ≡ suc (length us)
-length-placed t [] none = refl
-length-placed t (u ∷ us) none =
-    let both = or_parts (eqb u t) (list_any (λ v. eqb v t) us) none in
-    rw (apart_both t u both.0) (by_order (is_lt (cmp_terms t u)) (length-placed t us both.1))
-  where
-    by_order : (b : Bool) → length (placed t us) ≡ suc (length us) → length (cond b (t ∷ u ∷ us) (u ∷ placed t us)) ≡ suc (suc (length us))
-    by_order true h = refl
-    by_order false h = ap suc h
-
-exor_of-placed : (h : Set → Bool) (t : Set) (us : List Set) → list_any (λ v. eqb v t) us ≡ false → exor_of h (placed t us) ≡ differ (h t) (exor_of h us)
-exor_of-placed h t [] none = refl
-exor_of-placed h t (u ∷ us) none =
-    let both = or_parts (eqb u t) (list_any (λ v. eqb v t) us) none in
-    rw (apart_both t u both.0) (by_order (is_lt (cmp_terms t u)) (exor_of-placed h t us both.1))
-  where
-    by_order : (b : Bool) → exor_of h (placed t us) ≡ differ (h t) (exor_of h us) → exor_of h (cond b (t ∷ u ∷ us) (u ∷ placed t us)) ≡ differ (h t) (differ (h u) (exor_of h us))
-    by_order true e = refl
-    by_order false e = ap (differ (h u)) e ∙ differ-front (h u) (h t) (exor_of h us)
-
-not_placed : (t : Set) (ts : List Set) → IsOnce (t ∷ ts) → list_any (λ v. eqb v t) (in_order ts) ≡ false
-not_placed t ts once = any-in_order (λ v. eqb v t) ts ∙ not_again t ts once
-
-pub length-in_order : (ts : List Set) → IsOnce ts → length (in_order ts) ≡ length ts
-length-in_order [] once = refl
-length-in_order (t ∷ ts) once = length-placed t (in_order ts) (not_placed t ts once) ∙ ap suc (length-in_order ts (once-tail t ts once))
-
-pub exor_of-in_order : (h : Set → Bool) (ts : List Set) → IsOnce ts → exor_of h (in_order ts) ≡ exor_of h ts
-exor_of-in_order h [] once = refl
-exor_of-in_order h (t ∷ ts) once = exor_of-placed h t (in_order ts) (not_placed t ts once) ∙ ap (differ (h t)) (exor_of-in_order h ts (once-tail t ts once))
-
--- ---- sorted
-
-apart : (ts : List Set) → IsOnce ts → (i j : ℕ) (d : Set) → i < j → j < length ts → get_or ts i d ≢ get_or ts j d
-apart [] once i j d l m = absurd (omega (arith, m))
-apart (t ∷ ts) once i zero d l m = absurd (omega (arith, l))
-apart (t ∷ ts) once zero (suc j) d l m = λ e. false≢true (sym (not_again t ts once) ∙ list_any_at (λ v. eqb v t) ts j d (omega (arith, m)) (eq-eqb (get_or ts j d) t (sym e)))
-apart (t ∷ ts) once (suc i) (suc j) d l m = apart ts (once-tail t ts once) i j d (omega (arith, l)) (omega (arith, m))
+pub in_order-permutation : (ts : List Set) → IsOnce ts → IsPermutation ts (in_order ts)
+unfolding IsDistinct
+in_order-permutation [] once = IsPermutation-refl []
+in_order-permutation (t ∷ ts) (h, once) =
+    let rest = in_order-permutation ts once in
+    IsPermutation-trans _ (t ∷ in_order ts) _ (IsPermutation-cons t _ _ rest)
+    (placed-permutation t (in_order ts) (recursion_from_All _ _ (All-permutation (λ u. eqb t u ≡ false) ts (in_order ts) rest (All-from_recursion _ ts h))))
 
 -- sorted terms of which none stands twice are the terms in term order
 pub sorted-in_order : (ts us : List Set) → IsOnce ts → IsPermutation ts us → IsSorted cmp_terms us → us ≡ in_order ts
-sorted-in_order ts us once moved up = in_order-same us (in_order ts) order (in_order-order ts) (λ t. any-times t us ∙ ap (ltb 0) (kept t) ∙ sym (any-times t ts) ∙ sym (any-in_order (λ u. eqb u t) ts))
+sorted-in_order ts us once moved up =
+    in_order-same us (in_order ts) order (in_order-order ts) (λ t. sym (list_any-IsPermutation (λ u. eqb u t) ts us moved) ∙ sym (any-in_order (λ u. eqb u t) ts))
   where
-    kept : (t : Set) → times t us ≡ times t ts
-    kept t = sum_by-IsPermutation (λ u. cond (eqb u t) 1 0) ts us moved
+    flips : (x y : ℕ) → eqb x y ≡ eqb y x
+    flips x y = same_truth _ _ (λ e. eq-eqb y x (sym (eqb-true x y e))) (λ e. eq-eqb x y (sym (eqb-true y x e)))
 
     order : IsInOrder us
     order i j d l m =
         less_from_sorted (get_or us i d) (get_or us j d) (sorted_far (λ s t. is_lt (cmp_terms s t)) (ranks_by cmp_terms_total (λ (s : Set). s)) us up i j d (omega (arith, l)) m)
-        (apart us (λ t. omega (arith, kept t, once t)) i j d l m)
+        (eqb-false _ _ (apart_from_distinct eqb us i j d (IsDistinct-IsPermutation eqb flips ts us moved once) l m))

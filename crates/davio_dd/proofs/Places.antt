@@ -1,9 +1,9 @@
 -- What places have, while nodes are added.
 use Rattle.std.proofs.Common.{◌≡◌, ℕ, ◌+◌, ◌-◌, ◌<◌, suc, zero, true, false, ◌&&◌, ◌⊎◌, inl, inr, List, [], ◌∷◌, ◌++◌, length, take, drop, get_or, slice_get, Some, refl, ap, ap₂, sym, ◌∙◌, arith, length-append}
 use Rattle.std.proofs.Math.ListN.{get_or-append}
-use Rattle.std.proofs.Math.Seq.{get_or-append_seam, drop-cons}
-use Rattle.std.proofs.lemmas.List.{take-append-drop, length-take}
-use Rattle.std.proofs.lemmas.Option.{slice_get_within, slice_get-get_or, get_or_from_slice_get}
+use Rattle.std.proofs.Math.Seq.{get_or-append_seam}
+use Rattle.std.proofs.lemmas.Bool.{cases_lt}
+use Rattle.std.proofs.lemmas.Option.{slice_get-get_or, none-some, same_Some}
 use Rattle.ae_base.specs.Mask.{Set, differ}
 use Rattle.ae_base.specs.Cube.{Signs}
 use Rattle.ae_base.specs.Terms.{literal}
@@ -39,65 +39,52 @@ entry-grows z o rule nodes more at lt =
     ap (λ es. get_or es at z) (entries-append z rule (z ∷ o ∷ []) nodes more)
     ∙ entries-keep z rule (entries_from z rule (z ∷ o ∷ []) nodes) more at (omega (arith, length-entries z rule (z ∷ o ∷ []) nodes))
 
-pub entry-zero : {A : Type 0} (z o : A) (rule : Node → A → A → A) (nodes : List Node) → entry z o rule nodes 0 ≡ z
+pub entry-constant : {A : Type 0} (z o : A) (rule : Node → A → A → A) (nodes : List Node) (at : ℕ) → at < 2 → entry z o rule nodes at ≡ get_or (z ∷ o ∷ []) at z
 unfolding entry
-entry-zero z o rule nodes = entries-keep z rule (z ∷ o ∷ []) nodes 0 (omega arith)
+entry-constant z o rule nodes at l = entries-keep z rule (z ∷ o ∷ []) nodes at l
 
-pub entry-one : {A : Type 0} (z o : A) (rule : Node → A → A → A) (nodes : List Node) → entry z o rule nodes 1 ≡ o
-unfolding entry
-entry-one z o rule nodes = entries-keep z rule (z ∷ o ∷ []) nodes 1 (omega arith)
-
-entry-seam : {A : Type 0} (z o : A) (rule : Node → A → A → A) (front : List Node) (node : Node) (rest : List Node) → node.low < length front + 2 → node.high < length front + 2
-    → entry z o rule (front ++ node ∷ rest) (length front + 2) ≡ rule node (entry z o rule (front ++ node ∷ rest) node.low) (entry z o rule (front ++ node ∷ rest) node.high)
-unfolding entry entries_from
-entry-seam z o rule front node rest low high =
-    let es = entries_from z rule (z ∷ o ∷ []) front in
-    let e = rule node (get_or es node.low z) (get_or es node.high z) in
-    let long : length front + 2 ≡ length es = omega (arith, length-entries z rule (z ∷ o ∷ []) front) in
-    ap (λ fs. get_or fs (length front + 2) z) (entries-append z rule (z ∷ o ∷ []) front (node ∷ rest))
-    ∙ ap (λ i. get_or (entries_from z rule (es ++ e ∷ []) rest) i z) long
-    ∙ entries-keep z rule (es ++ e ∷ []) rest (length es) (omega (arith, length-append es (e ∷ [])))
-    ∙ get_or-append_seam es e [] z
-    ∙ sym (ap₂ (rule node) (entry-grows z o rule front (node ∷ rest) node.low low) (entry-grows z o rule front (node ∷ rest) node.high high))
-
-pub around : (nodes : List Node) (k : ℕ) (node : Node) → slice_get nodes k ≡ Some node → nodes ≡ take k nodes ++ node ∷ drop (suc k) nodes
-around nodes k node got =
-    let lt : k < length nodes = slice_get_within nodes k node got in
-    sym (take-append-drop k nodes) ∙ ap (λ l. take k nodes ++ l) (drop-cons nodes k node lt ∙ ap (λ n. n ∷ drop (suc k) nodes) (get_or_from_slice_get nodes k node node got))
+entries-node : {A : Type 0} (z : A) (rule : Node → A → A → A) (es : List A) (ns : List Node) (k : ℕ) (node : Node) → slice_get ns k ≡ Some node → node.low < length es + k → node.high < length es + k
+    → get_or (entries_from z rule es ns) (length es + k) z ≡ rule node (get_or (entries_from z rule es ns) node.low z) (get_or (entries_from z rule es ns) node.high z)
+unfolding entries_from
+entries-node z rule es [] k node got low high = absurd (none-some node got)
+entries-node z rule es (n ∷ ns) zero node got low high =
+    let e = rule n (get_or es n.low z) (get_or es n.high z) in
+    let same : n ≡ node = same_Some n node got in
+    let kept = λ (i : ℕ) (l : i < length es). entries-keep z rule (es ++ e ∷ []) ns i (omega (arith, l, length-append es (e ∷ []))) ∙ get_or-append es (e ∷ []) z i l in
+    let long : length es + 0 ≡ length es = omega arith in
+    rw long (entries-keep z rule (es ++ e ∷ []) ns (length es) (omega (arith, length-append es (e ∷ []))) ∙ get_or-append_seam es e [] z
+    ∙ ap (λ (m : Node). rule m (get_or es m.low z) (get_or es m.high z)) same ∙ sym (ap₂ (rule node) (kept node.low (omega (arith, low))) (kept node.high (omega (arith, high)))))
+entries-node z rule es (n ∷ ns) (suc k) node got low high =
+    let e = rule n (get_or es n.low z) (get_or es n.high z) in
+    let long : length es + suc k ≡ length (es ++ e ∷ []) + k = omega (arith, length-append es (e ∷ [])) in
+    rw long (entries-node z rule (es ++ e ∷ []) ns k node got (omega (arith, low, long)) (omega (arith, high, long)))
 
 -- a node's place, by its parts
 pub entry-node : {A : Type 0} (z o : A) (rule : Node → A → A → A) (nodes : List Node) (k : ℕ) (node : Node) → slice_get nodes k ≡ Some node → node.low < k + 2 → node.high < k + 2
     → entry z o rule nodes (k + 2) ≡ rule node (entry z o rule nodes node.low) (entry z o rule nodes node.high)
-entry-node z o rule nodes k node got low high =
-    let lt : k < length nodes = slice_get_within nodes k node got in
-    let long : length (take k nodes) ≡ k = simp length-take (omega arith) in
-    let whole = around nodes k node got in
-    ap₂ (λ ns i. entry z o rule ns (i + 2)) whole (sym long)
-    ∙ entry-seam z o rule (take k nodes) node (drop (suc k) nodes) (omega (arith, long)) (omega (arith, long))
-    ∙ ap (λ ns. rule node (entry z o rule ns node.low) (entry z o rule ns node.high)) (sym whole)
+unfolding entry
+entry-node z o rule nodes k node got low high = let e : k + 2 ≡ 2 + k = omega arith in rw e (entries-node z rule (z ∷ o ∷ []) nodes k node got (omega (arith, low)) (omega (arith, high)))
 
 -- ---- values, terms and tops
 
 pub value-zero : (p : Signs) (nodes : List Node) (x : Set) → place_value p nodes 0 x ≡ false
 unfolding place_value
-value-zero p nodes x = entry-zero false true _ nodes
+value-zero p nodes x = entry-constant false true _ nodes 0 (omega arith)
 
 pub value-one : (p : Signs) (nodes : List Node) (x : Set) → place_value p nodes 1 x ≡ true
 unfolding place_value
-value-one p nodes x = entry-one false true _ nodes
+value-one p nodes x = entry-constant false true _ nodes 1 (omega arith)
 
 pub value-node : (p : Signs) (n : ℕ) (nodes : List Node) → IsDiagram n nodes → (k : ℕ) (node : Node) → slice_get nodes k ≡ Some node → (x : Set)
     → place_value p nodes (k + 2) x ≡ differ (place_value p nodes node.low x) (literal p node.input x && place_value p nodes node.high x)
 unfolding place_value
 value-node p n nodes is k node got x = entry-node false true _ nodes k node got (is.low k node got) (is.high k node got)
 
-pub top-zero : (n : ℕ) (nodes : List Node) → top n nodes 0 ≡ n
+pub top-constant : (n : ℕ) (nodes : List Node) (at : ℕ) → at < 2 → top n nodes at ≡ n
 unfolding top
-top-zero n nodes = entry-zero n n _ nodes
-
-pub top-one : (n : ℕ) (nodes : List Node) → top n nodes 1 ≡ n
-unfolding top
-top-one n nodes = entry-one n n _ nodes
+top-constant n nodes zero l = entry-constant n n _ nodes 0 l
+top-constant n nodes (suc zero) l = entry-constant n n _ nodes 1 l
+top-constant n nodes (suc (suc k)) l = absurd (omega arith)
 
 pub top-node : (n : ℕ) (nodes : List Node) → IsDiagram n nodes → (k : ℕ) (node : Node) → slice_get nodes k ≡ Some node → top n nodes (k + 2) ≡ node.input
 unfolding top
@@ -111,13 +98,14 @@ pub record IsNodeAt (nodes : List Node) (at : ℕ) : Type 0 where
   pub got : slice_get nodes k ≡ Some node
   pub place : at ≡ k + 2
 
-none : Node
-none = record { input = 0; low = 0; high = 0 }
+pub place-cases : (nodes : List Node) (at : ℕ) → IsPlace nodes at → (at < 2) ⊎ IsNodeAt nodes at
+place-cases nodes at place = elim (cases_lt at 2) [
+  | inl l ↦ inl l
+  | inr l ↦ inr (record { k = at - 2; node = get_or nodes (at - 2) none; got = slice_get-get_or nodes (at - 2) none (omega arith); place = omega arith })
+]
+  where
+    none : Node
+    none = record { input = 0; low = 0; high = 0 }
 
-pub place-cases : (nodes : List Node) (at : ℕ) → IsPlace nodes at → (at ≡ 0) ⊎ ((at ≡ 1) ⊎ IsNodeAt nodes at)
-place-cases nodes zero l = inl refl
-place-cases nodes (suc zero) l = inr (inl refl)
-place-cases nodes (suc (suc k)) l = inr (inr (record { k = k; node = get_or nodes k none; got = slice_get-get_or nodes k none (omega arith); place = omega arith }))
-
-unfoldable pub node_at : (n : ℕ) (nodes : List Node) (at : ℕ) (node : Node) → IsNode n nodes at node → IsNodeAt nodes at
+abbrev pub node_at : (n : ℕ) (nodes : List Node) (at : ℕ) (node : Node) → IsNode n nodes at node → IsNodeAt nodes at
 node_at n nodes at node h = record { k = at - 2; node = node; got = h.got; place = omega (arith, h.two) }

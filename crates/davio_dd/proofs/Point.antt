@@ -1,18 +1,19 @@
 -- The point along one path is the least point at which the function is 1.
-use Rattle.std.proofs.Common.{◌≡◌, ◌≢◌, ℕ, zero, suc, ◌<◌, ◌≤◌, Bool, true, false, not, ◌&&◌, cond, ◌⊎◌, inl, inr, List, refl, sym, subst, ap, ap₂, ◌∙◌, eqb, ltb, eq-eqb, ne_eqb, lt-ltb, le-ltb, arith}
-use Rattle.std.proofs.lemmas.Bool.{cases_eq, cases_lt, cases_order, false≢true, and_parts}
-use Rattle.ae_base.specs.Mask.{Set, differ, has, first, both}
+use Rattle.std.proofs.Common.{◌≡◌, ◌≢◌, ℕ, zero, suc, ◌<◌, ◌≤◌, Bool, true, false, not, ◌&&◌, cond, ◌⊎◌, inl, inr, List, Option, None, Some, refl, sym, subst, ap, ap₂, ◌∙◌, eqb, ltb, eq-eqb, ne_eqb, lt-ltb, le-ltb, arith}
+use Rattle.std.proofs.lemmas.Bool.{cases_Bool, cases_eq, cases_lt, cases_order, false≢true, and_parts}
+use Rattle.ae_base.specs.Mask.{Set, differ, has, first, both, xor, least}
 use Rattle.ae_base.specs.Cube.{Signs}
 use Rattle.ae_base.specs.Terms.{IsPoint, literal}
 use Rattle.ae_base.proofs.Sets.{same_set, has-first, has-both, has-xor, inside-from, inside-above}
-use Rattle.ae_base.proofs.Truth.{differ-false}
+use Rattle.ae_base.proofs.Truth.{differ-false, differ-back, differ-flip, equal_values}
+use Rattle.ae_base.proofs.Members.{least-is, least-empty}
 use Rattle.ae_base.proofs.Points.{literal-put, literal-low, literal-high, inside-put}
 use Rattle.fn_store.specs.Davio.{low, high}
 use Rattle.davio_dd.specs.declared.node.Node.{Node}
 use Rattle.fn_store.specs.Functions.{AgreeAt, IsBefore, IsLeastPoint}
 use Rattle.davio_dd.specs.Diagram.{place_value, top, IsDiagram, IsPlace}
 use Rattle.davio_dd.specs.Scratch.{IsNode, all_zero, path_point}
-use Rattle.davio_dd.proofs.Places.{entry-zero, entry-one, entry-node, value-zero, value-one, IsNodeAt, node_at}
+use Rattle.davio_dd.proofs.Places.{entry-constant, entry-node, value-zero, value-one, IsNodeAt, node_at}
 use Rattle.davio_dd.proofs.Canonical.{top-place, value-place, parts, each_place, value-put}
 
 -- ---- all literals 0
@@ -41,18 +42,10 @@ record Walked (p : Signs) (nodes : List Node) (at : ℕ) (x : Set) : Type 0 wher
   zeros : (k : ℕ) → k < p.n → k < top p.n nodes at → literal p k x ≡ false
   least : (y : Set) → IsPoint p.n y → place_value p nodes at y ≡ true → IsBefore p y x → ⊥
 
-walked-zero : (p : Signs) (nodes : List Node) → Walked p nodes 0 (all_zero p)
-walked-zero p nodes = record {
+walked-constant : (p : Signs) (nodes : List Node) (at : ℕ) → (0 < at → place_value p nodes at (all_zero p) ≡ true) → Walked p nodes at (all_zero p)
+walked-constant p nodes at value = record {
   point = all_zero-point p;
-  value = λ l. absurd (omega arith);
-  zeros = λ k l h. literal-all_zero p k l;
-  least = λ y point one h. false≢true (sym (value-zero p nodes y) ∙ one);
-}
-
-walked-one : (p : Signs) (nodes : List Node) → Walked p nodes 1 (all_zero p)
-walked-one p nodes = record {
-  point = all_zero-point p;
-  value = λ l. value-one p nodes (all_zero p);
+  value = value;
   zeros = λ k l h. literal-all_zero p k l;
   least = λ y point one h. false≢true (sym (literal-all_zero p h.input h.is_input) ∙ h.high);
 }
@@ -118,78 +111,58 @@ walked-high p nodes is at c x none w = record {
 
 -- ---- the point along the path
 
-pub path-zero : (p : Signs) (nodes : List Node) → path_point p nodes 0 ≡ all_zero p
+pub path-constant : (p : Signs) (nodes : List Node) (at : ℕ) → at < 2 → path_point p nodes at ≡ all_zero p
 unfolding path_point
-path-zero p nodes = entry-zero (all_zero p) (all_zero p) _ nodes
-
-pub path-one : (p : Signs) (nodes : List Node) → path_point p nodes 1 ≡ all_zero p
-unfolding path_point
-path-one p nodes = entry-one (all_zero p) (all_zero p) _ nodes
+path-constant p nodes zero l = entry-constant (all_zero p) (all_zero p) _ nodes 0 l
+path-constant p nodes (suc zero) l = entry-constant (all_zero p) (all_zero p) _ nodes 1 l
+path-constant p nodes (suc (suc k)) l = absurd (omega arith)
 
 pub path-place : (p : Signs) (nodes : List Node) → IsDiagram p.n nodes → (at : ℕ) (c : IsNodeAt nodes at)
-    → path_point p nodes at ≡ cond (eqb c.node.low 0) (high p c.node.input (path_point p nodes c.node.high)) (path_point p nodes c.node.low)
+    → (c.node.low ≡ 0 → path_point p nodes at ≡ high p c.node.input (path_point p nodes c.node.high)) × ((c.node.low ≢ 0) → path_point p nodes at ≡ path_point p nodes c.node.low)
 unfolding path_point
-path-place p nodes is at c = ap (λ (a : ℕ). path_point p nodes a) c.place ∙ entry-node (all_zero p) (all_zero p) _ nodes c.k c.node c.got (is.low c.k c.node c.got) (is.high c.k c.node c.got)
+path-place p nodes is at c =
+    let by = λ (b : Bool). cond b (high p c.node.input (path_point p nodes c.node.high)) (path_point p nodes c.node.low) in
+    let whole : path_point p nodes at ≡ by (eqb c.node.low 0) =
+    ap (λ (a : ℕ). path_point p nodes a) c.place ∙ entry-node (all_zero p) (all_zero p) _ nodes c.k c.node c.got (is.low c.k c.node c.got) (is.high c.k c.node c.got) in
+    (λ e. whole ∙ ap by (eq-eqb c.node.low 0 e), λ e. whole ∙ ap by (ne_eqb c.node.low 0 e))
 
 walked : (p : Signs) (nodes : List Node) → IsDiagram p.n nodes → (at : ℕ) → IsPlace nodes at → Walked p nodes at (path_point p nodes at)
 walked p nodes is =
     each_place p.n nodes is (λ at. Walked p nodes at (path_point p nodes at))
-    (subst (λ (x : Set). Walked p nodes 0 x) (sym (path-zero p nodes)) (walked-zero p nodes))
-    (subst (λ (x : Set). Walked p nodes 1 x) (sym (path-one p nodes)) (walked-one p nodes))
-    (λ at c on_low on_high. subst (λ (x : Set). Walked p nodes at x) (sym (path-place p nodes is at c)) (by_low at c on_low on_high (cases_eq c.node.low 0)))
-  where
-    by_low : (at : ℕ) (c : IsNodeAt nodes at) → Walked p nodes c.node.low (path_point p nodes c.node.low) → Walked p nodes c.node.high (path_point p nodes c.node.high)
-        → (c.node.low ≡ 0) ⊎ (c.node.low ≢ 0) → Walked p nodes at (cond (eqb c.node.low 0) (high p c.node.input (path_point p nodes c.node.high)) (path_point p nodes c.node.low))
-    by_low at c on_low on_high (inl e) = rw (eq-eqb c.node.low 0 e) (walked-high p nodes is at c (path_point p nodes c.node.high) e on_high)
-    by_low at c on_low on_high (inr e) = rw (ne_eqb c.node.low 0 e) (walked-low p nodes is at c (path_point p nodes c.node.low) (omega (arith, e)) on_low)
-
--- ---- one step of the path
-
-pub path-high : (p : Signs) (nodes : List Node) → IsDiagram p.n nodes → (at : ℕ) (node : Node) → IsNode p.n nodes at node → node.low ≡ 0 → path_point p nodes at ≡ high p node.input (path_point p nodes node.high)
-unfolding node_at
-path-high p nodes is at node h e =
-    path-place p nodes is at (node_at p.n nodes at node h) ∙ ap (λ b. cond b (high p node.input (path_point p nodes node.high)) (path_point p nodes node.low)) (eq-eqb node.low 0 e)
-
-pub path-low : (p : Signs) (nodes : List Node) → IsDiagram p.n nodes → (at : ℕ) (node : Node) → IsNode p.n nodes at node → (node.low ≢ 0) → path_point p nodes at ≡ path_point p nodes node.low
-unfolding node_at
-path-low p nodes is at node h e =
-    path-place p nodes is at (node_at p.n nodes at node h) ∙ ap (λ b. cond b (high p node.input (path_point p nodes node.high)) (path_point p nodes node.low)) (ne_eqb node.low 0 e)
-
-pub path-constant : (p : Signs) (nodes : List Node) (at : ℕ) → at < 2 → path_point p nodes at ≡ all_zero p
-path-constant p nodes zero l = path-zero p nodes
-path-constant p nodes (suc zero) l = path-one p nodes
-path-constant p nodes (suc (suc k)) l = absurd (omega arith)
+    (rw (path-constant p nodes 0 (omega arith)) (walked-constant p nodes 0 (λ l. absurd (omega arith))))
+    (rw (path-constant p nodes 1 (omega arith)) (walked-constant p nodes 1 (λ l. value-one p nodes (all_zero p))))
+    (λ at c on_low on_high. elim (cases_eq c.node.low 0) [
+      | inl e ↦ rw ((path-place p nodes is at c).0 e) (walked-high p nodes is at c (path_point p nodes c.node.high) e on_high)
+      | inr e ↦ rw ((path-place p nodes is at c).1 e) (walked-low p nodes is at c (path_point p nodes c.node.low) (omega (arith, e)) on_low)
+    ])
 
 -- ---- the order of points is total
 
--- the literals agree below m, or differ first at some input below m
-first_apart : (p : Signs) (x y : Set) (m : ℕ) → m ≤ p.n → ((j : ℕ) → j < m → literal p j x ≡ literal p j y) ⊎ (IsBefore p x y ⊎ IsBefore p y x)
-first_apart p x y zero l = inl (λ j h. absurd (omega arith))
-first_apart p x y (suc m) l = by_earlier (first_apart p x y m (omega arith)) (literal p m x) refl (literal p m y) refl
+literal_turned : (p : Signs) (j : ℕ) (x y : Set) → differ (has x j) (has y j) ≡ true → literal p j y ≡ not (literal p j x)
+literal_turned p j x y h = by_values (has p.plain j) (has x j) (has y j) h
   where
-    more : ((j : ℕ) → j < m → literal p j x ≡ literal p j y) → literal p m x ≡ literal p m y → (j : ℕ) → j < suc m → literal p j x ≡ literal p j y
-    more same e j h = elim (cases_eq j m) [ inl f ↦ ap (λ i. literal p i x) f ∙ e ∙ ap (λ i. literal p i y) (sym f) | inr f ↦ same j (omega arith) ]
-
-    by_earlier : ((j : ℕ) → j < m → literal p j x ≡ literal p j y) ⊎ (IsBefore p x y ⊎ IsBefore p y x) → (b : Bool) → literal p m x ≡ b → (c : Bool) → literal p m y ≡ c
-        → ((j : ℕ) → j < suc m → literal p j x ≡ literal p j y) ⊎ (IsBefore p x y ⊎ IsBefore p y x)
-    by_earlier (inr h) b e c f = inr h
-    by_earlier (inl same) true e true f = inl (more same (e ∙ sym f))
-    by_earlier (inl same) false e false f = inl (more same (e ∙ sym f))
-    by_earlier (inl same) false e true f = inr (inl (record { input = m; is_input = omega arith; same = same; low = e; high = f }))
-    by_earlier (inl same) true e false f = inr (inr (record { input = m; is_input = omega arith; same = λ j h. sym (same j h); low = f; high = e }))
-
-by_literals : (b c d : Bool) → cond b c (not c) ≡ cond b d (not d) → c ≡ d
-by_literals true c d e = e
-by_literals false true true e = refl
-by_literals false false false e = refl
-by_literals false true false e = absurd (false≢true e)
-by_literals false false true e = absurd (false≢true (sym e))
+    by_values : (b c d : Bool) → differ c d ≡ true → cond b d (not d) ≡ not (cond b c (not c))
+    by_values true c d e = sym (differ-back c d) ∙ ap (differ c) e ∙ differ-flip c true
+    by_values false c d e = ap not (sym (differ-back c d) ∙ ap (differ c) e ∙ differ-flip c true)
 
 before-total : (p : Signs) (x y : Set) → IsPoint p.n x → IsPoint p.n y → (x ≡ y) ⊎ (IsBefore p x y ⊎ IsBefore p y x)
-before-total p x y px py = elim (first_apart p x y p.n (omega arith)) [
-  | inl same ↦ inl (same_set x y (λ k. elim (cases_lt k p.n) [ inl l ↦ by_literals (has p.plain k) (has x k) (has y k) (same k l) | inr l ↦ inside-above p.n x px k l ∙ sym (inside-above p.n y py k l) ]))
-  | inr h ↦ inr h
-]
+before-total p x y px py = by_first (least (xor x y)) refl
+  where
+    same : (k : ℕ) → has (xor x y) k ≡ false → has x k ≡ has y k
+    same k e = equal_values _ _ (sym (has-xor x y k) ∙ e)
+
+    by_first : (o : Option ℕ) → least (xor x y) ≡ o → (x ≡ y) ⊎ (IsBefore p x y ⊎ IsBefore p y x)
+    by_first None e = inl (same_set x y (λ k. same k (least-empty (xor x y) e k)))
+    by_first (Some d) e =
+        let r = least-is (xor x y) d e in
+        let apart : differ (has x d) (has y d) ≡ true = sym (has-xor x y d) ∙ r.0 in
+        let input : d < p.n = elim (cases_lt d p.n) [ inl l ↦ l | inr l ↦ absurd (false≢true (sym (ap₂ differ (inside-above p.n x px d l) (inside-above p.n y py d l)) ∙ apart)) ] in
+        let agree = λ (j : ℕ) (h : j < d). ap (λ b. cond (has p.plain j) b (not b)) (same j (r.1 j h)) in
+        let turned = literal_turned p d x y apart in
+        elim (cases_Bool (literal p d x)) [
+          | inl f ↦ inr (inr (record { input = d; is_input = input; same = λ j h. sym (agree j h); low = turned ∙ ap not f; high = f }))
+          | inr f ↦ inr (inl (record { input = d; is_input = input; same = agree; low = f; high = turned ∙ ap not f }))
+        ]
 
 -- ---- the least point
 

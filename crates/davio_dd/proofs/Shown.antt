@@ -3,6 +3,7 @@ use Rattle.std.proofs.Common.{◌≡◌, ℕ, ◌+◌, ◌<◌, Bool, true, fals
 use Rattle.std.specs.Option.{MatchOption, is_some}
 use Rattle.std.proofs.Math.Bool.{and-true}
 use Rattle.std.proofs.lemmas.Bool.{false≢true, ltb-true}
+use Rattle.std.proofs.lemmas.List.Sorted.{length_permutation}
 use Rattle.ae_base.specs.Mask.{Set, differ}
 use Rattle.ae_base.specs.Cube.{Signs}
 use Rattle.ae_base.specs.Terms.{IsPoint, literal, value, in_order}
@@ -15,7 +16,7 @@ use Rattle.davio_dd.proofs.Places.{value-zero, value-one}
 use Rattle.davio_dd.proofs.Canonical.{same_place}
 use Rattle.davio_dd.proofs.Growing.{Moved, place-moved, value-moved, terms-grows}
 use Rattle.davio_dd.proofs.Terms.{terms-once, value-in_order, place-expansion}
-use Rattle.davio_dd.proofs.Once.{length-in_order}
+use Rattle.davio_dd.proofs.Once.{in_order-permutation}
 
 -- ---- places and functions
 
@@ -32,15 +33,7 @@ Shows-value p nodes is r place f same = record { live = place-live p nodes r pla
 pub value-Shows : (p : Signs) (nodes : List Node) → IsDiagram p.n nodes → (r : FnRef) (f : Set → Bool) → Shows (functions_of p nodes) r f → AgreeAt p.n (place_value p nodes r.at) f
 value-Shows p nodes is r f h x point = sym (value-in_order p nodes is r.at (live-place p nodes r h.live) x) ∙ means p f (in_order (place_terms nodes r.at)) h.is x point
 
-pub all-Shows : (p : Signs) (nodes : List Node) → IsDiagram p.n nodes → AllShow (functions_of p nodes)
-all-Shows p nodes is r live =
-    let place = live-place p nodes r live in
-    Shows-value p nodes is r place (value p (in_order (place_terms nodes r.at))) (λ x point. sym (value-in_order p nodes is r.at place x))
-
 -- ---- the constants
-
-pub zero-Shows : (p : Signs) (nodes : List Node) → IsDiagram p.n nodes → Shows (functions_of p nodes) (record { at = 0 }) (λ x. false)
-zero-Shows p nodes is = Shows-value p nodes is (record { at = 0 }) (omega arith) (λ x. false) (λ x point. value-zero p nodes x)
 
 pub one-Shows : (p : Signs) (nodes : List Node) → IsDiagram p.n nodes → Shows (functions_of p nodes) (record { at = 1 }) (λ x. true)
 one-Shows p nodes is = Shows-value p nodes is (record { at = 1 }) (omega arith) (λ x. true) (λ x point. value-one p nodes x)
@@ -64,35 +57,12 @@ answer-Shows op p p1 n0 n1 is0 is1 m a b r answer f h shows_a shows_b =
     ∙ ap₂ op (value-moved p p1 n0 n1 m a.at (live-place p n0 a shows_a.live) x ∙ value-Shows p n0 is0 a f shows_a x at)
     (value-moved p p1 n0 n1 m b.at (live-place p n0 b shows_b.live) x ∙ value-Shows p n0 is0 b h shows_b x at))
 
--- the node of an input over the two constants shows the literal
-pub literal-Shows : (p p1 : Signs) (n0 n1 : List Node) → IsDiagram p1.n n1 → p1 ≡ p → (j : ℕ) (r : FnRef) → IsPlace n1 r.at
-    → ((x : Set) → place_value p1 n1 r.at x ≡ differ (place_value p n0 0 x) (literal p j x && place_value p n0 1 x)) → Shows (functions_of p1 n1) r (literal p j)
-literal-Shows p p1 n0 n1 is e j r place h =
-    Shows-value p1 n1 is r place (literal p j) (λ x point. h x ∙ ap₂ (λ a b. differ a (literal p j x && b)) (value-zero p n0 x) (value-one p n0 x) ∙ and-true (literal p j x))
-
--- ---- functions that agree
-
--- references of functions that agree at every point are one place
-pub agree-place : (p : Signs) (nodes : List Node) → IsDiagram p.n nodes → (a b : FnRef) (f g : Set → Bool) → Shows (functions_of p nodes) a f → Shows (functions_of p nodes) b g → AgreeAt p.n f g → a.at ≡ b.at
-agree-place p nodes is a b f g shows_a shows_b same =
-    same_place p nodes is a.at b.at (live-place p nodes a shows_a.live) (live-place p nodes b shows_b.live)
-    (λ x point. value-Shows p nodes is a f shows_a x point ∙ same x point ∙ sym (value-Shows p nodes is b g shows_b x point))
-
-pub place-agree : (p : Signs) (nodes : List Node) → IsDiagram p.n nodes → (a b : FnRef) (f g : Set → Bool) → Shows (functions_of p nodes) a f → Shows (functions_of p nodes) b g → a.at ≡ b.at → AgreeAt p.n f g
-place-agree p nodes is a b f g shows_a shows_b e x point =
-    sym (value-Shows p nodes is a f shows_a x point) ∙ ap (λ (at : ℕ). place_value p nodes at x) e ∙ value-Shows p nodes is b g shows_b x point
-
 -- ---- how many terms there are
 
 length-terms : (p : Signs) (nodes : List Node) → IsDiagram p.n nodes → (r : FnRef) → IsLive (functions_of p nodes) r → length (in_order (place_terms nodes r.at)) ≡ length (place_terms nodes r.at)
-length-terms p nodes is r live = length-in_order (place_terms nodes r.at) (terms-once p.n nodes is r.at (live-place p nodes r live))
+length-terms p nodes is r live = length_permutation _ _ (in_order-permutation (place_terms nodes r.at) (terms-once p.n nodes is r.at (live-place p nodes r live)))
 
-pub more-terms : (p : Signs) (nodes : List Node) → IsDiagram p.n nodes → (r : FnRef) → IsLive (functions_of p nodes) r → (k : ℕ) (left : Option ℕ)
-    → MatchOption left (k < length (place_terms nodes r.at)) (λ rest. rest + length (place_terms nodes r.at) ≡ k) → is_some left ≡ false → k < length (in_order (place_terms nodes r.at))
-more-terms p nodes is r live k None h e = omega (arith, h, length-terms p nodes is r live)
-more-terms p nodes is r live k (Some rest) h e = absurd (false≢true (sym e))
-
-pub no-more-terms : (p : Signs) (nodes : List Node) → IsDiagram p.n nodes → (r : FnRef) → IsLive (functions_of p nodes) r → (k : ℕ) (left : Option ℕ)
-    → MatchOption left (k < length (place_terms nodes r.at)) (λ rest. rest + length (place_terms nodes r.at) ≡ k) → is_some left ≡ true → k < length (in_order (place_terms nodes r.at)) → ⊥
-no-more-terms p nodes is r live k None h e l = false≢true e
-no-more-terms p nodes is r live k (Some rest) h e l = omega (arith, h, l, length-terms p nodes is r live)
+pub more-terms : (p : Signs) (nodes : List Node) → IsDiagram p.n nodes → (r : FnRef) → IsLive (functions_of p nodes) r → (k : ℕ) (left : Option ℕ) → MatchOption left (k < length (place_terms nodes r.at)) (λ rest. rest + length (place_terms nodes r.at) ≡ k)
+    → (is_some left ≡ false → k < length (in_order (place_terms nodes r.at))) × (is_some left ≡ true → k < length (in_order (place_terms nodes r.at)) → ⊥)
+more-terms p nodes is r live k None h = (λ e. omega (arith, h, length-terms p nodes is r live), λ e l. false≢true e)
+more-terms p nodes is r live k (Some rest) h = (λ e. absurd (false≢true (sym e)), λ e l. omega (arith, h, l, length-terms p nodes is r live))

@@ -5,87 +5,34 @@ use Rattle.std.proofs.lemmas.Bool.{and_right, cases_lt}
 use Rattle.ae_base.specs.Mask.{Set, differ}
 use Rattle.ae_base.specs.Cube.{Signs}
 use Rattle.ae_base.specs.Terms.{literal}
-use Rattle.ae_base.proofs.Truth.{differ-same, differ-false, differ-swap, and-differ}
+use Rattle.ae_base.proofs.Truth.{differ-same, differ-false, differ-back, differ-swap, and-differ}
 use Rattle.davio_dd.specs.declared.node.Node.{Node}
 use Rattle.davio_dd.specs.Diagram.{place_value, top, IsDiagram, IsPlace, IsAnswer, product}
 use Rattle.davio_dd.specs.Scratch.{AreParts, IsNode, IsPart, IsSplit, IsLater, IsHigh}
-use Rattle.davio_dd.proofs.Places.{value-zero, value-one, top-zero, top-one, IsNodeAt, node_at, place-cases}
-use Rattle.davio_dd.proofs.Canonical.{top-place, value-place, parts, differ-twice}
+use Rattle.davio_dd.proofs.Places.{value-zero, value-one, top-constant, place-cases}
+use Rattle.davio_dd.proofs.Canonical.{top-place, parts}
 use Rattle.davio_dd.proofs.Growing.{Moved, Moved-trans, place-moved, top-moved, value-moved, answer-moved, later-moved}
 
 -- ---- tops
 
-pub top-constant : (n : ℕ) (nodes : List Node) (at : ℕ) → at < 2 → top n nodes at ≡ n
-top-constant n nodes at l = by_place at l (place_cases at l)
-  where
-    place_cases : (at : ℕ) → at < 2 → (at ≡ 0) ⊎ (at ≡ 1)
-    place_cases at l = search (arith, rules)
+-- a constant tests no input, a node tests one
+top-cases : (n : ℕ) (nodes : List Node) → IsDiagram n nodes → (at : ℕ) → IsPlace nodes at → ((at < 2) × (top n nodes at ≡ n)) ⊎ (top n nodes at < n)
+top-cases n nodes is at place = elim (place-cases nodes at place) [
+  | inl l ↦ inl (l, top-constant n nodes at l)
+  | inr c ↦ inr (omega (arith, top-place n nodes is at c, (parts n nodes is at c).below))
+]
 
-    by_place : (at : ℕ) → at < 2 → (at ≡ 0) ⊎ (at ≡ 1) → top n nodes at ≡ n
-    by_place at l (inl e) = ap (top n nodes) e ∙ top-zero n nodes
-    by_place at l (inr e) = ap (top n nodes) e ∙ top-one n nodes
-
-pub top-read : (n : ℕ) (nodes : List Node) → IsDiagram n nodes → (at : ℕ) (node : Node) → IsNode n nodes at node → top n nodes at ≡ node.input
-unfolding node_at
-top-read n nodes is at node h = top-place n nodes is at (node_at n nodes at node h)
-
-pub top-below : (n : ℕ) (nodes : List Node) → IsDiagram n nodes → (at : ℕ) → IsPlace nodes at → 2 ≤ at → top n nodes at < n
-top-below n nodes is at place two = by_place (place-cases nodes at place)
-  where
-    by_place : (at ≡ 0) ⊎ ((at ≡ 1) ⊎ IsNodeAt nodes at) → top n nodes at < n
-    by_place (inl e) = absurd (omega arith)
-    by_place (inr (inl e)) = absurd (omega arith)
-    by_place (inr (inr c)) = omega (arith, top-place n nodes is at c, (parts n nodes is at c).below)
-
-pub top-within : (n : ℕ) (nodes : List Node) → IsDiagram n nodes → (at : ℕ) → IsPlace nodes at → top n nodes at ≤ n
-top-within n nodes is at place = by_place (place-cases nodes at place)
-  where
-    by_place : (at ≡ 0) ⊎ ((at ≡ 1) ⊎ IsNodeAt nodes at) → top n nodes at ≤ n
-    by_place (inl e) = omega (arith, ap (top n nodes) e, top-zero n nodes)
-    by_place (inr (inl e)) = omega (arith, ap (top n nodes) e, top-one n nodes)
-    by_place (inr (inr c)) = omega (arith, top-place n nodes is at c, (parts n nodes is at c).below)
+top-within : (n : ℕ) (nodes : List Node) → IsDiagram n nodes → (at : ℕ) → IsPlace nodes at → top n nodes at ≤ n
+top-within n nodes is at place = elim (top-cases n nodes is at place) [ inl h ↦ omega (arith, h.1) | inr l ↦ omega (arith, l) ]
 
 -- of two places that are no constant 0 and differ, one tests an input
 pub first-below : (n : ℕ) (nodes : List Node) → IsDiagram n nodes → (a b : ℕ) → IsPlace nodes a → IsPlace nodes b → 0 < a → 0 < b → (a ≢ b) → min (top n nodes a) (top n nodes b) < n
-first-below n nodes is a b pa pb some other apart = by_order (two a b some other apart)
-  where
-    two : (a b : ℕ) → 0 < a → 0 < b → (a ≢ b) → (2 ≤ a) ⊎ (2 ≤ b)
-    two a b some other apart = elim (cases_lt a 2) [ inl l ↦ inr (omega (arith, apart)) | inr l ↦ inl l ]
-
-    by_order : (2 ≤ a) ⊎ (2 ≤ b) → min (top n nodes a) (top n nodes b) < n
-    by_order (inl l) = omega (arith, top-below n nodes is a pa l)
-    by_order (inr l) = omega (arith, top-below n nodes is b pb l)
+first-below n nodes is a b pa pb some other apart = elim (top-cases n nodes is a pa) [
+  | inr l ↦ omega (arith, l)
+  | inl h ↦ elim (top-cases n nodes is b pb) [ inr l ↦ omega (arith, l) | inl k ↦ absurd (omega (arith, h.0, k.0, apart)) ]
+]
 
 -- ---- parts
-
--- a place that tests later inputs alone is its own low part, beside the constant 0
-pub part-whole : (p : Signs) (nodes : List Node) (at input : ℕ) → input < p.n → input < top p.n nodes at → IsPart p nodes at input at 0
-part-whole p nodes at input below first = record {
-  is = λ x. sym (ap (λ h. differ (place_value p nodes at x) (literal p input x && h)) (value-zero p nodes x) ∙ ap (differ (place_value p nodes at x)) (and_right _ _ refl) ∙ differ-false _);
-  low_le = omega arith;
-  high_le = omega arith;
-  low_falls = λ e. absurd (omega (arith, e, first));
-  high_falls = λ some. some;
-  over_low = first;
-  over_high = omega (arith, top-zero p.n nodes, below);
-}
-
-pub part-node : (p : Signs) (nodes : List Node) → IsDiagram p.n nodes → (at : ℕ) (c : IsNodeAt nodes at) → IsPart p nodes at c.node.input c.node.low c.node.high
-part-node p nodes is at c =
-    let q = parts p.n nodes is at c in
-    record {
-      is = value-place p nodes is at c;
-      low_le = omega (arith, q.low_before);
-      high_le = omega (arith, q.high_before);
-      low_falls = λ e. q.low_before;
-      high_falls = λ some. q.high_before;
-      over_low = q.over_low;
-      over_high = q.over_high;
-    }
-
-pub part-read : (p : Signs) (nodes : List Node) → IsDiagram p.n nodes → (at input : ℕ) (node : Node) → IsNode p.n nodes at node → node.input ≡ input → IsPart p nodes at input node.low node.high
-unfolding node_at
-part-read p nodes is at input node h e = rw (← e) (part-node p nodes is at (node_at p.n nodes at node h))
 
 pub split-parts : (p : Signs) (nodes : List Node) (a b input al ah bl bh : ℕ) → input ≡ min (top p.n nodes a) (top p.n nodes b) → input < p.n → IsPart p nodes a input al ah → IsPart p nodes b input bl bh
     → IsSplit p nodes a b input al ah bl bh
@@ -94,15 +41,8 @@ split-parts p nodes a b input al ah bl bh first below l r = record {
   right = r;
   below = below;
   least = λ j x y. omega arith;
-  low_falls = by_first (either (top p.n nodes a) (top p.n nodes b) input first);
+  low_falls = elim (cases_lt (top p.n nodes a) (top p.n nodes b)) [ inl m ↦ omega (arith, l.low_falls (omega (arith, m)), r.low_le) | inr m ↦ omega (arith, r.low_falls (omega (arith, m)), l.low_le) ];
 }
-  where
-    either : (s t i : ℕ) → i ≡ min s t → (i ≡ s) ⊎ (i ≡ t)
-    either s t i e = elim (cases_lt s t) [ inl l ↦ inl (omega arith) | inr l ↦ inr (omega arith) ]
-
-    by_first : (input ≡ top p.n nodes a) ⊎ (input ≡ top p.n nodes b) → al + bl < a + b
-    by_first (inl e) = omega (arith, l.low_falls e, r.low_le)
-    by_first (inr e) = omega (arith, r.low_falls e, l.low_le)
 
 -- the parts test later inputs alone
 pub later-parts : (p : Signs) (nodes : List Node) (a b i al ah bl bh : ℕ) → IsSplit p nodes a b i al ah bl bh → IsPlace nodes a → IsPlace nodes b → AreParts p.n nodes i al ah bl bh
@@ -139,17 +79,12 @@ module _ (op : Bool → Bool → Bool) (p : Signs) (nodes : List Node) where
     right_place = pb;
     place = omega arith;
     is = λ x. value-zero p nodes x ∙ sym (is x);
-    over = λ j la lb. omega (arith, top-zero p.n nodes, top-within p.n nodes diagram a pa);
+    over = λ j la lb. omega (arith, top-constant p.n nodes 0 (omega arith), top-within p.n nodes diagram a pa);
   }
 
   -- the answer for later places is later
   pub answer-later : (i u v r : ℕ) → IsLater p.n nodes i u → IsLater p.n nodes i v → IsAnswer op p nodes u v r → IsLater p.n nodes i r
   answer-later i u v r lu lv is = record { place = is.place; over = is.over i lu.over lv.over }
-
--- so it is when some nodes more were added
-pub answer-over : (op : Bool → Bool → Bool) (p p1 p2 : Signs) (n0 n1 n2 : List Node) → Moved p n0 p1 n1 → Moved p1 n1 p2 n2 → (i u v r : ℕ) → IsLater p.n n0 i u → IsLater p.n n0 i v → IsAnswer op p1 n1 u v r → i < top p2.n n2 r
-answer-over op p p1 p2 n0 n1 n2 m1 m2 i u v r lu lv is =
-    (later-moved p1 p2 n1 n2 m2 i r (answer-later op p1 n1 i u v r (later-moved p p1 n0 n1 m1 i u lu) (later-moved p p1 n0 n1 m1 i v lv) is)).over
 
 -- the value of a place, by its parts as they are later
 part-value : (p p2 p3 : Signs) (n0 n2 n3 : List Node) → Moved p n0 p2 n2 → Moved p2 n2 p3 n3 → (at i low high : ℕ) → IsPart p n0 at i low high → IsPlace n0 at
@@ -163,7 +98,7 @@ part-value p p2 p3 n0 n2 n3 m2 m3 at i low high part place x =
 -- an operation by the parts of its operands
 by_literal : (op : Bool → Bool → Bool) (l al ah bl bh : Bool) → differ (op al bl) (l && differ (op al bl) (op (differ al ah) (differ bl bh))) ≡ op (differ al (l && ah)) (differ bl (l && bh))
 by_literal op false al ah bl bh = differ-false _ ∙ sym (ap₂ op (differ-false al) (differ-false bl))
-by_literal op true al ah bl bh = differ-twice _ _
+by_literal op true al ah bl bh = differ-back _ _
 
 -- A node over the answer for the low parts and over the high part of the operation is the answer for the places.
 pub answer-step : (op : Bool → Bool → Bool) (p p1 p2 p3 : Signs) (n0 n1 n2 n3 : List Node) (a b i al ah bl bh low high r : ℕ) → Moved p n0 p1 n1 → Moved p1 n1 p2 n2 → Moved p2 n2 p3 n3
@@ -187,20 +122,11 @@ answer-step op p p1 p2 p3 n0 n1 n2 n3 a b i al ah bl bh low high r m1 m2 m3 s pa
 
 -- ---- EXOR
 
-at-zero : (p : Signs) (nodes : List Node) (a : ℕ) → a ≡ 0 → (x : Set) → place_value p nodes a x ≡ false
+pub at-zero : (p : Signs) (nodes : List Node) (a : ℕ) → a ≡ 0 → (x : Set) → place_value p nodes a x ≡ false
 at-zero p nodes a e x = ap (λ (c : ℕ). place_value p nodes c x) e ∙ value-zero p nodes x
 
-at-one : (p : Signs) (nodes : List Node) (a : ℕ) → a ≡ 1 → (x : Set) → place_value p nodes a x ≡ true
+pub at-one : (p : Signs) (nodes : List Node) (a : ℕ) → a ≡ 1 → (x : Set) → place_value p nodes a x ≡ true
 at-one p nodes a e x = ap (λ (c : ℕ). place_value p nodes c x) e ∙ value-one p nodes x
-
-pub sum-same : (p : Signs) (nodes : List Node) → IsDiagram p.n nodes → (a b : ℕ) → IsPlace nodes a → IsPlace nodes b → a ≡ b → IsAnswer differ p nodes a b 0
-sum-same p nodes is a b pa pb e = answer-zero differ p nodes a b is pa pb (λ x. ap (λ (c : ℕ). differ (place_value p nodes c x) (place_value p nodes b x)) e ∙ differ-same (place_value p nodes b x))
-
-pub sum-left : (p : Signs) (nodes : List Node) (a b : ℕ) → IsPlace nodes a → IsPlace nodes b → a ≡ 0 → IsAnswer differ p nodes a b b
-sum-left p nodes a b pa pb e = answer-right differ p nodes a b pa pb (λ x. ap (λ v. differ v (place_value p nodes b x)) (at-zero p nodes a e x))
-
-pub sum-right : (p : Signs) (nodes : List Node) (a b : ℕ) → IsPlace nodes a → IsPlace nodes b → b ≡ 0 → IsAnswer differ p nodes a b a
-sum-right p nodes a b pa pb e = answer-left differ p nodes a b pa pb (λ x. ap (differ (place_value p nodes a x)) (at-zero p nodes b e x) ∙ differ-false _)
 
 -- the EXOR of the high parts is the high part of the EXOR
 high-sum : (p : Signs) (nodes : List Node) (i al ah bl bh r : ℕ) → AreParts p.n nodes i al ah bl bh → IsAnswer differ p nodes ah bh r → IsHigh differ p nodes i al ah bl bh r
@@ -210,7 +136,7 @@ high-sum p nodes i al ah bl bh r parts is = record {
 }
   where
     swapped : (al ah bl bh : Bool) → differ (differ al bl) (differ (differ al ah) (differ bl bh)) ≡ differ ah bh
-    swapped al ah bl bh = ap (differ (differ al bl)) (differ-swap al ah bl bh) ∙ differ-twice (differ al bl) (differ ah bh)
+    swapped al ah bl bh = ap (differ (differ al bl)) (differ-swap al ah bl bh) ∙ differ-back (differ al bl) (differ ah bh)
 
 -- so the step of EXOR asks for the answer for the high parts
 pub sum-step : (p p1 p2 p3 : Signs) (n0 n1 n2 n3 : List Node) (a b i al ah bl bh low high r : ℕ) → Moved p n0 p1 n1 → Moved p1 n1 p2 n2 → Moved p2 n2 p3 n3
@@ -222,23 +148,6 @@ sum-step p p1 p2 p3 n0 n1 n2 n3 a b i al ah bl bh low high r m1 m2 m3 s pa pb is
 
 -- ---- products
 
-pub product-same : (p : Signs) (nodes : List Node) (a b : ℕ) → IsPlace nodes a → IsPlace nodes b → (a ≡ b) ⊎ ((a ≢ b) × (b ≡ 1)) → IsAnswer product p nodes a b a
-product-same p nodes a b pa pb either = answer-left product p nodes a b pa pb (by_case either)
-  where
-    by_case : (a ≡ b) ⊎ ((a ≢ b) × (b ≡ 1)) → (x : Set) → (place_value p nodes a x && place_value p nodes b x) ≡ place_value p nodes a x
-    by_case (inl e) x = ap (λ (c : ℕ). place_value p nodes a x && place_value p nodes c x) (sym e) ∙ and_self (place_value p nodes a x)
-    by_case (inr (apart, e)) x = ap (λ v. place_value p nodes a x && v) (at-one p nodes b e x) ∙ and-true (place_value p nodes a x)
-
-pub product-left_one : (p : Signs) (nodes : List Node) (a b : ℕ) → IsPlace nodes a → IsPlace nodes b → a ≡ 1 → IsAnswer product p nodes a b b
-product-left_one p nodes a b pa pb e = answer-right product p nodes a b pa pb (λ x. ap (λ v. v && place_value p nodes b x) (at-one p nodes a e x))
-
-pub product-zero : (p : Signs) (nodes : List Node) → IsDiagram p.n nodes → (a b : ℕ) → IsPlace nodes a → IsPlace nodes b → (a ≡ 0) ⊎ ((a ≢ 0) × (b ≡ 0)) → IsAnswer product p nodes a b 0
-product-zero p nodes is a b pa pb either = answer-zero product p nodes a b is pa pb (by_case either)
-  where
-    by_case : (a ≡ 0) ⊎ ((a ≢ 0) × (b ≡ 0)) → (x : Set) → (place_value p nodes a x && place_value p nodes b x) ≡ false
-    by_case (inl e) x = ap (λ v. v && place_value p nodes b x) (at-zero p nodes a e x)
-    by_case (inr (apart, e)) x = and_right _ _ (at-zero p nodes b e x)
-
 -- The high part of a product: where one high part is the constant 0, the product of the other one with that place's low part,
 pub high-right_none : (p p1 : Signs) (n0 n1 : List Node) (i al ah bl bh r : ℕ) → Moved p n0 p1 n1 → AreParts p.n n0 i al ah bl bh → bh ≡ 0 → IsAnswer product p1 n1 ah bl r → IsHigh product p1 n1 i al ah bl bh r
 high-right_none p p1 n0 n1 i al ah bl bh r m parts none is = record {
@@ -247,7 +156,7 @@ high-right_none p p1 n0 n1 i al ah bl bh r m parts none is = record {
 }
   where
     at_none : (al ah bl bh : Bool) → bh ≡ false → differ (al && bl) (differ al ah && differ bl bh) ≡ (ah && bl)
-    at_none al ah bl bh e = ap (λ b. differ (al && bl) (differ al ah && b)) (ap (differ bl) e ∙ differ-false bl) ∙ ap (differ (al && bl)) (and-differ al ah bl) ∙ differ-twice (al && bl) (ah && bl)
+    at_none al ah bl bh e = ap (λ b. differ (al && bl) (differ al ah && b)) (ap (differ bl) e ∙ differ-false bl) ∙ ap (differ (al && bl)) (and-differ al ah bl) ∙ differ-back (al && bl) (ah && bl)
 
 pub high-left_none : (p p1 : Signs) (n0 n1 : List Node) (i al ah bl bh r : ℕ) → Moved p n0 p1 n1 → AreParts p.n n0 i al ah bl bh → ah ≡ 0 → IsAnswer product p1 n1 al bh r → IsHigh product p1 n1 i al ah bl bh r
 high-left_none p p1 n0 n1 i al ah bl bh r m parts none is = record {
@@ -256,7 +165,7 @@ high-left_none p p1 n0 n1 i al ah bl bh r m parts none is = record {
 }
   where
     at_none : (al ah bl bh : Bool) → ah ≡ false → differ (al && bl) (differ al ah && differ bl bh) ≡ (al && bh)
-    at_none true ah bl bh e = ap (λ a. differ bl (not a && differ bl bh)) e ∙ differ-twice bl bh
+    at_none true ah bl bh e = ap (λ a. differ bl (not a && differ bl bh)) e ∙ differ-back bl bh
     at_none false ah bl bh e = ap (λ a. a && differ bl bh) e
 
 -- else by the two products

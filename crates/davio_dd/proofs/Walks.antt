@@ -15,11 +15,7 @@ use Rattle.davio_dd.proofs.Terms.{terms-zero, terms-one, terms-place}
 
 -- ---- the terms of a place that is read
 
-terms-read : (n : ℕ) (nodes : List Node) → IsDiagram n nodes → (at : ℕ) (node : Node) → IsNode n nodes at node → place_terms nodes at ≡ place_terms nodes node.low ++ map (λ t. with t node.input) (place_terms nodes node.high)
-unfolding node_at
-terms-read n nodes is at node h = terms-place n nodes is at (node_at n nodes at node h)
-
-terms-none : (nodes : List Node) (at : ℕ) → at ≡ 0 → place_terms nodes at ≡ []
+pub terms-none : (nodes : List Node) (at : ℕ) → at ≡ 0 → place_terms nodes at ≡ []
 terms-none nodes at e = ap (place_terms nodes) e ∙ terms-zero nodes
 
 terms-empty : (nodes : List Node) (at : ℕ) → at < 2 → (at ≢ 0) → place_terms nodes at ≡ empty ∷ []
@@ -60,10 +56,7 @@ pushed-node n nodes is at node h path before between after low high =
     ∙ ap₂ (λ ts us. ts ++ us) low (sym (map_path path node.input (place_terms nodes node.high)))
     ∙ append_assoc before lows (map (λ t. either path t) (map (λ t. with t node.input) (place_terms nodes node.high)))
     ∙ ap (λ us. before ++ us) (sym (map-append (λ t. either path t) (place_terms nodes node.low) (map (λ t. with t node.input) (place_terms nodes node.high))))
-    ∙ ap (λ us. before ++ map (λ t. either path t) us) (sym (terms-read n nodes is at node h))
-
-pub pushed-none : (nodes : List Node) (at : ℕ) → at ≡ 0 → (path : Set) (before : List Set) → before ≡ before ++ map (λ t. either path t) (place_terms nodes at)
-pushed-none nodes at e path before = sym (ap (λ us. before ++ map (λ t. either path t) us) (terms-none nodes at e) ∙ append-nil before)
+    ∙ ap (λ us. before ++ map (λ t. either path t) us) (sym (terms-place n nodes is at (node_at n nodes at node h)))
 
 pub pushed-one : (nodes : List Node) (at : ℕ) → at < 2 → (at ≢ 0) → (path : Set) (before after : List Set) → after ≡ before ++ path ∷ [] → after ≡ before ++ map (λ t. either path t) (place_terms nodes at)
 pushed-one nodes at l some path before after h =
@@ -75,22 +68,16 @@ pushed-one nodes at l some path before after h =
 abbrev Leaves : ℕ → ℕ → Option ℕ → Type 0
 Leaves room terms left = MatchOption left (room < terms) (λ rest. rest + terms ≡ room)
 
-length-read : (n : ℕ) (nodes : List Node) → IsDiagram n nodes → (at : ℕ) (node : Node) → IsNode n nodes at node → length (place_terms nodes at) ≡ length (place_terms nodes node.low) + length (place_terms nodes node.high)
+pub length-read : (n : ℕ) (nodes : List Node) → IsDiagram n nodes → (at : ℕ) (node : Node) → IsNode n nodes at node → length (place_terms nodes at) ≡ length (place_terms nodes node.low) + length (place_terms nodes node.high)
 length-read n nodes is at node h =
-    ap length (terms-read n nodes is at node h)
+    ap length (terms-place n nodes is at (node_at n nodes at node h))
     ∙ length-append (place_terms nodes node.low) (map (λ t. with t node.input) (place_terms nodes node.high))
     ∙ ap (λ k. length (place_terms nodes node.low) + k) (length-map (place_terms nodes node.high) (λ t. with t node.input))
-
-pub room-low : (n : ℕ) (nodes : List Node) → IsDiagram n nodes → (at : ℕ) (node : Node) → IsNode n nodes at node → (room : ℕ) → room < length (place_terms nodes node.low) → room < length (place_terms nodes at)
-room-low n nodes is at node h room l = omega (arith, length-read n nodes is at node h)
 
 pub room-node : (n : ℕ) (nodes : List Node) → IsDiagram n nodes → (at : ℕ) (node : Node) → IsNode n nodes at node → (room left : ℕ) → left + length (place_terms nodes node.low) ≡ room
     → (rest : Option ℕ) → Leaves left (length (place_terms nodes node.high)) rest → Leaves room (length (place_terms nodes at)) rest
 room-node n nodes is at node h room left e None l = omega (arith, length-read n nodes is at node h)
 room-node n nodes is at node h room left e (Some rest) l = omega (arith, length-read n nodes is at node h)
-
-pub room-none : (nodes : List Node) (at : ℕ) → at ≡ 0 → (room : ℕ) → room + length (place_terms nodes at) ≡ room
-room-none nodes at e room = omega (arith, ap length (terms-none nodes at e))
 
 pub room-one : (nodes : List Node) (at : ℕ) → at < 2 → (at ≢ 0) → (room : ℕ) (rest : Option ℕ) → SomeIff rest (1 ≤ room) (room - 1) → Leaves room (length (place_terms nodes at)) rest
 room-one nodes at l some room None h = let few : room < 1 = elim (cases_lt room 1) [ inl m ↦ m | inr m ↦ absurd (h m) ] in omega (arith, ap length (terms-empty nodes at l some))

@@ -158,6 +158,7 @@ impl Davio {
         requires { IsAnswer differ self.old.polarity self.old.nodes.keys left right answer }
         ensures nodes { self.new.nodes.keys ≡ self.old.nodes.keys }
         ensures polarity { self.new.polarity ≡ self.old.polarity }
+        ensures answer { IsAnswer differ self.new.polarity self.new.nodes.keys left right answer }
     {
         let question = Question { left, right };
         let _ = self.sums.insert(question, answer);
@@ -175,6 +176,7 @@ impl Davio {
         requires { IsAnswer product self.old.polarity self.old.nodes.keys left right answer }
         ensures nodes { self.new.nodes.keys ≡ self.old.nodes.keys }
         ensures polarity { self.new.polarity ≡ self.old.polarity }
+        ensures answer { IsAnswer product self.new.polarity self.new.nodes.keys left right answer }
     {
         let question = Question { left, right };
         let _ = self.products.insert(question, answer);

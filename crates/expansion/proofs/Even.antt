@@ -2,7 +2,7 @@
 use Rattle.std.proofs.Common.{◌≡◌, ◌<◌, ◌≤◌, ◌%◌, ℕ, Bool, true, false, not, ◌&&◌, ◌||◌, cond, inl, inr, List, [], ◌∷◌, length, get_or, refl, sym, ap, ap₂, ◌∙◌, arith, eqb, eq-eqb, ne_eqb, ltb}
 use Rattle.std.specs.Prelude.{◌↔◌, All, Some, count_by, slice_get}
 use Rattle.std.specs.List.{AllByRecursion, list_any}
-use Rattle.std.proofs.lemmas.Bool.{and_parts, and_from, cases_Bool, false≢true, lt-ltb, le-ltb, not-true}
+use Rattle.std.proofs.lemmas.Bool.{and_parts, and_from, cases_Bool, false≢true, false_from_ne_true, lt-ltb, le-ltb, not-true}
 use Rattle.std.proofs.lemmas.List.Elements.{recursion_from_All}
 use Rattle.std.proofs.lemmas.Option.{slice_get-get_or, slice_get_within}
 use Rattle.std.proofs.lemmas.Map.Keys.{any_passes_from_place}
@@ -14,7 +14,7 @@ use Rattle.ae_base.specs.Source.{Source, on_set, IsUsed}
 use Rattle.ae_base.specs.Terms.{IsPoint, literal, product, value}
 use Rattle.ae_base.proofs.Points.{has-flipped}
 use Rattle.ae_base.proofs.Sets.{has-where_below, inside-below, inside-from}
-use Rattle.ae_base.proofs.Truth.{differ-same, equal_values}
+use Rattle.ae_base.proofs.Truth.{differ-same, differ-flip, differ-back, equal_values}
 use Rattle.ae_base.proofs.Exor.{exor_of_agree, odd_count, all_or_others}
 use Rattle.ae_base.proofs.Literals.{literals-product, product_false}
 use Rattle.ae_base.proofs.Elements.{Passing, any_found}
@@ -98,16 +98,9 @@ even-turned e k =
 by_counts : (p : Signs) (j : ℕ) (tss : List (List Set)) → AllByRecursion (AllByRecursion (Below p)) tss
     → list_any (λ ts. differ (value p ts (all_high p)) (value p ts (flipped j (all_high p)))) tss ≡ list_any (λ ts. eqb (count_by (λ t. has t j) ts % 2) 1) tss
 by_counts p j [] h = refl
-by_counts p j (ts ∷ tss) (h, hs) = ap₂ (λ a b. a || b) (third _ _ _ (turned_by p ts j h)) (by_counts p j tss hs)
-  where
-    third : (a b c : Bool) → a ≡ differ b c → differ a b ≡ c
-    third a b c e = ap (λ d. differ d b) e ∙ back b c
-      where
-        back : (b c : Bool) → differ (differ b c) b ≡ c
-        back true true = refl
-        back true false = refl
-        back false true = refl
-        back false false = refl
+by_counts p j (ts ∷ tss) (h, hs) =
+    let v = value p ts (flipped j (all_high p)) in
+    ap₂ (λ a b. a || b) (ap (λ d. differ d v) (turned_by p ts j h) ∙ differ-flip (differ v _) v ∙ differ-back v _) (by_counts p j tss hs)
 
 -- the flip changes an output exactly where an expansion holds the input an odd number of times
 turned-odd : (e : Terms) → IsTerms e → (j : ℕ) → is_turned e j ≡ is_odd e j
@@ -127,51 +120,35 @@ Means = (p : Signs) (f : Set → Bool) (ts : List Set) → IsExpansion p f ts �
 
 module _ (s : Source) (p : Signs) (e : Terms) (are : AreExpansions s p e) (means : Means) (polarity : e.polarity ≡ p) where
   -- the values of an output and of its expansion are the same at both points
-  turns : ℕ → List Set → Bool
+  abbrev turns : ℕ → List Set → Bool
   turns j ts = differ (value p ts (all_high p)) (value p ts (flipped j (all_high p)))
 
   turns-is : (j : ℕ) → j < p.n → (o : ℕ) (ts : List Set) → slice_get e.outs o ≡ Some ts → turns j ts ≡ differ (on_set s o (all_high p)) (on_set s o (flipped j (all_high p)))
-  unfolding turns
   turns-is j l o ts there =
       let is : IsExpansion p (on_set s o) ts = are.each o ts there in
       ap₂ differ (means p (on_set s o) ts is (all_high p) (point-all_high p)) (means p (on_set s o) ts is (flipped j (all_high p)) (point-flipped p j l))
 
   turned-is : (j : ℕ) → is_turned e j ≡ list_any (turns j) e.outs
-  unfolding turns
   turned-is j = ap (λ q. list_any (λ ts. differ (value q ts (all_high q)) (value q ts (flipped j (all_high q)))) e.outs) polarity
 
   kept : (j : ℕ) → j < p.n → is_turned e j ≡ false → (o : ℕ) → o < length s.outputs → on_set s o (flipped j (all_high p)) ≡ on_set s o (all_high p)
   kept j l none o within =
       let ts : List Set = get_or e.outs o [] in
       let there : slice_get e.outs o ≡ Some ts = slice_get-get_or e.outs o [] (omega (arith, are.outputs, within)) in
-      sym (equal_values _ _ (sym (turns-is j l o ts there) ∙ elim (cases_Bool (turns j ts)) [
-        | inl one ↦ absurd (false≢true (sym none ∙ turned-is j ∙ any_passes_from_place (turns j) e.outs o ts there one))
-        | inr none ↦ none
-      ]))
+      sym (equal_values _ _ (sym (turns-is j l o ts there) ∙ false_from_ne_true _ (λ one. false≢true (sym none ∙ turned-is j ∙ any_passes_from_place (turns j) e.outs o ts there one))))
 
   not_turned : (j : ℕ) → j < p.n → ((o : ℕ) → o < length s.outputs → on_set s o (flipped j (all_high p)) ≡ on_set s o (all_high p)) → is_turned e j ≡ false
-  not_turned j l same =
-      elim (cases_Bool (is_turned e j)) [
-        | inl h ↦
-            let at : Passing (turns j) e.outs = any_found (turns j) e.outs (sym (turned-is j) ∙ h) in
-            let within : at.place < length s.outputs = omega (arith, are.outputs, slice_get_within e.outs at.place at.element at.there) in
-            absurd (false≢true (
-            sym (differ-same (on_set s at.place (all_high p)))
-            ∙ ap (differ (on_set s at.place (all_high p))) (sym (same at.place within))
-            ∙ sym (turns-is j l at.place at.element at.there)
-            ∙ at.passes
-            ))
-        | inr none ↦ none
-      ]
+  not_turned j l same = false_from_ne_true _ (λ h.
+      let at : Passing (turns j) e.outs = any_found (turns j) e.outs (sym (turned-is j) ∙ h) in
+      let within : at.place < length s.outputs = omega (arith, are.outputs, slice_get_within e.outs at.place at.element at.there) in
+      let high = on_set s at.place (all_high p) in
+      false≢true (sym (differ-same high) ∙ ap (differ high) (sym (same at.place within)) ∙ sym (turns-is j l at.place at.element at.there) ∙ at.passes))
 
   pub are_even : ((j : ℕ) → (has (used_inputs e) j ≡ true) ↔ IsUsed s j) → (j : ℕ) → (has (even_inputs e) j ≡ true) ↔ IsEven s p j
-  are_even used j = (forward, backward)
-    where
-      forward : has (even_inputs e) j ≡ true → IsEven s p j
-      forward h =
-          let parts = and_parts _ _ (sym (even-turned e j) ∙ h) in
-          let here : IsUsed s j = (used j).0 parts.0 in
-          record { used = here; kept = kept j (omega (arith, are.inputs, here.is_input)) (not-true _ parts.1) }
-
-      backward : IsEven s p j → has (even_inputs e) j ≡ true
-      backward h = even-turned e j ∙ and_from _ _ ((used j).1 h.used) (ap not (not_turned j (omega (arith, are.inputs, h.used.is_input)) h.kept))
+  are_even used j = (
+    λ h.
+        let parts = and_parts _ _ (sym (even-turned e j) ∙ h) in
+        let here : IsUsed s j = (used j).0 parts.0 in
+        record { used = here; kept = kept j (omega (arith, are.inputs, here.is_input)) (not-true _ parts.1) },
+    λ h. even-turned e j ∙ and_from _ _ ((used j).1 h.used) (ap not (not_turned j (omega (arith, are.inputs, h.used.is_input)) h.kept)),
+  )

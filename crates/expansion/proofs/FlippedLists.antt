@@ -39,13 +39,6 @@ flips_cost j [] (us ∷ uss) h = absurd h
 flips_cost j (ts ∷ tss) [] h = absurd h
 flips_cost j (ts ∷ tss) (us ∷ uss) (h, hs) = omega (arith, h.count, flips_cost j tss uss hs, sum_by-cons length us uss, sum_by-cons length ts tss)
 
--- what each flip gives holds of each list
-flips_each : (j : ℕ) (P Q : List Set → Type 0) → ((ts us : List Set) → P ts → IsFlip j ts us → Q us) → (tss uss : List (List Set)) → AllZip (IsFlip j) tss uss → AllByRecursion P tss → AllByRecursion Q uss
-flips_each j P Q step [] [] h all = tt
-flips_each j P Q step [] (us ∷ uss) h all = absurd h
-flips_each j P Q step (ts ∷ tss) [] h all = absurd h
-flips_each j P Q step (ts ∷ tss) (us ∷ uss) (h, hs) (p, ps) = (step ts us p h, flips_each j P Q step tss uss hs ps)
-
 pub flipped_keeps : (e : Terms) (j : ℕ) (outs : List (List Set)) → AllZip (IsFlip j) e.outs outs → KeepsFunctions e (record { polarity = flipped_polarity e.polarity j; outs = outs })
 flipped_keeps e j outs flips s are = record {
   inputs = are.inputs;
@@ -61,8 +54,8 @@ pub flipped_terms : (laws : Laws) (e : Terms) (j : ℕ) (outs : List (List Set))
     → IsTerms (record { polarity = flipped_polarity e.polarity j; outs = outs })
 flipped_terms laws e j outs is input cheap flips = record {
   signs = flipped_signs e.polarity j is.signs input;
-  below = All-from_recursion _ outs (flips_each j Own (λ us. All (λ t. inside t (first e.polarity.n) ≡ true) us) (λ ts us one flip. laws.below q (value e.polarity ts) us (flip.expansion e.polarity (value e.polarity ts) one)) e.outs outs flips own);
-  order = All-from_recursion _ outs (flips_each j Own IsInOrder (λ ts us one flip. (flip.expansion e.polarity (value e.polarity ts) one).order) e.outs outs flips own);
+  below = λ k d l. laws.below q _ _ (own k d l);
+  order = λ k d l. (own k d l).order;
   few_lists = omega (arith, length_all_zip (IsFlip j) e.outs outs flips, is.few_lists);
   few_terms = omega (arith, flips_cost j e.outs outs flips, cheap);
 }
@@ -70,15 +63,10 @@ flipped_terms laws e j outs is input cheap flips = record {
     q : Signs
     q = flipped_polarity e.polarity j
 
-    Own : List Set → Type 0
-    Own ts = IsExpansion e.polarity (value e.polarity ts) ts
-
-    own_from : (tss : List (List Set)) → AllByRecursion IsInOrder tss → AllByRecursion (λ ts. All (λ t. inside t (first e.polarity.n) ≡ true) ts) tss → AllByRecursion Own tss
-    own_from [] order below = tt
-    own_from (ts ∷ tss) (order, orders) (below, belows) = (laws.only e.polarity (value e.polarity ts) ts order below (λ x point. refl), own_from tss orders belows)
-
-    own : AllByRecursion Own e.outs
-    own = own_from e.outs (recursion_from_All IsInOrder e.outs is.order) (recursion_from_All _ e.outs is.below)
+    own : (k : ℕ) (d : List Set) → k < length outs → IsExpansion q (value e.polarity (get_or e.outs k d)) (get_or outs k d)
+    own k d l =
+        let within : k < length e.outs = omega (arith, l, length_all_zip (IsFlip j) e.outs outs flips) in
+        (AllZip-get_or (IsFlip j) e.outs outs k d d flips within).expansion e.polarity _ (laws.only e.polarity _ _ (is.order k d within) (is.below k d within) (λ x point. refl))
 
 pub all_flips : (j k : ℕ) (tss uss lists : List (List Set)) → lists ≡ tss → length lists ≤ k → AllZip (IsFlip j) (take k tss) uss → AllZip (IsFlip j) tss uss
 all_flips j k tss uss lists is all flips = subst (λ front. AllZip (IsFlip j) front uss) (take_all k tss (omega (arith, all, ap length is))) flips

@@ -1,30 +1,25 @@
 -- The expansion of a function at the polarity that differs in one input.
 use Rattle.std.proofs.Common.{◌≡◌, ◌≢◌, ◌∙◌, ℕ, Bool, true, false, not, cond, ◌&&◌, ◌||◌, List, [], ◌∷◌, map, refl, sym, ap, ap₂, eqb, eq-eqb, ne_eqb, inl, inr}
 use Rattle.std.specs.Prelude.{All, filter}
-use Rattle.std.proofs.lemmas.Bool.{cases_eq, false≢true}
-use Rattle.std.proofs.lemmas.List.Elements.{All-from_recursion, recursion_from_All}
+use Rattle.std.proofs.lemmas.Bool.{cases_Bool, cases_eq, false≢true}
 use Rattle.ae_base.specs.Mask.{Set, differ, has, first, inside, with, without}
 use Rattle.ae_base.specs.Cube.{Signs}
 use Rattle.ae_base.specs.Terms.{IsPoint, IsInOrder, literal, product, value}
-use Rattle.ae_base.proofs.Sets.{same_set, has-with}
-use Rattle.ae_base.proofs.Truth.{same_truth, differ-flip, differ-false, differ-swap, differ-back, differ-cancel}
+use Rattle.ae_base.proofs.Sets.{same_set}
+use Rattle.ae_base.proofs.Truth.{same_truth, not_not, differ-flip, differ-false, differ-swap, differ-back, differ-cancel}
 use Rattle.fn_store.specs.Davio.{IsExpansion}
 use Rattle.ae_base.proofs.Literals.{product-literals, literals-product, product-with}
-use Rattle.ae_base.proofs.Points.{has-flipped}
+use Rattle.ae_base.proofs.Points.{has-flipped, put-same, put-other}
 use Rattle.expansion.specs.Flipped.{flipped_polarity}
-use Rattle.expansion.proofs.TakenOut.{taken, order-taken, inside-taken, without-other, without-itself}
+use Rattle.expansion.proofs.TakenOut.{taken, order-taken, inside-taken}
 
 -- ---- literals and products at the two polarities
 
 turned : (a e b : Bool) → cond (differ a e) b (not b) ≡ differ (cond a b (not b)) e
-turned true true true = refl
-turned true true false = refl
-turned true false true = refl
-turned true false false = refl
-turned false true true = refl
-turned false true false = refl
-turned false false true = refl
-turned false false false = refl
+turned true true b = sym (differ-flip b true)
+turned true false b = sym (differ-false b)
+turned false true b = not_not b ∙ differ-flip true (not b)
+turned false false b = sym (differ-false (not b))
 
 literal-turned : (p : Signs) (j k : ℕ) (x : Set) → literal (flipped_polarity p j) k x ≡ differ (literal p k x) (eqb k j)
 literal-turned p j k x = ap (λ b. cond b (has x k) (not (has x k))) (has-flipped j p.plain k) ∙ turned (has p.plain k) (eqb k j) (has x k)
@@ -41,12 +36,10 @@ product-other p j t x out =
 
 -- a term that holds the input is itself without it, and the input
 put_back : (t : Set) (j : ℕ) → has t j ≡ true → t ≡ with (without t j) j
-put_back t j m =
-    same_set t (with (without t j) j) (λ k.
-    elim (cases_eq k j) [
-      | inl e ↦ ap (has t) e ∙ m ∙ sym (has-with (without t j) j k ∙ ap (λ b. b || has (without t j) k) (eq-eqb k j e))
-      | inr ne ↦ sym (has-with (without t j) j k ∙ ap (λ b. b || has (without t j) k) (ne_eqb k j ne) ∙ without-other t j k ne)
-    ])
+put_back t j m = same_set t (with (without t j) j) (λ k. elim (cases_eq k j) [
+  | inl e ↦ rw e (m ∙ sym (put-same j true (without t j)))
+  | inr ne ↦ sym (put-other j k true (without t j) ne ∙ put-other j k false t ne)
+])
 
 product-held : (p : Signs) (j : ℕ) (t x : Set) → has t j ≡ true → product p t x ≡ (literal p j x && product p (without t j) x)
 product-held p j t x m = ap (λ u. product p u x) (put_back t j m) ∙ product-with p (without t j) x j
@@ -59,7 +52,7 @@ one_of false b = refl
 -- the products of a term at the two polarities differ by that of the term without the input
 product-taken : (p : Signs) (j : ℕ) (t x : Set) → has t j ≡ true → product (flipped_polarity p j) (without t j) x ≡ differ (product p t x) (product (flipped_polarity p j) t x)
 product-taken p j t x m =
-    let rest : product (flipped_polarity p j) (without t j) x ≡ product p (without t j) x = product-other p j (without t j) x (without-itself t j) in
+    let rest : product (flipped_polarity p j) (without t j) x ≡ product p (without t j) x = product-other p j (without t j) x (put-same j false t) in
     let turns : literal (flipped_polarity p j) j x ≡ not (literal p j x) = literal-turned p j j x ∙ ap (differ (literal p j x)) (eq-eqb j j refl) ∙ differ-flip (literal p j x) true in
     rest ∙ one_of (literal p j x) (product p (without t j) x)
     ∙ ap₂ differ (sym (product-held p j t x m)) (sym (product-held (flipped_polarity p j) j t x m ∙ ap₂ (λ a b. a && b) turns rest))
@@ -67,16 +60,14 @@ product-taken p j t x m =
 -- the values at the two polarities differ by that of the terms without the input
 value-taken : (p : Signs) (j : ℕ) (ts : List Set) (x : Set) → value (flipped_polarity p j) (taken j ts) x ≡ differ (value p ts x) (value (flipped_polarity p j) ts x)
 value-taken p j [] x = refl
-value-taken p j (t ∷ ts) x = by (has t j) refl (value-taken p j ts x)
-  where
-    by : (b : Bool) → has t j ≡ b → value (flipped_polarity p j) (taken j ts) x ≡ differ (value p ts x) (value (flipped_polarity p j) ts x)
-        → value (flipped_polarity p j) (map (λ t. without t j) (cond b (t ∷ filter (λ t. has t j) ts) (filter (λ t. has t j) ts))) x
-        ≡ differ (differ (product p t x) (value p ts x)) (differ (product (flipped_polarity p j) t x) (value (flipped_polarity p j) ts x))
-    by true m rest =
-        ap₂ differ (product-taken p j t x m) rest ∙ differ-swap (product p t x) (product (flipped_polarity p j) t x) (value p ts x) (value (flipped_polarity p j) ts x)
-    by false m rest =
-        rest ∙ sym (differ-cancel (product p t x) (value p ts x) (value (flipped_polarity p j) ts x))
-        ∙ ap (λ b. differ (differ (product p t x) (value p ts x)) (differ b (value (flipped_polarity p j) ts x))) (sym (product-other p j t x m))
+value-taken p j (t ∷ ts) x =
+    let q = flipped_polarity p j in
+    elim (cases_Bool (has t j)) [
+      | inl m ↦ rw m (ap₂ differ (product-taken p j t x m) (value-taken p j ts x) ∙ differ-swap (product p t x) (product q t x) (value p ts x) (value q ts x))
+      | inr m ↦
+          rw m (value-taken p j ts x ∙ sym (differ-cancel (product p t x) (value p ts x) (value q ts x))
+          ∙ ap (λ b. differ (differ (product p t x) (value p ts x)) (differ b (value q ts x))) (sym (product-other p j t x m)))
+    ]
 
 -- ---- the expansion
 
@@ -95,7 +86,7 @@ flipped-is laws p j f ts us sum is =
     let own : IsExpansion q (value q ts) ts = laws.only q (value q ts) ts is.order below (λ x point. refl) in
     let others : IsExpansion q (λ x. differ (f x) (value q ts x)) (taken j ts) =
     laws.only q (λ x. differ (f x) (value q ts x)) (taken j ts) (order-taken j ts is.order)
-    (All-from_recursion (λ t. inside t (first p.n) ≡ true) (taken j ts) (inside-taken p.n j ts (recursion_from_All (λ t. inside t (first p.n) ≡ true) ts below)))
+    (inside-taken p.n j ts below)
     (λ x point. value-taken p j ts x ∙ ap (λ v. differ v (value q ts x)) (laws.meaning p f ts is x point)) in
     let all = sum q (value q ts) (λ x. differ (f x) (value q ts x)) own others in
     laws.only q f us all.order (laws.below q (λ x. differ (value q ts x) (differ (f x) (value q ts x))) us all)

@@ -2,10 +2,10 @@
 use Rattle.std.proofs.Common.{◌≡◌, ◌<◌, ◌+◌, ℕ, suc, Some, None, Option, List, [], ◌∷◌, ◌++◌, length, take, option_map, get_or, refl, sym, ap, ◌∙◌, arith}
 use Rattle.std.specs.Prelude.{Bool, true, ◌^◌, All, slice_get}
 use Rattle.std.specs.List.{sum_by}
-use Rattle.std.proofs.lemmas.List.{length-map, length-take-le, map-append, take-map}
+use Rattle.std.proofs.lemmas.List.{get_or-map, length-map, length-take-le, map-append, take-map}
 use Rattle.std.proofs.lemmas.List.Elements.{All-map, All-weaker}
 use Rattle.std.proofs.lemmas.List.Sums.{sum_by-append, sum_by-cons}
-use Rattle.std.proofs.lemmas.Option.{slice_get-get_or, slice_get-map}
+use Rattle.std.proofs.lemmas.Option.{get_or_from_slice_get, slice_get-get_or, slice_get_within}
 use Rattle.std.proofs.Math.Seq.{take-length, take-suc}
 use Rattle.ae_base.specs.Mask.{Set, first, inside}
 use Rattle.ae_base.specs.Cube.{Signs, IsSigns}
@@ -66,19 +66,6 @@ are_terms s refs all inside_law live signs few cheap = record {
 
 -- ---- what references show
 
--- the reference of a list
-pub record IsListOf (s : Functions) (refs : List FnRef) (o : ℕ) (ts : List Set) : Type 0 where
-  pub ref : FnRef
-  pub there : slice_get refs o ≡ Some ref
-  pub terms : ts ≡ s.terms ref.at
-
-list_of : (s : Functions) (refs : List FnRef) (o : ℕ) (ts : List Set) → slice_get (expanded s refs).outs o ≡ Some ts → IsListOf s refs o ts
-list_of s refs o ts e = by_ref (slice_get refs o) refl (sym (slice_get-map (λ q. s.terms q.at) refs o) ∙ e)
-  where
-    by_ref : (q : Option FnRef) → slice_get refs o ≡ q → option_map (λ q. s.terms q.at) q ≡ Some ts → IsListOf s refs o ts
-    by_ref None f g = absurd (cc g)
-    by_ref (Some r) f g = record { ref = r; there = f; terms = sym (cc g) }
-
 pub all_live : (source : Source) (s : Functions) (refs : List FnRef) → ((o : ℕ) (r : FnRef) → slice_get refs o ≡ Some r → Shows s r (on_set source o)) → All (IsLive s) refs
 all_live source s refs shows = λ o r l. (shows o (get_or refs o r) (slice_get-get_or refs o r l)).live
 
@@ -88,5 +75,8 @@ source_expanded source s refs inputs count shows = record {
   inputs = inputs;
   polarity = refl;
   outputs = length-map refs (λ q. s.terms q.at) ∙ count;
-  each = λ o ts e. let l = list_of s refs o ts e in rw l.terms (shows o l.ref l.there).is;
+  each = λ o ts e.
+      let none : FnRef = record { at = 0 } in
+      let within : o < length refs = omega (arith, slice_get_within (expanded s refs).outs o ts e, length-map refs (λ q. s.terms q.at)) in
+      rw (sym (get_or_from_slice_get (expanded s refs).outs o ts [] e) ∙ get_or-map (λ q. s.terms q.at) refs o none [] within) (shows o _ (slice_get-get_or refs o none within)).is;
 }

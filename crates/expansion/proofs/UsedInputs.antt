@@ -54,15 +54,10 @@ module _ (s : Source) (p : Signs) (e : Terms) (are : AreExpansions s p e) (used 
 
   pub are_used : (j : ℕ) → (has (used_inputs e) j ≡ true) ↔ IsUsed s j
   unfolding used_inputs
-  are_used j = (forward, backward)
-    where
-      forward : has (where_below e.polarity.n (is_used e)) j ≡ true → IsUsed s j
-      forward h =
-          let parts = and_parts _ _ (sym (has-where_below e.polarity.n (is_used e) j) ∙ h) in
-          let l : j < e.polarity.n = ltb-true j e.polarity.n parts.0 in
-          held_used j (omega (arith, inputs_of, l)) parts.1
-
-      backward : IsUsed s j → has (where_below e.polarity.n (is_used e)) j ≡ true
-      backward h =
-          let held = used_held j h in
-          has-where_below e.polarity.n (is_used e) j ∙ and_from _ _ (lt-ltb j e.polarity.n (omega (arith, inputs_of, held.0))) held.1
+  are_used j = (
+    λ h.
+        let parts = and_parts _ _ (sym (has-where_below e.polarity.n (is_used e) j) ∙ h) in
+        let l : j < e.polarity.n = ltb-true j e.polarity.n parts.0 in
+        held_used j (omega (arith, inputs_of, l)) parts.1,
+    λ h. let held = used_held j h in has-where_below e.polarity.n (is_used e) j ∙ and_from _ _ (lt-ltb j e.polarity.n (omega (arith, inputs_of, held.0))) held.1,
+  )

@@ -12,8 +12,7 @@ use Rattle.fn_store.specs.declared.store.FnRef.{FnRef}
 use Rattle.fn_store.specs.Functions.{Functions, Shows, Keeps}
 use Rattle.fn_store.specs.Replay.{AreOps, AreResults, AllShown, IsOp, function_at, ref_at, result_of}
 use Rattle.fn_store.proofs.Expansions.{one}
-use Rattle.fn_store.proofs.Rows.{IsExpansion-own}
-use Rattle.fn_store.proofs.Shown.{IsExpansion-agree, Keeps-through, Shows-kept, Shows-agree}
+use Rattle.fn_store.proofs.Shown.{IsExpansion-agree, IsExpansion-own, Keeps-through, Shows-kept, Shows-agree}
 
 -- operands that agree give results that agree
 result-agree : (p : Signs) (n at : ℕ) (op : Op) (fs gs : ℕ → Set → Bool) (x : Set) → IsOp n at op → ((a : ℕ) → a < at → fs a x ≡ gs a x) → result_of p fs op x ≡ result_of p gs op x

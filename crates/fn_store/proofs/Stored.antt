@@ -8,8 +8,8 @@ use Rattle.ae_base.specs.Terms.{value}
 use Rattle.fn_store.specs.Davio.{IsExpansion}
 use Rattle.fn_store.specs.Functions.{Keeps, AllShow}
 use Rattle.fn_store.specs.Lists.{Lists, IsLists, functions_of}
-use Rattle.fn_store.proofs.Rows.{IsExpansion-zero, IsExpansion-one, IsExpansion-own}
-use Rattle.fn_store.proofs.Shown.{Shows-kept}
+use Rattle.fn_store.proofs.Rows.{IsExpansion-zero, IsExpansion-one}
+use Rattle.fn_store.proofs.Shown.{IsExpansion-own, Shows-kept}
 
 -- the store with other lists
 abbrev with_lists : Lists → List (List Set) → Lists

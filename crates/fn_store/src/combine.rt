@@ -4,7 +4,6 @@ ghost use Rattle.ae_base.specs.Mask.{Set, differ, empty, with, first, inside};
 ghost use Rattle.ae_base.specs.Cube.{Signs};
 ghost use Rattle.ae_base.specs.Terms.{literal, product as product_of};
 ghost use Rattle.fn_store.specs.Davio.{IsExpansion};
-ghost use Rattle.fn_store.specs.Scratch.{Means};
 
 use crate::terms::{exor, times_term};
 use ae_base::{Mask, Memory, Term, WIDTH};
@@ -61,7 +60,7 @@ fn sum_of_rows(alloc: Global, a: &[Term], b: &[Term]) -> Result<Vec<Term>, Memor
 
 /// The sum with the product of a term and a function.
 fn add_row(alloc: Global, rows: &[Term], b: &[Term], t: Term) -> Result<Vec<Term>, Memory>
-    ensures { IfOk result (λ ts. (p : Signs) (f g : Set → Bool) → inside t (first p.n) ≡ true → Means p f rows.now → Means p g b.now → Means p (λ x. differ (f x) (product_of p t x && g x)) ts.items) }
+    ensures { IfOk result (λ ts. (p : Signs) (f g : Set → Bool) → inside t (first p.n) ≡ true → IsExpansion p f rows.now → IsExpansion p g b.now → IsExpansion p (λ x. differ (f x) (product_of p t x && g x)) ts.items) }
 {
     let row = times_term(alloc, b, t)?;
     exor(alloc, rows, &row)

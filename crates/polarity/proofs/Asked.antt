@@ -3,7 +3,7 @@ use Rattle.std.proofs.Common.{◌≡◌, true, ℕ, suc, ◌<◌, ◌≤◌, con
 use Rattle.std.specs.Prelude.{not}
 use Rattle.std.specs.List.{All, filter}
 use Rattle.std.proofs.Math.Seq.{drop-append_seam}
-use Rattle.std.proofs.lemmas.Bool.{cases_lt, cond_above, cond_below}
+use Rattle.std.proofs.lemmas.Bool.{cases_lt, lt-ltb, le-ltb}
 use Rattle.std.proofs.lemmas.Bool.Decides.{nat_tests}
 use Rattle.std.proofs.lemmas.List.{map-append}
 use Rattle.std.proofs.lemmas.List.Elements.{All-append, All-cons, All-nil, All-push, All-weaker, AllZip-push, filter-append, length_all_zip}
@@ -18,15 +18,12 @@ use Rattle.polarity.specs.Cost.{cost_of, IsLocallyCheapest}
 use Rattle.polarity.specs.Settling.{settling}
 use Rattle.polarity.specs.Makers.{HasTooManyAt}
 use Rattle.polarity.specs.Search.{Advised, IsAsked, IsChosen, IsFirstCheapest, IsTold, Stands, advised, candidates, is_over, new_entries, told_at}
+use Rattle.polarity.proofs.Rounds.{Costs}
 use Rattle.polarity.specs.declared.entry.Entry.{Entry}
 use Rattle.polarity.specs.declared.entry.Told.{Told}
 use Rattle.polarity.specs.declared.entry.Told.TheVariants.{Untold, Over, Cost}
 
 -- ---- what is told
-
--- the law of costs
-abbrev pub Costs : Type 0
-Costs = (s : Source) (p : Signs) (e : Terms) → AreExpansions s p e → cost e ≡ cost_of s p
 
 module _ (s : Source) (limit : ℕ) where
   told_cost : (p : Signs) → cost_of s p ≤ limit → Cost (cost_of s p) ≡ told_at s limit p
@@ -65,12 +62,8 @@ cheaper_is costs s limit best e hb he within =
     let new : cost e ≡ cost_of s e.polarity = costs s e.polarity e he in
     let old : cost best ≡ cost_of s best.polarity = costs s best.polarity best hb in
     elim (cases_lt (cost e) (cost best)) [
-      | inl l ↦
-          ap (λ x. x.polarity) (sym (cond_below (cost e) (cost best) e best l))
-          ∙ becomes_best s limit best.polarity e.polarity (omega (arith, new, within)) (omega (arith, new, old, l))
-      | inr l ↦
-          ap (λ x. x.polarity) (sym (cond_above (cost e) (cost best) e best best l refl))
-          ∙ stays_first s limit best.polarity e.polarity (omega (arith, new, old, l))
+      | inl l ↦ rw (lt-ltb (cost e) (cost best) l) (becomes_best s limit best.polarity e.polarity (omega (arith, new, within)) (omega (arith, new, old, l)))
+      | inr l ↦ rw (le-ltb (cost e) (cost best) l) (stays_first s limit best.polarity e.polarity (omega (arith, new, old, l)))
     ]
 
 -- ---- the first cheapest of a list that grows
@@ -89,7 +82,7 @@ module _ (s : Source) (ps : List Signs) (b : Signs) (h : IsFirstCheapest s ps b)
       let after : All P h.after = All-weaker (λ q. cost_of s b ≤ cost_of s q) P holds h.after h.no_cheaper in
       subst (All P) (sym h.is) (All-append P h.before (b ∷ h.after) before (All-cons P b h.after (holds b (omega arith)) after))
 
-  no_dearer : (p : Signs) → cost_of s p ≤ cost_of s b → All (λ q. cost_of s p ≤ cost_of s q) ps
+  pub no_dearer : (p : Signs) → cost_of s p ≤ cost_of s b → All (λ q. cost_of s p ≤ cost_of s q) ps
   no_dearer p le = all_from (λ q. cost_of s p ≤ cost_of s q) (λ q l. omega (arith, l, le))
 
   first_kept : (p : Signs) → cost_of s b ≤ cost_of s p → IsFirstCheapest s (ps ++ p ∷ []) b
@@ -114,22 +107,15 @@ candidates-append : (xs ys : List Entry) → candidates (xs ++ ys) ≡ candidate
 candidates-append xs ys =
     ap (map (λ e. e.polarity)) (filter-append (λ e. not (is_over e.cost)) xs ys) ∙ map-append (λ e. e.polarity) (filter (λ e. not (is_over e.cost)) xs) (filter (λ e. not (is_over e.cost)) ys)
 
-candidate_over : (p : Signs) (t : Told) → t ≡ Over → candidates (entry_of p t ∷ []) ≡ []
-candidate_over p t is = rw is refl
-
-candidate_cost : (p : Signs) (t : Told) (c : ℕ) → t ≡ Cost c → candidates (entry_of p t ∷ []) ≡ p ∷ []
-candidate_cost p t c is = rw is refl
-
 first_told : (s : Source) (limit : ℕ) (ps : List Signs) (b p : Signs) (t : Told) → t ≡ told_at s limit p → IsFirstCheapest s ps b
     → IsFirstCheapest s (ps ++ candidates (entry_of p t ∷ [])) (cheaper_at s limit b p)
 first_told s limit ps b p t is h = elim (cases_lt limit (cost_of s p)) [
-  | inl over ↦ first_as _ _ h (sym (ap (λ l. ps ++ l) (candidate_over p t (is ∙ sym (told_over s limit p over))) ∙ append-nil ps)) (stays_best s limit b p over)
+  | inl over ↦ rw (is ∙ sym (told_over s limit p over)) (first_as _ _ h (sym (append-nil ps)) (stays_best s limit b p over))
   | inr within ↦
-      let lists : ps ++ p ∷ [] ≡ ps ++ candidates (entry_of p t ∷ []) = ap (λ l. ps ++ l) (sym (candidate_cost p t (cost_of s p) (is ∙ sym (told_cost s limit p within)))) in
-      elim (cases_lt (cost_of s p) (cost_of s b)) [
-        | inl l ↦ first_as _ _ (first_new s ps b h p l) lists (becomes_best s limit b p within l)
-        | inr l ↦ first_as _ _ (first_kept s ps b h p l) lists (stays_first s limit b p l)
-      ]
+      rw (is ∙ sym (told_cost s limit p within)) (elim (cases_lt (cost_of s p) (cost_of s b)) [
+        | inl l ↦ first_as _ _ (first_new s ps b h p l) refl (becomes_best s limit b p within l)
+        | inr l ↦ first_as _ _ (first_kept s ps b h p l) refl (stays_first s limit b p l)
+      ])
 ]
 
 -- ---- one advisor
@@ -184,19 +170,6 @@ asked_more s limit start bs us b u best best' h part none =
           first_as _ _ (part.first (ps ++ candidates (new_entries bs us)) (h.first ps f))
           (append_assoc ps (candidates (new_entries bs us)) (candidates part.new) ∙ ap (λ l. ps ++ l) (sym (candidates-append (new_entries bs us) part.new))
           ∙ ap (λ es. ps ++ candidates es) (sym entries)) refl;
-    }
-
--- the best after all advisors, once it is settled
-pub chosen : Costs → (s : Source) (limit : ℕ) (start : Signs) (bs us : List Advised) (best e : Terms) → AreAsked s limit start bs us best.polarity
-    → AreExpansions s best.polarity best → AreExpansions s e.polarity e → cost e ≤ cost best → e.polarity ≡ settling s best.polarity → IsLocallyCheapest s e.polarity → IsChosen s start bs us e.polarity
-chosen costs s limit start bs us best e h hb he le settles settled =
-    let first = h.first (start ∷ []) (first_alone s start) in
-    record {
-      cheapest = best.polarity;
-      first = first;
-      settling = settles;
-      settled = settled;
-      no_dearer = no_dearer s _ best.polarity first e.polarity (omega (arith, le, costs s best.polarity best hb, costs s e.polarity e he));
     }
 
 -- ---- telling

@@ -2,16 +2,12 @@
 use Rattle.std.proofs.Common.{◌≡◌, ◌<◌, ◌≤◌, List, [], ◌∷◌, ◌++◌, sym, ap, ◌∙◌, subst, arith}
 use Rattle.std.specs.List.{AllByRecursion}
 use Rattle.std.proofs.lemmas.List.Elements.{recursion_from_All}
+use Rattle.ae_base.proofs.Distinct.{each_front}
 use Rattle.ae_base.specs.Cube.{Signs}
 use Rattle.ae_base.specs.Source.{Source}
 use Rattle.polarity.specs.Cost.{cost_of}
 use Rattle.polarity.specs.Search.{Advised, IsChosen, IsFirstCheapest, candidates, new_entries}
 use Rattle.polarity.specs.Settling.{settling}
-
--- what holds of each holds of the one in the middle
-in_middle : (P : Signs → Type 0) (front back : List Signs) (p : Signs) → AllByRecursion P (front ++ p ∷ back) → P p
-in_middle P [] back p (here, rest) = here
-in_middle P (x ∷ front) back p (here, rest) = in_middle P front back p rest
 
 module _ (s : Source) where
   abbrev Dearer : Signs → List Signs → Type 0
@@ -20,24 +16,18 @@ module _ (s : Source) where
   abbrev NoCheaper : Signs → List Signs → Type 0
   NoCheaper p qs = AllByRecursion (λ q. cost_of s p ≤ cost_of s q) qs
 
-  -- the first cheapest one stands before no other
-  not_before : (p q : Signs) (back front rest : List Signs) → back ≡ front ++ q ∷ rest → NoCheaper p back → cost_of s q < cost_of s p → ⊥
-  not_before p q back front rest same none cheaper =
-      let no : cost_of s p ≤ cost_of s q = in_middle (λ r. cost_of s p ≤ cost_of s r) front rest q (subst (λ qs. AllByRecursion (λ r. cost_of s p ≤ cost_of s r) qs) same none) in
-      absurd (omega (arith, no, cheaper))
+  -- of two first cheapest ones neither stands before the other
+  not_before : (p q y : Signs) (xb ys yb : List Signs) → p ∷ xb ≡ y ∷ (ys ++ q ∷ yb) → NoCheaper p xb → cost_of s q < cost_of s y → ⊥
+  not_before p q y xb ys yb same none dearer =
+      let head : p ≡ y = cc in
+      let tail : xb ≡ ys ++ q ∷ yb = cc in
+      let no = (each_front (λ r. cost_of s p ≤ cost_of s r) ys (q ∷ yb) (subst (NoCheaper p) tail none)).1.0 in
+      omega (arith, no, dearer, ap (cost_of s) head)
 
   first_once : (xs ys xb yb : List Signs) (p q : Signs) → xs ++ p ∷ xb ≡ ys ++ q ∷ yb → Dearer p xs → NoCheaper p xb → Dearer q ys → NoCheaper q yb → p ≡ q
   first_once [] [] xb yb p q same dp np dq nq = cc same
-  first_once [] (y ∷ ys) xb yb p q same dp np dq nq =
-      let head : p ≡ y = cc same in
-      let tail : xb ≡ ys ++ q ∷ yb = cc same in
-      let dearer : cost_of s q < cost_of s y = dq.0 in
-      absurd (not_before p q xb ys yb tail np (omega (arith, dearer, ap (cost_of s) head)))
-  first_once (x ∷ xs) [] xb yb p q same dp np dq nq =
-      let head : x ≡ q = cc same in
-      let tail : yb ≡ xs ++ p ∷ xb = sym (cc same) in
-      let dearer : cost_of s p < cost_of s x = dp.0 in
-      absurd (not_before q p yb xs xb tail nq (omega (arith, dearer, ap (cost_of s) head)))
+  first_once [] (y ∷ ys) xb yb p q same dp np dq nq = absurd (not_before p q y xb ys yb same np dq.0)
+  first_once (x ∷ xs) [] xb yb p q same dp np dq nq = absurd (not_before q p x yb xs xb (sym same) nq dp.0)
   first_once (x ∷ xs) (y ∷ ys) xb yb p q same dp np dq nq = first_once xs ys xb yb p q (cc same) dp.1 np dq.1 nq
 
   one_cheapest : (ps : List Signs) (p q : Signs) → IsFirstCheapest s ps p → IsFirstCheapest s ps q → p ≡ q

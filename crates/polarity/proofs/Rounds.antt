@@ -1,12 +1,9 @@
 -- Rounds of settling.
 use Rattle.std.proofs.Common.{◌≡◌, ◌<◌, ◌≤◌, ◌+◌, ◌∙◌, ℕ, zero, suc, Bool, true, false, cond, ltb, List, [], ◌∷◌, refl, sym, ap, arith, inl, inr, lt-ltb}
-use Rattle.std.specs.Prelude.{Option, Some, None, find, slice_get}
+use Rattle.std.specs.Prelude.{◌⊎◌, Option, Some, None, find}
 use Rattle.std.specs.List.{range_with_len}
-use Rattle.std.proofs.lemmas.Bool.{cases_eq, ltb-true, ltb-false}
-use Rattle.std.proofs.lemmas.List.FromFn.{length-range_with_len, get_or-range_with_len}
-use Rattle.std.proofs.lemmas.List.Folds.{find_at}
-use Rattle.std.proofs.lemmas.List.Sums.{position_or_len_is}
-use Rattle.std.proofs.lemmas.Option.{none-some, slice_get-get_or, slice_get_past}
+use Rattle.std.proofs.lemmas.Bool.{cases_Bool, cases_eq, ltb-true, ltb-false}
+use Rattle.std.proofs.lemmas.Option.{none-some}
 use Rattle.ae_base.specs.Cube.{Signs}
 use Rattle.ae_base.specs.Source.{Source}
 use Rattle.expansion.specs.Flipped.{flipped_polarity}
@@ -25,44 +22,42 @@ costs_less s p j = ltb (cost_of s (flipped_polarity p j)) (cost_of s p)
 
 find-passes : (test : ℕ → Bool) (xs : List ℕ) (x : ℕ) → find test xs ≡ Some x → test x ≡ true
 find-passes test [] x h = absurd (none-some x h)
-find-passes test (y ∷ ys) x h = by (test y) refl h (find-passes test ys x)
-  where
-    by : (b : Bool) → test y ≡ b → cond b (Some y) (find test ys) ≡ Some x → (find test ys ≡ Some x → test x ≡ true) → test x ≡ true
-    by true e h later = let same : y ≡ x = cc h in ap test (sym same) ∙ e
-    by false e h later = later h
+find-passes test (y ∷ ys) x h = elim (cases_Bool (test y)) [
+  | inl e ↦ let same : y ≡ x = cc (rw e at h) in ap test (sym same) ∙ e
+  | inr e ↦ find-passes test ys x (rw e at h)
+]
 
 find-none : (test : ℕ → Bool) (n a : ℕ) → find test (range_with_len a n) ≡ None → (j : ℕ) → a ≤ j → j < a + n → test j ≡ false
 find-none test zero a h j low high = absurd (omega (arith, low, high))
-find-none test (suc n) a h j low high = by (test a) refl h (λ k l. find-none test n (a + 1) k j l (omega (arith, high)))
-  where
-    by : (b : Bool) → test a ≡ b → cond b (Some a) (find test (range_with_len (a + 1) n)) ≡ None → (find test (range_with_len (a + 1) n) ≡ None → a + 1 ≤ j → test j ≡ false) → test j ≡ false
-    by true e h later = absurd (none-some a (sym h))
-    by false e h later = elim (cases_eq j a) [ inl f ↦ ap test f ∙ e | inr ne ↦ later h (omega (arith, low, ne)) ]
+find-none test (suc n) a h j low high = elim (cases_Bool (test a)) [
+  | inl e ↦ absurd (none-some a (sym (rw e at h)))
+  | inr e ↦ elim (cases_eq j a) [ inl f ↦ ap test f ∙ e | inr ne ↦ find-none test n (a + 1) (rw e at h) j (omega (arith, low, ne)) (omega (arith, high)) ]
+]
 
--- the first of n numbers that passes, where none before it does
-find-first : (test : ℕ → Bool) (n j : ℕ) → j ≤ n → ((i : ℕ) → i < j → test i ≡ false) → (j < n → test j ≡ true) → find test (range_with_len 0 n) ≡ slice_get (range_with_len 0 n) j
-find-first test n j l before at =
-    let read = λ (i : ℕ) (k : i < n). get_or-range_with_len 0 n i 0 k ∙ (let z : 0 + i ≡ i = omega arith in z) in
-    find_at test (range_with_len 0 n)
-    ∙ ap (slice_get (range_with_len 0 n))
-    (position_or_len_is test (range_with_len 0 n) j 0 (omega (arith, length-range_with_len 0 n, l)) (λ i k. ap test (read i (omega (arith, k, l))) ∙ before i k)
-    (λ k. let m : j < n = omega (arith, k, length-range_with_len 0 n) in ap test (read j m) ∙ at m))
+-- the first that passes, and none
+find-first : (test : ℕ → Bool) (n a j : ℕ) → a ≤ j → j < a + n → ((i : ℕ) → i < j → test i ≡ false) → test j ≡ true → find test (range_with_len a n) ≡ Some j
+find-first test zero a j low high before at = absurd (omega (arith, low, high))
+find-first test (suc n) a j low high before at = elim (cases_eq a j) [
+  | inl e ↦ rw (ap test e ∙ at) (ap Some e)
+  | inr ne ↦ rw (before a (omega (arith, low, ne))) (find-first test n (a + 1) j (omega (arith, low, ne)) (omega (arith, high)) before at)
+]
 
-pub first-is : (s : Source) (p : Signs) (j : ℕ) → j < p.n → ((i : ℕ) → i < j → costs_less s p i ≡ false) → costs_less s p j ≡ true → first_cheaper s p ≡ Some j
-first-is s p j l before at =
-    find-first (costs_less s p) p.n j (omega (arith, l)) before (λ k. at)
-    ∙ slice_get-get_or (range_with_len 0 p.n) j 0 (omega (arith, l, length-range_with_len 0 p.n))
-    ∙ ap Some (get_or-range_with_len 0 p.n j 0 l ∙ (let z : 0 + j ≡ j = omega arith in z))
+find-no : (test : ℕ → Bool) (n a : ℕ) → ((i : ℕ) → i < a + n → test i ≡ false) → find test (range_with_len a n) ≡ None
+find-no test zero a none = refl
+find-no test (suc n) a none = rw (none a (omega arith)) (find-no test n (a + 1) (λ i l. none i (omega (arith, l))))
 
 pub none-is : (s : Source) (p : Signs) → ((i : ℕ) → i < p.n → costs_less s p i ≡ false) → first_cheaper s p ≡ None
-none-is s p none =
-    find-first (costs_less s p) p.n p.n (omega arith) none (λ k. absurd (omega (arith, k))) ∙ slice_get_past (range_with_len 0 p.n) p.n (omega (arith, length-range_with_len 0 p.n))
+none-is s p none = find-no (costs_less s p) p.n 0 (λ i l. none i (omega (arith, l)))
 
 -- ---- rounds
 
 -- a round that flips an input lowers the cost
-round-falls : (s : Source) (p : Signs) (j : ℕ) → first_cheaper s p ≡ Some j → cost_of s (flipped_polarity p j) < cost_of s p
-round-falls s p j e = ltb-true _ _ (find-passes (costs_less s p) (range_with_len 0 p.n) j e)
+round-falls : (s : Source) (p : Signs) → (first_cheaper s p ≡ None) ⊎ (cost_of s (with_flip p (first_cheaper s p)) < cost_of s p)
+round-falls s p = by (first_cheaper s p) refl
+  where
+    by : (o : Option ℕ) → first_cheaper s p ≡ o → (o ≡ None) ⊎ (cost_of s (with_flip p o) < cost_of s p)
+    by None e = inl refl
+    by (Some j) e = inr (ltb-true _ _ (find-passes (costs_less s p) (range_with_len 0 p.n) j e))
 
 -- where no flip costs less the polarity stays
 pub rounds-stay : (k : ℕ) (s : Source) (p : Signs) → first_cheaper s p ≡ None → rounds k s p ≡ p
@@ -71,36 +66,18 @@ rounds-stay (suc k) s p e = ap (λ o. rounds k s (with_flip p o)) e ∙ rounds-s
 
 -- more rounds than the polarity costs come to the same
 rounds-same : (k m : ℕ) (s : Source) (p : Signs) → cost_of s p ≤ k → cost_of s p ≤ m → rounds k s p ≡ rounds m s p
-rounds-same zero m s p l n = by (first_cheaper s p) refl
-  where
-    by : (o : Option ℕ) → first_cheaper s p ≡ o → p ≡ rounds m s p
-    by None e = sym (rounds-stay m s p e)
-    by (Some j) e = absurd (omega (arith, round-falls s p j e, l))
-rounds-same (suc k) zero s p l n = by (first_cheaper s p) refl
-  where
-    by : (o : Option ℕ) → first_cheaper s p ≡ o → rounds (suc k) s p ≡ p
-    by None e = rounds-stay (suc k) s p e
-    by (Some j) e = absurd (omega (arith, round-falls s p j e, n))
-rounds-same (suc k) (suc m) s p l n = by (first_cheaper s p) refl (rounds-same k m s)
-  where
-    by : (o : Option ℕ) → first_cheaper s p ≡ o → ((q : Signs) → cost_of s q ≤ k → cost_of s q ≤ m → rounds k s q ≡ rounds m s q) → rounds (suc k) s p ≡ rounds (suc m) s p
-    by None e later = rounds-stay (suc k) s p e ∙ sym (rounds-stay (suc m) s p e)
-    by (Some j) e later =
-        let falls = round-falls s p j e in
-        ap (λ o. rounds k s (with_flip p o)) e ∙ later (flipped_polarity p j) (omega (arith, falls, l)) (omega (arith, falls, n)) ∙ sym (ap (λ o. rounds m s (with_flip p o)) e)
-
-settling-stays : (s : Source) (p : Signs) → first_cheaper s p ≡ None → settling s p ≡ p
-unfolding settling
-settling-stays s p e = rounds-stay (cost_of s p) s p e
-
-after-one : (k : ℕ) (s : Source) (p : Signs) → cost_of s (with_flip p (first_cheaper s p)) < k → rounds k s p ≡ settling s (with_flip p (first_cheaper s p))
-unfolding settling
-after-one zero s p l = absurd (omega (arith, l))
-after-one (suc k) s p l = let q = with_flip p (first_cheaper s p) in rounds-same k (cost_of s q) s q (omega (arith, l)) (omega arith)
+rounds-same zero m s p l n = elim (round-falls s p) [ inl e ↦ sym (rounds-stay m s p e) | inr h ↦ absurd (omega (arith, h, l)) ]
+rounds-same (suc k) zero s p l n = elim (round-falls s p) [ inl e ↦ rounds-stay (suc k) s p e | inr h ↦ absurd (omega (arith, h, n)) ]
+rounds-same (suc k) (suc m) s p l n = elim (round-falls s p) [
+  | inl e ↦ rounds-stay (suc k) s p e ∙ sym (rounds-stay (suc m) s p e)
+  | inr h ↦ rounds-same k m s (with_flip p (first_cheaper s p)) (omega (arith, h, l)) (omega (arith, h, n))
+]
 
 settling-step : (s : Source) (p : Signs) → cost_of s (with_flip p (first_cheaper s p)) < cost_of s p → settling s p ≡ settling s (with_flip p (first_cheaper s p))
 unfolding settling
-settling-step s p l = after-one (cost_of s p) s p l
+settling-step s p l =
+    let q = with_flip p (first_cheaper s p) in
+    rounds-same (cost_of s p) (suc (cost_of s p)) s p (omega arith) (omega arith) ∙ rounds-same (cost_of s p) (cost_of s q) s q (omega (arith, l)) (omega arith)
 
 -- ---- in the words of expansions
 
@@ -108,16 +85,15 @@ settling-step s p l = after-one (cost_of s p) s p l
 abbrev pub Costs : Type 0
 Costs = (s : Source) (p : Signs) (e : Terms) → AreExpansions s p e → cost e ≡ cost_of s p
 
-module _ (costs : Costs) (e flipped : Terms) (j : ℕ) (polarity : flipped.polarity ≡ flipped_polarity e.polarity j) (functions : KeepsFunctions e flipped) where
-  cost-flipped : (s : Source) → AreExpansions s e.polarity e → cost flipped ≡ cost_of s (flipped_polarity e.polarity j)
-  cost-flipped s are = costs s flipped.polarity flipped (functions s are) ∙ ap (cost_of s) polarity
-
-  pub is_round : j < e.polarity.n → ((s : Source) → AreExpansions s e.polarity e → (i : ℕ) → i < j → costs_less s e.polarity i ≡ false) → cost flipped < cost e → IsRound e flipped
-  is_round input before l = record {
-    cheaper = l;
-    functions = functions;
-    polarity = λ s are. polarity ∙ ap (with_flip e.polarity) (sym (first-is s e.polarity j input (before s are) (lt-ltb _ _ (omega (arith, l, cost-flipped s are, costs s e.polarity e are)))));
-  }
+pub is_round : Costs → (e flipped : Terms) (j : ℕ) → flipped.polarity ≡ flipped_polarity e.polarity j → KeepsFunctions e flipped → j < e.polarity.n
+    → ((s : Source) → AreExpansions s e.polarity e → (i : ℕ) → i < j → costs_less s e.polarity i ≡ false) → cost flipped < cost e → IsRound e flipped
+is_round costs e flipped j polarity functions input before l = record {
+  cheaper = l;
+  functions = functions;
+  polarity = λ s are.
+      let less = lt-ltb _ _ (omega (arith, l, costs s flipped.polarity flipped (functions s are), ap (cost_of s) polarity, costs s e.polarity e are)) in
+      polarity ∙ ap (with_flip e.polarity) (sym (find-first (costs_less s e.polarity) e.polarity.n 0 j (omega arith) (omega (arith, input)) (before s are) less));
+}
 
 -- what settling goes on from
 pub record Settles (e now : Terms) : Type 0 where
@@ -142,7 +118,8 @@ module _ (e now : Terms) (had : Settles e now) (none : NoneCheaper now) (s : Sou
   none_here = none s (had.functions s are)
 
   pub settled-is : now.polarity ≡ settling s e.polarity
-  settled-is = sym (settling-stays s now.polarity none_here) ∙ had.same s are
+  unfolding settling
+  settled-is = sym (rounds-stay (cost_of s now.polarity) s now.polarity none_here) ∙ had.same s are
 
   pub settled-cheapest : IsLocallyCheapest s now.polarity
   settled-cheapest j l = ltb-false _ _ (find-none (costs_less s now.polarity) now.polarity.n 0 none_here j (omega arith) (omega (arith, l)))

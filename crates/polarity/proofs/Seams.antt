@@ -1,9 +1,8 @@
 -- A loop over a list that writes each element: what was passed, place by place, and the rest.
 use Rattle.std.proofs.Common.{◌≡◌, ℕ, ◌+◌, ◌<◌, ◌≤◌, List, [], ◌∷◌, ◌++◌, length, map, take, drop, get_or, ap, sym, subst, ◌∙◌, arith, add-one, suc}
 use Rattle.std.proofs.Math.ListN.{set}
-use Rattle.std.proofs.Math.Seq.{take-suc, take-suc-set, drop-cons}
 use Rattle.std.specs.List.{AllZip}
-use Rattle.std.proofs.lemmas.List.{take-append-drop, take-set, drop-set-lt, drop_all, map-append, take-map, drop-map}
+use Rattle.std.proofs.lemmas.List.{take-append-drop, take-set, take_more_set, drop-set-lt, drop_all, drop_more, map-append, map_more, map_push, take-map, drop-map}
 use Rattle.std.proofs.lemmas.List.Elements.{AllZip-push}
 use Rattle.ae_base.specs.Source.{Source}
 use Rattle.polarity.specs.Asking.{AreAskedInOrder}
@@ -18,17 +17,13 @@ pub record Seam {X Y : Type 0} (f : X → Y) (xs0 xs : List X) (i : ℕ) (x y : 
 pub seam : {X Y : Type 0} (f : X → Y) (xs0 xs : List X) (i : ℕ) (d y : X) → length xs ≡ length xs0 → i < length xs → drop i xs ≡ drop i xs0 → Seam f xs0 xs i (get_or xs i d) y
 seam f xs0 xs i d y long lt rest =
     let lt0 : i < length xs0 = omega arith in
-    let here : drop i xs ≡ get_or xs i d ∷ drop (suc i) xs = drop-cons xs i d lt in
-    let here0 : drop i xs0 ≡ get_or xs0 i d ∷ drop (suc i) xs0 = drop-cons xs0 i d lt0 in
-    let both : get_or xs i d ∷ drop (suc i) xs ≡ get_or xs0 i d ∷ drop (suc i) xs0 = sym here ∙ rest ∙ here0 in
+    let both : get_or xs i d ∷ drop (i + 1) xs ≡ get_or xs0 i d ∷ drop (i + 1) xs0 = sym (drop_more xs i d lt) ∙ rest ∙ drop_more xs0 i d lt0 in
     let same : get_or xs0 i d ≡ get_or xs i d = cc in
-    let next : drop (suc i) xs ≡ drop (suc i) xs0 = cc in
-    let before : take (i + 1) xs0 ≡ take i xs0 ++ get_or xs i d ∷ [] = rw add-one (take-suc xs0 i d lt0 ∙ ap (λ v. take i xs0 ++ v ∷ []) same) in
-    let after : take (i + 1) (set xs i y) ≡ take i xs ++ y ∷ [] = rw add-one (take-suc-set xs i y lt) in
+    let next : drop (i + 1) xs ≡ drop (i + 1) xs0 = cc in
     record {
-      before = ap (map f) before ∙ map-append f (take i xs0) (get_or xs i d ∷ []);
-      after = ap (map f) after ∙ map-append f (take i xs) (y ∷ []);
-      rest = rw add-one (drop-set-lt (suc i) xs i y (omega arith) ∙ next);
+      before = map_more f xs0 i d lt0 ∙ ap (λ v. map f (take i xs0) ++ f v ∷ []) same;
+      after = ap (map f) (take_more_set xs i y lt) ∙ map_push f (take i xs) y;
+      rest = drop-set-lt (i + 1) xs i y (omega arith) ∙ next;
     }
 
 pub AllZip-pass : {X Y : Type 0} (f : X → Y) (R : Y → Y → Type 0) (xs0 xs : List X) (i : ℕ) (x y : X) → Seam f xs0 xs i x y → AllZip R (map f (take i xs0)) (map f (take i xs)) → R (f x) (f y)

@@ -84,23 +84,16 @@ unfolding tree_of
 IsTree-tree_of n fault zero d e = tt
 IsTree-tree_of n fault (suc m) d e =
     let l : d.depth < length n.inputs = omega arith in
-    by_test (leaf_holds n fault d) (l, IsTree-tree_of n fault m (low d) (omega arith), IsTree-tree_of n fault m (high d) (omega arith))
-  where
-    by_test : (b : Bool) → IsTree (length n.inputs) d.depth (split (tree_of n fault m (low d)) (tree_of n fault m (high d))) → IsTree (length n.inputs) d.depth (cond b leaf (split (tree_of n fault m (low d)) (tree_of n fault m (high d))))
-    by_test true h = tt
-    by_test false h = h
+    elim (cases_Bool (leaf_holds n fault d)) [ inl h ↦ rw h tt | inr h ↦ rw h (l, IsTree-tree_of n fault m (low d) (omega arith), IsTree-tree_of n fault m (high d) (omega arith)) ]
 
 -- where no point of the subcube detects the fault
 needed : (n : Network) (fault : Fault) → ((d : Subcube) → LeafTells n fault d) → IsUndetectable n fault → (m : ℕ) (d : Subcube) → m + d.depth ≡ length n.inputs → SplitsOnNeed n fault d (tree_of n fault m d)
 unfolding tree_of
 needed n fault tells none zero d e = full-leaf n fault d (tells d) (omega arith) (none d.point)
-needed n fault tells none (suc m) d e =
-    by_test (leaf_holds n fault d) ((tells d).worked.0) ((tells d).worked.1) (needed n fault tells none m (low d) (omega arith)) (needed n fault tells none m (high d) (omega arith))
-  where
-    by_test : (b : Bool) → (b ≡ true → LeafHolds n fault d) → (LeafHolds n fault d → b ≡ true) → SplitsOnNeed n fault (low d) (tree_of n fault m (low d)) → SplitsOnNeed n fault (high d) (tree_of n fault m (high d))
-        → SplitsOnNeed n fault d (cond b leaf (split (tree_of n fault m (low d)) (tree_of n fault m (high d))))
-    by_test true to back g h = to refl
-    by_test false to back g h = (λ holds. false≢true (back holds), g, h)
+needed n fault tells none (suc m) d e = elim (cases_Bool (leaf_holds n fault d)) [
+  | inl h ↦ rw h ((tells d).worked.0 h)
+  | inr h ↦ rw h (λ holds. false≢true (sym h ∙ (tells d).worked.1 holds), needed n fault tells none m (low d) (omega arith), needed n fault tells none m (high d) (omega arith))
+]
 
 pub evidence_of_undetectable : (n : Network) (fault : Fault) → ((d : Subcube) → LeafTells n fault d) → IsUndetectable n fault → (t : Tree) × IsEvidenceTree n fault t
 evidence_of_undetectable n fault tells none =

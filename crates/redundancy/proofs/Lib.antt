@@ -1,10 +1,8 @@
 pub mod Bytes
 pub mod EvidenceTrees
-pub mod Findings
 pub mod Full
 pub mod Growths
 pub mod Readings
 pub mod Simulated
-pub mod Sound
 pub mod Tables
 pub mod Visited

@@ -62,24 +62,21 @@ module _ (n : Network) (fault : Fault) (d : Subcube) (word : List Step) (at : �
 
 -- the tree that is read from the start takes the whole word
 pub checked : (n : Network) (fault : Fault) (word : List Step) (r : Option ℕ) → MatchOption r (HasNoTree n fault whole word 0) (λ end. ReadsTo n fault whole word 0 end) → (r ≡ Some (length word)) ↔ WordHolds n fault word
-checked n fault word r h = (to r h, from r h)
-  where
-    to : (r : Option ℕ) → MatchOption r (HasNoTree n fault whole word 0) (λ end. ReadsTo n fault whole word 0 end) → r ≡ Some (length word) → WordHolds n fault word
-    to None h e = absurd (let s : ⊥ = cc in s)
-    to (Some end) h e =
-        let last : end ≡ length word = cc in
-        record {
-          whole_tree = record {
-            tree = h.tree;
-            is_written = h.reads ∙ ap (λ k. written h.tree ++ drop k word) last ∙ ap (λ w. written h.tree ++ w) (drop_all (length word) word (omega arith)) ∙ append-nil (written h.tree);
-            is_tree = h.stands.is_tree;
-          };
-          leaves = h.stands.leaves;
-        }
-
-    from : (r : Option ℕ) → MatchOption r (HasNoTree n fault whole word 0) (λ end. ReadsTo n fault whole word 0 end) → WordHolds n fault word → r ≡ Some (length word)
-    from None h holds = absurd (h holds.whole_tree.tree [] (holds.whole_tree.is_written ∙ sym (append-nil (written holds.whole_tree.tree))) (record { is_tree = holds.whole_tree.is_tree; leaves = holds.leaves }))
-    from (Some end) h holds =
-        let one = one_tree h.tree holds.whole_tree.tree (drop end word) [] (sym h.reads ∙ holds.whole_tree.is_written ∙ sym (append-nil (written holds.whole_tree.tree))) in
-        let last : end ≡ length word = omega (arith, h.within, sym (length-drop end word) ∙ ap length (one.1)) in
-        ap Some last
+checked n fault word None h =
+    ((λ e. absurd (let s : ⊥ = cc in s)), λ holds. absurd (h holds.whole_tree.tree [] (holds.whole_tree.is_written ∙ sym (append-nil (written holds.whole_tree.tree))) (record { is_tree = holds.whole_tree.is_tree; leaves = holds.leaves })))
+checked n fault word (Some end) h = (
+  λ e.
+      let last : end ≡ length word = cc in
+      record {
+        whole_tree = record {
+          tree = h.tree;
+          is_written = h.reads ∙ ap (λ k. written h.tree ++ drop k word) last ∙ ap (λ w. written h.tree ++ w) (drop_all (length word) word (omega arith)) ∙ append-nil (written h.tree);
+          is_tree = h.stands.is_tree;
+        };
+        leaves = h.stands.leaves;
+      },
+  λ holds.
+      let one = one_tree h.tree holds.whole_tree.tree (drop end word) [] (sym h.reads ∙ holds.whole_tree.is_written ∙ sym (append-nil (written holds.whole_tree.tree))) in
+      let last : end ≡ length word = omega (arith, h.within, sym (length-drop end word) ∙ ap length (one.1)) in
+      ap Some last,
+)

@@ -2,7 +2,10 @@
 use Rattle.std.proofs.Common.{◌≡◌, ℕ, suc, ◌<◌, Bool, true, false, not, cond, ◌&&◌, List, [], ◌∷◌, refl, sym, ap, ◌∙◌, arith}
 use Rattle.std.specs.Prelude.{Option, Some, None, All}
 use Rattle.std.specs.List.{list_any, list_all}
-use Rattle.std.proofs.lemmas.Bool.{false≢true, and_parts, and_from, and_right, or_parts, or_from, not-true, not_from_false, ltb-true, lt-ltb, false_from_ne_true}
+use Rattle.std.proofs.lemmas.Bool.{false≢true, and_parts, and_from, and_right, or_parts, or_from, not-true, not-false, not_from_false, ltb-true, lt-ltb, false_from_ne_true}
+use Rattle.std.proofs.lemmas.List.Elements.{All-weaker}
+use Rattle.std.proofs.lemmas.List.Folds.{list_any_none, list_any_at}
+use Rattle.std.proofs.lemmas.List.Sums.{AllPass-from_list_all, list_all-from_AllPass}
 use Rattle.ae_base.specs.Mask.{Set, has, where_below}
 use Rattle.ae_base.specs.Cube.{Product, holds, meet}
 use Rattle.ae_base.proofs.Elements.{any_weaker}
@@ -59,8 +62,7 @@ unfolding table
 table_by_any gate ones b e = turned gate.on _ ∙ ap (λ v. cond v gate.on (not gate.on)) e
 
 none_hold : (p q : Product → Bool) → ((row : Product) → p row ≡ true → q row ≡ false) → (rows : List Product) → list_all p rows ≡ true → list_any q rows ≡ false
-none_hold p q h [] all = refl
-none_hold p q h (row ∷ rows) all = let parts = and_parts _ _ all in or_from _ _ (h row (parts.0)) (none_hold p q h rows (parts.1))
+none_hold p q h rows all = list_any_none q rows (All-weaker _ _ h rows (AllPass-from_list_all p rows all))
 
 abbrev by_tests : Bool → Bool → Bool → Known
 by_tests any all on = cond any (Some on) (cond all (Some (not on)) None)
@@ -83,20 +85,16 @@ table-known gate n sees a agree c e =
 module _ (n : ℕ) (sees : ℕ → Known) (known : (k : ℕ) → k < n → (b : Bool) × (sees k ≡ Some b)) where
   -- a position that is not known to see 0 is known to see 1
   one_if_not_zero : (k : ℕ) → k < n → has (where_below n (λ k. is_zero (sees k))) k ≡ false → has (where_below n (λ k. is_one (sees k))) k ≡ true
-  one_if_not_zero k l h = has-where_below n (λ k. is_one (sees k)) k ∙ and_from _ _ (lt-ltb k n l) (by_value (known k l) (sym (ap (λ b. b && is_zero (sees k)) (lt-ltb k n l)) ∙ sym (has-where_below n (λ k. is_zero (sees k)) k) ∙ h))
-    where
-      by_value : (b : Bool) × (sees k ≡ Some b) → is_zero (sees k) ≡ false → is_one (sees k) ≡ true
-      by_value (b, e) z = ap is_one e ∙ twice b (sym (ap is_zero e) ∙ z)
-        where
-          twice : (b : Bool) → not b ≡ false → b ≡ true
-          twice true h = refl
-          twice false h = sym h
+  one_if_not_zero k l h =
+      let v = known k l in
+      let zero : is_zero (sees k) ≡ false = sym (ap (λ b. b && is_zero (sees k)) (lt-ltb k n l)) ∙ sym (has-where_below n (λ k. is_zero (sees k)) k) ∙ h in
+      has-where_below n (λ k. is_one (sees k)) k ∙ and_from _ _ (lt-ltb k n l) (ap is_one v.1 ∙ not-false v.0 (sym (ap is_zero v.1) ∙ zero))
 
   zero_if_not_one : (k : ℕ) → k < n → has (where_below n (λ k. is_one (sees k))) k ≡ false → has (where_below n (λ k. is_zero (sees k))) k ≡ true
-  zero_if_not_one k l h = has-where_below n (λ k. is_zero (sees k)) k ∙ and_from _ _ (lt-ltb k n l) (by_value (known k l) (sym (ap (λ b. b && is_one (sees k)) (lt-ltb k n l)) ∙ sym (has-where_below n (λ k. is_one (sees k)) k) ∙ h))
-    where
-      by_value : (b : Bool) × (sees k ≡ Some b) → is_one (sees k) ≡ false → is_zero (sees k) ≡ true
-      by_value (b, e) z = ap is_zero e ∙ ap not (sym (ap is_one e) ∙ z)
+  zero_if_not_one k l h =
+      let v = known k l in
+      let one : is_one (sees k) ≡ false = sym (ap (λ b. b && is_one (sees k)) (lt-ltb k n l)) ∙ sym (has-where_below n (λ k. is_one (sees k)) k) ∙ h in
+      has-where_below n (λ k. is_zero (sees k)) k ∙ and_from _ _ (lt-ltb k n l) (ap is_zero v.1 ∙ ap not (sym (ap is_one v.1) ∙ one))
 
   -- a row that does not surely fail surely holds
   row_decided : (row : Product) → IsRowOf n row → meet row (known_pins n sees) ≡ true → surely_holds row (known_pins n sees) ≡ true
@@ -112,10 +110,7 @@ module _ (n : ℕ) (sees : ℕ → Known) (known : (k : ℕ) → k < n → (b : 
   row_surely_fails row is h = not_from_false _ (false_from_ne_true _ (λ m. false≢true (sym h ∙ row_decided row is m)))
 
 all_fail : (P : Product → Type 0) (p q : Product → Bool) → ((row : Product) → P row → p row ≡ false → q row ≡ true) → (rows : List Product) → All P rows → list_any p rows ≡ false → list_all q rows ≡ true
-all_fail P p q h [] all none = refl
-all_fail P p q h (row ∷ rows) all none =
-    let parts = or_parts _ _ none in
-    and_from _ _ (h row (all 0 row (omega arith)) (parts.0)) (all_fail P p q h rows (λ i e l. all (suc i) e (omega (arith, l))) (parts.1))
+all_fail P p q h rows all none = list_all-from_AllPass q rows (λ k d l. h _ (all k d l) (false_from_ne_true _ (λ e. false≢true (sym none ∙ list_any_at p rows k d l e))))
 
 pub table-decided : (gate : Gate) (n : ℕ) (sees : ℕ → Known) → ((k : ℕ) → k < n → (b : Bool) × (sees k ≡ Some b)) → All (IsRowOf n) gate.rows → (c : Bool) × (known_table gate (known_pins n sees) ≡ Some c)
 unfolding known_table

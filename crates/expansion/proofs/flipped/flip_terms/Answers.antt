@@ -21,6 +21,5 @@ returns-clause-count c =
     let terms : List Set = c.args.terms.now in
     let held : List Set = filter (λ t. has t c.args.j) terms in
     let e : c.deref.result.now ≡ taken c.args.j terms = c.deref.ensures.value ∙ c.in_ok-taken.ensures in
-    let fewer : length c.deref.result.now ≤ length terms =
-    omega (arith, ap length e, length-map held (λ t. without t c.args.j), length-filter (λ t. has t c.args.j) terms, count_by-le-length (λ t. has t c.args.j) terms) in
-    IfOk-weaker c.sum.result (λ ts. length ts.items ≤ length terms + length c.deref.result.now) (λ ts. length ts.items ≤ length terms + length terms) (λ ts few. omega (arith, few, fewer)) c.sum.ensures.count
+    IfOk-weaker c.sum.result (λ ts. length ts.items ≤ length terms + length c.deref.result.now) (λ ts. length ts.items ≤ length terms + length terms)
+    (λ ts few. omega (arith, few, ap length e, length-map held (λ t. without t c.args.j), length-filter (λ t. has t c.args.j) terms, count_by-le-length (λ t. has t c.args.j) terms)) c.sum.ensures.count

@@ -1,8 +1,5 @@
-use Rattle.std.proofs.Common.{ℕ, ◌≡◌, ◌≤◌, ◌-◌, suc, length, sym, ap, ◌∙◌, subst, arith}
-use Rattle.std.specs.Prelude.{None, IfOk}
+use Rattle.std.proofs.Common.{◌<◌, length, sym, ap, ◌∙◌, arith}
 use Rattle.std.proofs.lemmas.Result.{IfOk-weaker}
-use Rattle.redundancy.specs.Growing.{Grows}
-use Rattle.redundancy.specs.Leaf.{low}
 use Rattle.redundancy.proofs.Growths.{grows_leaf, grows_point, grows_stopped, grows_both}
 use Rattle.redundancy.proofs.trees.+grow.Goals as goal
 
@@ -15,31 +12,16 @@ returns-then-cube-inputs-clause-grows t c =
     grows_point c.args.net.now c.args.fault _ c.args.cube.now c.args.tree.now c.args.tree.now (sym c.leaf_holds.ensures.worked ∙ c.if-leaf_holds.false)
     (omega (arith, c.if-cube-inputs.true, ap length c.inputs-inputs.ensures.inputs))
 
--- one input more is known below
-one_more : (n d : ℕ) → d ≤ n → (d ≡ n → ⊥) → n - d ≡ suc (n - suc d)
-one_more n d l other = omega arith
-
 pub returns-in-None-clause-grows : goal.returns-in-None-clause-grows
 returns-in-None-clause-grows t c =
-    let n = c.args.net.now in
-    let d = c.args.cube.now in
-    let inputs = length n.inputs in
-    let e = sym c.leaf_holds.ensures.worked ∙ c.if-leaf_holds.false in
-    let more = one_more inputs d.depth c.requires.depth (λ same. c.if-cube-inputs.false (same ∙ sym (ap length c.inputs-inputs.ensures.inputs))) in
-    let first : Grows n c.args.fault (inputs - suc d.depth) (low d) c.add_split.new.tree c.grow.new.tree None =
-    subst (λ o. Grows n c.args.fault (inputs - suc d.depth) (low d) c.add_split.new.tree c.grow.new.tree o) c.in-None.is
-    (subst (λ half. Grows n c.args.fault (inputs - half.depth) half c.add_split.new.tree c.grow.new.tree c.in_ok-grow.field-0) c.low.ensures c.in_ok-grow.ensures.grows) in
+    let deeper : c.args.cube.now.depth < length c.args.net.now.inputs = omega (arith, c.requires.depth, c.if-cube-inputs.false, ap length c.inputs-inputs.ensures.inputs) in
     IfOk-weaker c.grow-in-None.result _ _
-    (grows_both n c.args.fault (inputs - suc d.depth) (inputs - d.depth) d c.args.tree.now c.add_split.new.tree c.grow.new.tree e more c.in_ok-add_split.ensures.adds first c.grow-in-None.new.tree)
-    (subst (λ half. IfOk c.grow-in-None.result (Grows n c.args.fault (inputs - half.depth) half c.grow.new.tree c.grow-in-None.new.tree)) c.high.ensures c.grow-in-None.ensures.grows)
+    (grows_both c.args.net.now c.args.fault c.args.cube.now c.args.tree.now c.add_split.new.tree c.grow.new.tree (sym c.leaf_holds.ensures.worked ∙ c.if-leaf_holds.false) deeper c.in_ok-add_split.ensures.adds
+    (rw (c.low.ensures, c.in-None.is) at c.in_ok-grow.ensures.grows) c.grow-in-None.new.tree)
+    (rw c.high.ensures at c.grow-in-None.ensures.grows)
 
 pub returns-in-Some-clause-grows : goal.returns-in-Some-clause-grows
 returns-in-Some-clause-grows t c =
-    let n = c.args.net.now in
-    let d = c.args.cube.now in
-    let inputs = length n.inputs in
-    let e = sym c.leaf_holds.ensures.worked ∙ c.if-leaf_holds.false in
-    let more = one_more inputs d.depth c.requires.depth (λ same. c.if-cube-inputs.false (same ∙ sym (ap length c.inputs-inputs.ensures.inputs))) in
-    grows_stopped n c.args.fault (inputs - suc d.depth) (inputs - d.depth) d c.args.tree.now c.add_split.new.tree c.grow.new.tree e more c.in_ok-add_split.ensures.adds c.in-Some.found c.grow.new.tree
-    (subst (λ o. Grows n c.args.fault (inputs - suc d.depth) (low d) c.add_split.new.tree c.grow.new.tree o) c.in-Some.is
-    (subst (λ half. Grows n c.args.fault (inputs - half.depth) half c.add_split.new.tree c.grow.new.tree c.in_ok-grow.field-0) c.low.ensures c.in_ok-grow.ensures.grows))
+    let deeper : c.args.cube.now.depth < length c.args.net.now.inputs = omega (arith, c.requires.depth, c.if-cube-inputs.false, ap length c.inputs-inputs.ensures.inputs) in
+    grows_stopped c.args.net.now c.args.fault c.args.cube.now c.args.tree.now c.add_split.new.tree c.grow.new.tree (sym c.leaf_holds.ensures.worked ∙ c.if-leaf_holds.false) deeper c.in_ok-add_split.ensures.adds c.in-Some.found c.grow.new.tree
+    (rw (c.low.ensures, c.in-Some.is) at c.in_ok-grow.ensures.grows)

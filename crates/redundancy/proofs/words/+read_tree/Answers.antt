@@ -1,10 +1,8 @@
-use Rattle.std.proofs.Common.{◌≡◌, ℕ, suc, ◌+◌, ◌<◌, List, ◌∷◌, get_or, length, drop, sym, ap, ◌∙◌, subst, arith, add-one, drop-cons}
-use Rattle.std.specs.Prelude.{MatchOption}
+use Rattle.std.proofs.Common.{◌≡◌, ℕ, suc, ◌+◌, ◌<◌, List, ◌∷◌, get_or, length, drop, sym, ap, ◌∙◌, arith, add-one, drop-cons}
 use Rattle.std.proofs.lemmas.Bool.{false≢true}
 use Rattle.std.proofs.lemmas.List.{drop_all}
 use Rattle.ae_base.specs.declared.step.Step.{Step}
 use Rattle.ae_base.specs.declared.step.Step.TheVariants.{S, L}
-use Rattle.redundancy.specs.Reading.{HasNoTree, ReadsTo}
 use Rattle.redundancy.proofs.Readings.{nothing_left, reads_leaf, no_leaf, no_split, no_low, reads_second}
 use Rattle.redundancy.proofs.words.+read_tree.Goals as goal
 
@@ -33,13 +31,10 @@ returns-then-cube-inputs-clause-reads t c =
 pub returns-in-None-clause-reads : goal.returns-in-None-clause-reads
 returns-in-None-clause-reads t c =
     no_low c.args.net.now c.args.fault c.args.cube.now c.args.word.now c.args.at (letter c.args.word.now c.args.at S S c.if-at-word.false c.in-S.is)
-    (subst (λ d. HasNoTree c.args.net.now c.args.fault d c.args.word.now (c.args.at + 1)) c.low.ensures c.in-None.ensures.reads)
+    (rw c.low.ensures at c.in-None.ensures.reads)
 
 pub returns-in-Some-clause-reads : goal.returns-in-Some-clause-reads
 returns-in-Some-clause-reads t c =
-    let n = c.args.net.now in
-    reads_second n c.args.fault c.args.cube.now c.args.word.now c.args.at (letter c.args.word.now c.args.at S S c.if-at-word.false c.in-S.is)
+    reads_second c.args.net.now c.args.fault c.args.cube.now c.args.word.now c.args.at (letter c.args.word.now c.args.at S S c.if-at-word.false c.in-S.is)
     (omega (arith, ap length c.inputs-inputs.ensures.inputs, c.if-cube-inputs.false, c.requires.depth)) c.in-Some.middle
-    (subst (λ d. ReadsTo n c.args.fault d c.args.word.now (c.args.at + 1) c.in-Some.middle) c.low.ensures c.in-Some.ensures.reads)
-    c.read_tree-in-Some.result
-    (subst (λ d. MatchOption c.read_tree-in-Some.result (HasNoTree n c.args.fault d c.args.word.now c.in-Some.middle) (λ end. ReadsTo n c.args.fault d c.args.word.now c.in-Some.middle end)) c.high.ensures c.read_tree-in-Some.ensures.reads)
+    (rw c.low.ensures at c.in-Some.ensures.reads) c.read_tree-in-Some.result (rw c.high.ensures at c.read_tree-in-Some.ensures.reads)

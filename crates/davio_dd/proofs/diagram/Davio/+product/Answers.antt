@@ -1,19 +1,30 @@
-use Rattle.std.proofs.Common.{arith}
+use Rattle.std.proofs.Common.{ℕ, ◌&&◌, inl, inr, sym, ap, ◌∙◌, arith}
+use Rattle.std.proofs.Math.Bool.{and-true, and_self}
+use Rattle.std.proofs.lemmas.Bool.{and_left, and_right}
 use Rattle.std.proofs.lemmas.Result.{IfOk-weaker}
-use Rattle.davio_dd.specs.Diagram.{product, top}
-use Rattle.davio_dd.proofs.Splits.{later-parts, parts-moved, answer-over, answer-step, product-same, product-left_one, product-zero, high-right_none, high-left_none, high-both, both-later, deeper-high, deeper-low, deeper}
+use Rattle.davio_dd.specs.Diagram.{place_value, product, top}
+use Rattle.davio_dd.proofs.Growing.{later-moved}
+use Rattle.davio_dd.proofs.Splits.{later-parts, parts-moved, answer-left, answer-right, answer-zero, answer-later, answer-step, at-zero, at-one, high-right_none, high-left_none, high-both, both-later, deeper-high, deeper-low, deeper}
 use Rattle.davio_dd.proofs.diagram.Davio.+product.Goals as goal
 
 -- ---- the product
 
 pub product-returns-then-a-b-clause-answer : goal.product-returns-then-a-b-clause-answer
-product-returns-then-a-b-clause-answer t c = let s = c.args.self.now in product-same s.polarity s.nodes.keys c.args.a c.args.b c.requires.a c.requires.b c.then-a-b.either
+product-returns-then-a-b-clause-answer t c =
+    let v = place_value c.args.self.now.polarity c.args.self.now.nodes.keys in
+    answer-left product _ _ _ _ c.requires.a c.requires.b (λ x. elim c.then-a-b.either [
+      | inl e ↦ ap (λ (d : ℕ). v c.args.a x && v d x) (sym e) ∙ and_self (v c.args.a x)
+      | inr h ↦ ap (λ b. v c.args.a x && b) (at-one _ _ _ h.1 x) ∙ and-true (v c.args.a x)
+    ])
 
 pub product-returns-then-a-eq1-clause-answer : goal.product-returns-then-a-eq1-clause-answer
-product-returns-then-a-eq1-clause-answer t c = let s = c.args.self.now in product-left_one s.polarity s.nodes.keys c.args.a c.args.b c.requires.a c.requires.b c.if-a-eq1.true
+product-returns-then-a-eq1-clause-answer t c =
+    answer-right product _ _ _ _ c.requires.a c.requires.b (λ x. ap (λ b. b && place_value c.args.self.now.polarity c.args.self.now.nodes.keys c.args.b x) (at-one _ _ _ c.if-a-eq1.true x))
 
 pub product-returns-then-a-eq0-clause-answer : goal.product-returns-then-a-eq0-clause-answer
-product-returns-then-a-eq0-clause-answer t c = let s = c.args.self.now in product-zero s.polarity s.nodes.keys s.is_diagram c.args.a c.args.b c.requires.a c.requires.b c.then-a-eq0.either
+product-returns-then-a-eq0-clause-answer t c =
+    answer-zero product _ _ _ _ c.args.self.now.is_diagram c.requires.a c.requires.b
+    (λ x. elim c.then-a-eq0.either [ inl e ↦ and_left _ _ (at-zero _ _ _ e x) | inr h ↦ and_right _ _ (at-zero _ _ _ h.1 x) ])
 
 pub product-product-requires : goal.product-product-requires
 product-product-requires t c =
@@ -38,7 +49,8 @@ product-node-requires-clause-before_low t c =
     let low = c.in_ok-low.ensures in
     let high = c.in_ok-high.ensures in
     let parts = later-parts _ _ c.args.a c.args.b _ _ _ _ _ c.split-split.ensures c.requires.a c.requires.b in
-    answer-over product _ _ _ _ _ _ (low.polarity, low.grows) (high.polarity, high.grows) _ _ _ _ parts.left_low parts.right_low low.answer
+    let now = parts-moved _ _ _ _ (low.polarity, low.grows) _ _ _ _ _ parts in
+    (later-moved _ _ _ _ (high.polarity, high.grows) _ _ (answer-later product _ _ _ _ _ _ now.left_low now.right_low low.answer)).over
 
 pub product-remember_product-requires : goal.product-remember_product-requires
 product-remember_product-requires t c =
@@ -47,15 +59,6 @@ product-remember_product-requires t c =
     let node = c.in_ok-answer.ensures in
     answer-step product _ _ _ _ _ _ _ _ c.args.a c.args.b _ _ _ _ _ _ _ c.in_ok-answer.answer (low.polarity, low.grows) (high.polarity, high.grows) (node.polarity, node.grows)
     c.split-split.ensures c.requires.a c.requires.b low.answer high.high node.within node.over node.value
-
-pub product-returns-clause-answer : goal.product-returns-clause-answer
-product-returns-clause-answer t c =
-    let low = c.in_ok-low.ensures in
-    let high = c.in_ok-high.ensures in
-    let node = c.in_ok-answer.ensures in
-    rw (c.remember_product.ensures.polarity, c.remember_product.ensures.nodes)
-    (answer-step product _ _ _ _ _ _ _ _ c.args.a c.args.b _ _ _ _ _ _ _ c.in_ok-answer.answer (low.polarity, low.grows) (high.polarity, high.grows) (node.polarity, node.grows)
-    c.split-split.ensures c.requires.a c.requires.b low.answer high.high node.within node.over node.value)
 
 -- ---- its high part
 

@@ -1,6 +1,7 @@
-use Rattle.std.proofs.Common.{arith}
+use Rattle.std.proofs.Common.{◌++◌, ◌∙◌, ap, append-nil, arith, map, sym}
+use Rattle.ae_base.specs.Mask.{either}
 use Rattle.std.proofs.lemmas.Result.{on_ok_weaker}
-use Rattle.davio_dd.proofs.Walks.{pushed-node, pushed-none, pushed-one}
+use Rattle.davio_dd.proofs.Walks.{pushed-node, terms-none, pushed-one}
 use Rattle.davio_dd.proofs.diagram.Davio.+push_terms.Goals as goal
 
 pub with-requires : goal.with-requires
@@ -15,7 +16,7 @@ returns-in_ok-push_terms-in-Some t c =
     c.push_terms-in-Some.ensures
 
 pub returns-in-None : goal.returns-in-None
-returns-in-None t c = pushed-none c.args.self.now.nodes.keys c.args.a c.if-a-eq0.true c.args.path c.args.terms.now.items
+returns-in-None t c = sym (ap (λ us. c.args.terms.now.items ++ map (λ t. either c.args.path t) us) (terms-none c.args.self.now.nodes.keys c.args.a c.if-a-eq0.true) ∙ append-nil c.args.terms.now.items)
 
 pub returns-in_ok-push-in-None-2 : goal.returns-in_ok-push-in-None-2
 returns-in_ok-push-in-None-2 t c =

@@ -1,7 +1,7 @@
 use Rattle.std.proofs.Common.{true, not}
 use Rattle.std.proofs.lemmas.Result.{IfOk-weaker}
 use Rattle.ae_base.specs.Terms.{value}
-use Rattle.fn_store.proofs.Rows.{IsExpansion-own}
+use Rattle.fn_store.proofs.Shown.{IsExpansion-own}
 use Rattle.fn_store.proofs.term_lists.TermListsFnStore.not.Goals as goal
 
 pub add-requires : goal.add-requires
