@@ -23,14 +23,14 @@ use Rattle.ae_net.specs.Network.{Network}
 use Rattle.ae_net.specs.Valid.{IsDistinct, IsValid}
 use Rattle.blif_order.specs.Order as by_place
 use Rattle.blif_read.specs.declared.draft.Draft.{Draft}
-use Rattle.blif_read.specs.declared.fault.BlifErr.{BlifErr}
-use Rattle.blif_read.specs.declared.fault.BlifErr.TheVariants as errors
+use Rattle.ae_lex.specs.declared.errors.TextErr.{TextErr}
+use Rattle.ae_lex.specs.declared.errors.TextErr.TheVariants as errors
 use Rattle.blif_read.specs.declared.fault.BlifFault.{BlifFault}
 use Rattle.blif_read.specs.declared.fault.BlifFault.TheVariants as fault
 use Rattle.blif_read.specs.declared.fault.NetLimits.{NetLimits}
 use Rattle.blif_read.specs.declared.seen.Seen.{Seen}
 use Rattle.blif_read.specs.Build.{rank_in, AreSignals, AreFaultless, AreDrafted, AreBuildable, IsPlan, undefined_pin, undefined_output, rows_of, row_cube, is_on, front, gates_among, renumbered, built_at, draft_at, port_of, drawn, placed, unplaced, placed_net, lines_say}
-use Rattle.blif_read.specs.Gives.{Gives}
+use Rattle.ae_lex.specs.Reads.{Gives}
 use Rattle.blif_read.specs.Says.{inputs_of, outputs_of, model_of, gate_of, gates_of, outs, faults, whole_fault, blif_says}
 use Rattle.blif_read.specs.Seen as spec
 use Rattle.blif_read.specs.Seen.{Tells}
@@ -421,12 +421,12 @@ both_some : (last : ℕ) (lines : List WordLine) (seen : Seen) → AreFaultless 
     lines_say last lines ≡ judged (option_or (undefined_pin known lines) (option_or (undefined_output known lines) (unplaced (outs order) lines))) (net_of (model_of (words_of lines)) seen.inputs seen.outputs order)
 both_some last lines seen f i o = lines_say_is last lines seen f ∙ rw (ne_eqb (length seen.inputs) 0 (omega arith), ne_eqb (length seen.outputs) 0 (omega arith)) refl
 
-pub reads_said : (last : ℕ) (lines : List WordLine) (seen : Seen) (e : BlifErr) → AreFaultless lines seen → 0 < length seen.inputs → 0 < length seen.outputs
+pub reads_said : (last : ℕ) (lines : List WordLine) (seen : Seen) (e : TextErr BlifFault) → AreFaultless lines seen → 0 < length seen.inputs → 0 < length seen.outputs
     → Tells {X = Unit {0}} (undefined_pin (seen.inputs ++ seen.driven) lines) (Unit {0}) (Err e) → Gives (lines_say last lines) (Err e)
 reads_said last lines seen (errors.At n f) h i o found = both_some last lines seen h i o ∙ rw found refl
 reads_said last lines seen errors.Memory h i o found = tt
 
-pub shows_said : (last : ℕ) (lines : List WordLine) (seen : Seen) (e : BlifErr) → AreFaultless lines seen → 0 < length seen.inputs → 0 < length seen.outputs → undefined_pin (seen.inputs ++ seen.driven) lines ≡ None
+pub shows_said : (last : ℕ) (lines : List WordLine) (seen : Seen) (e : TextErr BlifFault) → AreFaultless lines seen → 0 < length seen.inputs → 0 < length seen.outputs → undefined_pin (seen.inputs ++ seen.driven) lines ≡ None
     → Tells {X = Unit {0}} (undefined_output (seen.inputs ++ seen.driven) lines) (Unit {0}) (Err e) → Gives (lines_say last lines) (Err e)
 shows_said last lines seen (errors.At n f) h i o none found = both_some last lines seen h i o ∙ rw (none, found) refl
 shows_said last lines seen errors.Memory h i o none found = tt
@@ -437,7 +437,7 @@ placed_said last lines seen drafts h = both_some last lines seen h.faultless h.s
 -- ---- the text
 
 -- the first faulty line decides
-pub text_fault : (limits : NetLimits) (text : List ℕ) (lines : List WordLine) (e : BlifErr) → lines ≡ word_lines Blif text → Tells {X = Unit {0}} (first_fault (faults limits) [] lines) (Unit {0}) (Err e) → Gives (blif_says limits text) (Err e)
+pub text_fault : (limits : NetLimits) (text : List ℕ) (lines : List WordLine) (e : TextErr BlifFault) → lines ≡ word_lines Blif text → Tells {X = Unit {0}} (first_fault (faults limits) [] lines) (Unit {0}) (Err e) → Gives (blif_says limits text) (Err e)
 unfolding blif_says
 text_fault limits text lines (errors.At n f) is found = rw (← is, found) refl
 text_fault limits text lines errors.Memory is found = tt

@@ -190,5 +190,5 @@ says_again n v l =
     let k = known_of n v in
     let names = signal_names n in
     let read : word_lines Blif (blif_text n) ≡ numbered 1 (net_lines n) = lines_written Blif (net_lines n) (net_plain n v.model_named k.inputs k.output_names k.fit) in
-    let fine : first_fault (faults Written) [] (numbered 1 (net_lines n)) ≡ None = fine_lines Written 1 [] (net_lines n) (net_fine n v l k) in
+    let fine : first_fault (faults Written None) [] (numbered 1 (net_lines n)) ≡ None = fine_lines Written 1 [] (net_lines n) (net_fine n v l k) in
     text_says Written (blif_text n) (numbered 1 (net_lines n)) (last_line (blif_text n)) (sym read) refl fine ∙ net_lines_say n (last_line (blif_text n)) v k ∙ ap (λ (m : Network). Ok m) (net_back n k)

@@ -1,11 +1,10 @@
 //! Reads a text line by line.
-ghost use Rattle.std.specs.Prelude.{◌≡◌, ◌≤◌, [], length};
+ghost use Rattle.std.specs.Prelude.{◌≡◌, ◌≤◌, [], Option, length};
 ghost use Rattle.ae_lex.specs.First.{first_fault};
-ghost use Rattle.ae_lex.specs.Reads.{words_of};
+ghost use Rattle.ae_lex.specs.Reads.{Gives, words_of};
 ghost use Rattle.blif_read.specs.Seen as spec;
 ghost use Rattle.blif_read.specs.Seen.{Tells};
-ghost use Rattle.blif_read.specs.Says.{faults, blif_says};
-ghost use Rattle.blif_read.specs.Gives.{Gives};
+ghost use Rattle.blif_read.specs.Says.{Declared, faults, blif_says};
 
 use crate::fault::{BlifErr, NetLimits};
 use crate::net::net_said;
@@ -16,14 +15,13 @@ use ae_net::Net;
 use std::alloc::Global;
 
 /// Reads the lines from the first on. `seen` is then what they say together.
-fn read_lines(
+pub fn read_lines(
     alloc: Global,
     limits: NetLimits,
     lines: &[WordLine<'_>],
     seen: &mut Seen,
 ) -> Result<(), BlifErr>
-    requires { seen.old ≡ spec.seen [] }
-    ensures { Tells (first_fault (faults limits) [] lines.now) (seen.new ≡ spec.seen (words_of lines.now)) result }
+    ensures { (model : Option Declared) → seen.old ≡ spec.seen model [] → Tells (first_fault (faults limits model) [] lines.now) (seen.new ≡ spec.seen model (words_of lines.now)) result }
 {
     for line in lines {
         match seen.read(alloc, limits, line.words()) {

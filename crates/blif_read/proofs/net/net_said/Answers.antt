@@ -3,7 +3,7 @@ use Rattle.std.proofs.lemmas.Result.{err_from_is_err_and}
 use Rattle.ae_net.specs.Network.{Network}
 use Rattle.blif_read.specs.declared.fault.BlifFault.{BlifFault}
 use Rattle.blif_read.specs.declared.draft.Draft.{Draft}
-use Rattle.blif_read.specs.Gives.{Gives}
+use Rattle.ae_lex.specs.Reads.{Gives}
 use Rattle.blif_read.specs.Build.{AreDrafted}
 use Rattle.blif_read.proofs.Whole.{signals_are, no_inputs, no_outputs, reads_said, shows_said, placed_said}
 use Rattle.blif_read.proofs.net.net_said.Goals as goal

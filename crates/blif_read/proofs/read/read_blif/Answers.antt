@@ -6,7 +6,7 @@ use Rattle.ae_lex.specs.declared.text.Style.TheVariants.{Blif}
 use Rattle.ae_net.specs.Network.{Network}
 use Rattle.blif_read.specs.declared.fault.BlifFault.{BlifFault}
 use Rattle.blif_read.specs.Build.{AreFaultless}
-use Rattle.blif_read.specs.Gives.{Gives}
+use Rattle.ae_lex.specs.Reads.{Gives}
 use Rattle.blif_read.specs.Says.{faults}
 use Rattle.blif_read.proofs.Whole.{text_fault, text_says}
 use Rattle.blif_read.proofs.read.read_blif.Goals as goal
