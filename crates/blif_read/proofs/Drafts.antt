@@ -14,10 +14,10 @@ use Rattle.ae_lex.specs.declared.errors.TextErr.TheVariants as errors
 use Rattle.blif_read.specs.declared.fault.BlifFault.{BlifFault}
 use Rattle.blif_read.specs.declared.fault.BlifFault.TheVariants as fault
 use Rattle.blif_read.specs.declared.draft.Draft.{Draft}
-use Rattle.blif_read.specs.Says.{gate_of, gates_of, where_any}
+use Rattle.blif_read.specs.Says.{gate_of, gates_of, where_any, unplaced}
 use Rattle.blif_read.specs.Seen.{Tells}
 use Rattle.blif_read.specs.Words.{gate_name, pin_names}
-use Rattle.blif_read.specs.Build.{rows_of, drafted, drafts_of, unplaced, front, front_number, draft_at, built, built_at}
+use Rattle.blif_read.specs.Build.{rows_of, drafted, drafts_of, front, front_number, draft_at, built, built_at}
 
 -- ---- the first line that passes a test
 

@@ -18,6 +18,7 @@ pub mod Drafts
 pub mod Ranks
 pub mod Cubes
 pub mod Places
+pub mod Idle
 pub mod Link
 pub mod Known
 pub mod Placed

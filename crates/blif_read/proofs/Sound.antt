@@ -221,15 +221,20 @@ sound_rest limits model done (line ∷ lines) h f =
     let next : SeenIsSound limits (spec.seen model (done ++ line.words ∷ [])) = subst (SeenIsSound limits) (sym (seen_push limits model done line.words none)) (sound_step limits line.words (spec.seen model done) h none) in
     subst (λ (ls : List (List Word)). SeenIsSound limits (spec.seen model ls)) (append_assoc done (line.words ∷ []) (words_of lines)) (sound_rest limits model (done ++ line.words ∷ []) lines next p.1)
 
+model_sound : (limits : NetLimits) (lines : List (List Word)) → SeenIsSound limits (spec.seen None lines) → IsSound limits true (inputs_of lines) (outputs_of lines) []
+unfolding spec.seen
+model_sound limits lines s = record { inputs = s.inputs; outputs = s.outputs; driven = no_labels limits PART_GATES; driven_new = λ k d lt. absurd (omega arith); outputs_new = s.outputs_new }
+
+model_start : (limits : NetLimits) → SeenIsSound limits (spec.seen None [])
+unfolding spec.seen gates_of
+model_start limits = record { inputs = no_labels limits (most_lines limits); outputs = no_labels limits (most_lines limits); driven = no_labels limits GATES; driven_new = λ k d lt. absurd (omega arith); outputs_new = λ k d lt. absurd (omega arith) }
+
 sound_start : (limits : NetLimits) (model : Option Declared) → IsOf limits model → SeenIsSound limits (spec.seen model [])
 unfolding spec.seen gates_of
-sound_start limits None of = record { inputs = no_labels limits (most_lines limits); outputs = no_labels limits (most_lines limits); driven = no_labels limits GATES; driven_new = λ k d lt. absurd (omega arith); outputs_new = λ k d lt. absurd (omega arith) }
+sound_start limits None of = model_start limits
 sound_start limits (Some model) of =
-    let s = subst (λ (m : Declared). IsSound limits true m.inputs m.outputs []) (sym of.is) (started (sound_rest limits None [] of.lines (sound_start limits None tt) of.none)) in s
-  where
-    started : SeenIsSound limits (spec.seen None (words_of of.lines)) → IsSound limits true (inputs_of (words_of of.lines)) (outputs_of (words_of of.lines)) []
-    unfolding spec.seen
-    started s = record { inputs = s.inputs; outputs = s.outputs; driven = no_labels limits PART_GATES; driven_new = λ k d lt. absurd (omega arith); outputs_new = s.outputs_new }
+    let lines = words_of of.lines in
+    subst (λ (m : Declared). IsSound limits true m.inputs m.outputs []) (sym of.is) (model_sound limits lines (sound_rest limits None [] of.lines (model_start limits) of.none))
 
 pub sound_all : (limits : NetLimits) (model : Option Declared) (lines : List WordLine) → IsOf limits model → first_fault (faults limits model) [] lines ≡ None → SeenIsSound limits (spec.seen model (words_of lines))
 sound_all limits model lines of f = sound_rest limits model [] lines (sound_start limits model of) f

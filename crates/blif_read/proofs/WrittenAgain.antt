@@ -23,9 +23,9 @@ use Rattle.ae_lex.specs.Heads.{heads}
 use Rattle.ae_lex.specs.Reads.{words_of}
 use Rattle.blif_read.proofs.Steps.{words_more}
 use Rattle.ae_net.specs.Named.{gate_of, net_of, place_of}
-use Rattle.blif_read.specs.Says.{some_unknown, inputs_of, outputs_of, gates_of, declared_faults, faults, blif_says}
+use Rattle.blif_read.specs.Says.{some_unknown, inputs_of, outputs_of, gates_of, declared_faults, faults, blif_says, undefined_pin, undefined_output, placed, unplaced}
 use Rattle.blif_read.specs.Words.{gate_name, pin_names}
-use Rattle.blif_read.specs.Build.{undefined_pin, undefined_output, placed, unplaced, lines_say}
+use Rattle.blif_read.specs.Build.{lines_say}
 use Rattle.blif_read.proofs.Whole.{text_says}
 use Rattle.blif_read.proofs.Places.{AllBelow}
 use Rattle.blif_read.proofs.WrittenNames.{AreFresh, not_among, fresh, fresh_split, names_apart, places_back, signals_apart, each_among}

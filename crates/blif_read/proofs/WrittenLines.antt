@@ -20,8 +20,8 @@ use Rattle.blif_read.specs.declared.fault.BlifFault.{BlifFault}
 use Rattle.blif_read.specs.Words.{most_lines, is_name_under, gate_name, pin_names, row_end}
 use Rattle.blif_read.specs.Words as words
 use Rattle.ae_base.specs.Twins.{is_among}
-use Rattle.blif_read.specs.Says.{inputs_of, outputs_of, gates_of, outs, last_cover, declared_faults, names_faults, row_faults, faults, where_any, whole_fault, model_of}
-use Rattle.blif_read.specs.Build.{undefined_pin, undefined_output, placed, unplaced, lines_say}
+use Rattle.blif_read.specs.Says.{inputs_of, outputs_of, gates_of, outs, last_cover, declared_faults, names_faults, row_faults, faults, where_any, whole_fault, model_of, undefined_pin, undefined_output, placed, unplaced}
+use Rattle.blif_read.specs.Build.{lines_say}
 use Rattle.blif_read.proofs.Steps.{no_heads, driven_by, words_more, driven_more}
 use Rattle.blif_read.proofs.WrittenNames.{AreFresh}
 
