@@ -26,3 +26,4 @@ pub mod Network
 pub mod Models
 pub mod Whole
 pub mod Said
+pub mod Both

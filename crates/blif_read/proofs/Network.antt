@@ -186,17 +186,17 @@ ports_named limits model i o d gs h =
     let n = net_of model i o gs in
     let ports : length (map (λ w. place_of w names) o) ≡ length o = length-map o (λ w. place_of w names) in
     same_lists _ _ (length-map n.outputs (λ s. (gate_at n (s - length i)).out) ∙ ports) (λ k d lt.
-        let in' : k < length o = omega (arith, length-map n.outputs (λ s. (gate_at n (s - length i)).out), ports) in
-        let w = get_or o k [] in
-        let p = port_at i (outs gs) w (h.sound.outputs_new k [] in') (All-from_recursion (λ v. is_among v (outs gs) ≡ true) o h.shown k [] in') in
-        let s = place_of w names in
-        let at : get_or n.outputs k 0 ≡ s = get_or-map (λ v. place_of v names) o k [] 0 in' in
-        let gate : s - length i < length gs = omega (arith, p.0, p.1, length-map gs (λ (g : NamedGate). g.out)) in
-        get_or-map (λ s. (gate_at n (s - length i)).out) n.outputs k 0 d (omega (arith, ports))
-        ∙ ap (λ s. (gate_at n (s - length i)).out) at
-        ∙ ap (λ (g : Gate). g.out) (get_or-map (gate_in names) gs (s - length i) blank _ gate)
-        ∙ sym (get_or-map (λ (g : NamedGate). g.out) gs (s - length i) blank [] gate)
-        ∙ sym (get_or-append_right i (outs gs) (length i) s [] refl p.0) ∙ p.2 ∙ get_or_default o k [] d in')
+    let in' : k < length o = omega (arith, length-map n.outputs (λ s. (gate_at n (s - length i)).out), ports) in
+    let w = get_or o k [] in
+    let p = port_at i (outs gs) w (h.sound.outputs_new k [] in') (All-from_recursion (λ v. is_among v (outs gs) ≡ true) o h.shown k [] in') in
+    let s = place_of w names in
+    let at : get_or n.outputs k 0 ≡ s = get_or-map (λ v. place_of v names) o k [] 0 in' in
+    let gate : s - length i < length gs = omega (arith, p.0, p.1, length-map gs (λ (g : NamedGate). g.out)) in
+    get_or-map (λ s. (gate_at n (s - length i)).out) n.outputs k 0 d (omega (arith, ports))
+    ∙ ap (λ s. (gate_at n (s - length i)).out) at
+    ∙ ap (λ (g : Gate). g.out) (get_or-map (gate_in names) gs (s - length i) blank _ gate)
+    ∙ sym (get_or-map (λ (g : NamedGate). g.out) gs (s - length i) blank [] gate)
+    ∙ sym (get_or-append_right i (outs gs) (length i) s [] refl p.0) ∙ p.2 ∙ get_or_default o k [] d in')
 
 pub is_valid : (limits : NetLimits) (model : Word) (i o d : List Word) (gs : List NamedGate) → is_name model ≡ true → AreParts limits i o d gs → IsValid (net_of model i o gs)
 unfolding net_of

@@ -26,7 +26,7 @@ use Rattle.blif_read.specs.declared.seen.Seen.{Seen}
 use Rattle.blif_read.specs.Says.{Declared, inputs_of, outputs_of, inputs_in, outputs_in, gates_of, gate_of, outs, last_cover, declared_faults, listed_faults, row_faults, other_faults, faults}
 use Rattle.blif_read.specs.Seen.{open_cover, seen, row_faults_in, faults_in, with_end, with_line}
 use Rattle.blif_read.specs.Seen.{declared_more as more}
-use Rattle.blif_read.specs.Words.{gate_name, row_end, unsupported}
+use Rattle.blif_read.specs.Words.{gate_name, row_end}
 
 pub first_none : {X : Type 0} (b : Bool) (f : X) (rest : Option X) → cond b (Some f) rest ≡ None → (b ≡ false) × (rest ≡ None)
 first_none true f rest h = absurd cc

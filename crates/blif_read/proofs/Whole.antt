@@ -17,8 +17,7 @@ use Rattle.ae_base.proofs.Apart.{distinct_append}
 use Rattle.ae_lex.specs.First.{first_of, first_fault, at_line, judged}
 use Rattle.ae_lex.specs.Heads.{Word, heads}
 use Rattle.ae_lex.specs.Reads.{words_of}
-use Rattle.ae_lex.specs.Words.{WordLine, word_lines, last_line}
-use Rattle.ae_lex.specs.declared.text.Style.TheVariants.{Blif}
+use Rattle.ae_lex.specs.Words.{WordLine}
 use Rattle.ae_net.specs.declared.net.Gate.{Gate}
 use Rattle.ae_net.specs.Named.{NamedGate, net_of, place_of}
 use Rattle.ae_net.specs.Named.{gate_of as gate_in}
@@ -34,8 +33,8 @@ use Rattle.blif_read.specs.declared.fault.NetLimits.{NetLimits}
 use Rattle.blif_read.specs.declared.seen.Seen.{Seen}
 use Rattle.blif_read.specs.Build.{rank_in, AreSignals, AreFaultless, AreDrafted, ArePart, AreBuildable, ArePorts, IsPlan, rows_of, row_cube, is_on, front, gates_among, renumbered, built_at, draft_at, shown_by, idle, zero_gate, drawn, declared_in, placed_net, lines_say, part_says}
 use Rattle.ae_lex.specs.Reads.{Gives}
-use Rattle.blif_read.specs.Says.{Declared, inputs_in, outputs_in, model_of, gate_of, gates_of, outs, placed, faults, most_gates, undefined_pin, undefined_output, unplaced, whole_fault, blif_says}
-use Rattle.blif_read.specs.SourceSays.{constant_0, part_gates, part_net}
+use Rattle.blif_read.specs.Says.{Declared, inputs_in, outputs_in, model_of, gate_of, gates_of, outs, placed, faults, most_gates, undefined_pin, undefined_output, unplaced, whole_fault, model_says}
+use Rattle.blif_read.specs.SourceSays.{constant_0, part_fault, part_gates}
 use Rattle.blif_read.specs.Seen as spec
 use Rattle.blif_read.specs.Seen.{Tells}
 use Rattle.blif_read.specs.Words.{is_name_under}
@@ -548,8 +547,8 @@ pub none_idle : (lines : List WordLine) (seen : Seen) → AreFaultless None line
 none_idle lines seen f shows =
     let known = subst (AllByRecursion (λ w. is_among w (seen.inputs ++ seen.driven) ≡ true)) (sym (outputs_are lines seen f)) (shows_known (seen.inputs ++ seen.driven) lines shows) in
     none_kept seen.driven seen.outputs (recursion_from_All (λ w. is_among w seen.driven ≡ true) seen.outputs (λ k d lt.
-        let w = get_or seen.outputs k d in
-        sym (ap (λ (b : Bool). b || is_among w seen.driven) ((sound_is lines seen f).outputs_new k d lt)) ∙ sym (among_both w seen.inputs seen.driven) ∙ All-from_recursion (λ v. is_among v (seen.inputs ++ seen.driven) ≡ true) seen.outputs known k d lt))
+    let w = get_or seen.outputs k d in
+    sym (ap (λ (b : Bool). b || is_among w seen.driven) ((sound_is lines seen f).outputs_new k d lt)) ∙ sym (among_both w seen.inputs seen.driven) ∙ All-from_recursion (λ v. is_among v (seen.inputs ++ seen.driven) ≡ true) seen.outputs known k d lt))
 
 pub model_few : (lines : List WordLine) (seen : Seen) → AreFaultless None lines seen → undefined_output (seen.inputs ++ seen.driven) lines ≡ None → length seen.driven + length (idle seen seen.outputs) ≤ GATES
 model_few lines seen f shows = omega (arith, ap length (none_idle lines seen f shows), few_driven lines seen f)
@@ -564,31 +563,29 @@ placed_said last lines seen name f i o reads shows is =
 
 -- ---- the answers of a don't care part
 
-part_same : (name : List ℕ) (lines : List WordLine) (seen : Seen) (model : Declared) → AreFaultless (Some model) lines seen
-    → part_says name lines seen ≡ judged (option_or (undefined_pin (seen.inputs ++ seen.driven) lines) (unplaced (outs (placed seen.inputs (gates lines))) lines)) (part_net name (declared_in seen) (words_of lines))
-part_same name lines seen model f = ap (λ (d : List Word). judged (option_or (undefined_pin (seen.inputs ++ d) lines) (unplaced (outs (placed seen.inputs (gates lines))) lines)) (part_net name (declared_in seen) (words_of lines))) (outs_are lines seen f)
+pub part_fault_is : {X : Type 0} (lines : List WordLine) (seen : Seen) (model : Declared) → AreFaultless (Some model) lines seen → (said : X)
+    → judged (part_fault (declared_in seen) lines) said ≡ judged (option_or (undefined_pin (seen.inputs ++ seen.driven) lines) (unplaced (outs (placed seen.inputs (gates lines))) lines)) said
+part_fault_is lines seen model f said = ap (λ (d : List Word). judged (option_or (undefined_pin (seen.inputs ++ d) lines) (unplaced (outs (placed seen.inputs (gates lines))) lines)) said) (outs_are lines seen f)
 
 pub part_reads : (name : List ℕ) (lines : List WordLine) (seen : Seen) (e : TextErr BlifFault) → ArePart lines seen → Tells {X = Unit {0}} (undefined_pin (seen.inputs ++ seen.driven) lines) (Unit {0}) (Err e) → Gives (part_says name lines seen) (Err e)
-part_reads name lines seen (errors.At n f) h found = part_same name lines seen h.model h.faultless ∙ rw found refl
+part_reads name lines seen (errors.At n f) h found = part_fault_is lines seen h.model h.faultless _ ∙ rw found refl
 part_reads name lines seen errors.Memory h found = tt
 
 pub part_placed : (name : List ℕ) (lines : List WordLine) (seen : Seen) → ArePart lines seen → undefined_pin (seen.inputs ++ seen.driven) lines ≡ None → part_says name lines seen ≡ placed_net name lines seen
-part_placed name lines seen h none = part_same name lines seen h.model h.faultless ∙ rw none refl
+part_placed name lines seen h none = part_fault_is lines seen h.model h.faultless _ ∙ rw none refl
 
 pub part_few : (lines : List WordLine) (seen : Seen) → ArePart lines seen → length seen.driven + length (idle seen seen.outputs) ≤ GATES
 part_few lines seen h =
     let sound = sound_is lines seen h.faultless in
     omega (arith, sound.driven.few, few_kept (λ w. not (is_among w seen.driven)) seen.outputs, sound.outputs.few, few_lines h.faultless.limits)
 
--- ---- the text
+-- ---- the lines with their faults
 
 -- the first faulty line decides
-pub text_fault : (limits : NetLimits) (text : List ℕ) (lines : List WordLine) (e : TextErr BlifFault) → lines ≡ word_lines Blif text → Tells {X = Unit {0}} (first_fault (faults limits None) [] lines) (Unit {0}) (Err e) → Gives (blif_says limits text) (Err e)
-unfolding blif_says
-text_fault limits text lines (errors.At n f) is found = rw (← is, found) refl
-text_fault limits text lines errors.Memory is found = tt
+pub line_fault : (limits : NetLimits) (last : ℕ) (lines : List WordLine) (e : TextErr BlifFault) → Tells {X = Unit {0}} (first_fault (faults limits None) [] lines) (Unit {0}) (Err e) → Gives (model_says limits last lines) (Err e)
+line_fault limits last lines (errors.At n f) found = rw found refl
+line_fault limits last lines errors.Memory found = tt
 
 -- where no line has a fault the lines decide together
-pub text_says : (limits : NetLimits) (text : List ℕ) (lines : List WordLine) (last : ℕ) → lines ≡ word_lines Blif text → last ≡ last_line text → first_fault (faults limits None) [] lines ≡ None → blif_says limits text ≡ lines_say last lines
-unfolding blif_says
-text_says limits text lines last is at none = rw (← is, ← at, none) refl
+pub no_line_fault : (limits : NetLimits) (last : ℕ) (lines : List WordLine) → first_fault (faults limits None) [] lines ≡ None → model_says limits last lines ≡ lines_say last lines
+no_line_fault limits last lines none = rw none refl

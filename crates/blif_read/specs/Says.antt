@@ -181,8 +181,9 @@ model_net said =
     let inputs = inputs_of said in
     net_of (model_of said) inputs (outputs_of said) (placed inputs (gates_of said))
 
--- The first faulty line decides, and only where there is none the whole text.
+-- What they say under the limits: the first faulty line decides, and only where there is none the whole.
+abbrev pub model_says : NetLimits → ℕ → List WordLine → Result Network (ℕ × BlifFault)
+model_says limits last lines = judged (option_or (first_fault (faults limits None) [] lines) (model_fault last lines)) (model_net (words_of lines))
+
 unfoldable pub blif_says : NetLimits → List ℕ → Result Network (ℕ × BlifFault)
-blif_says limits text =
-    let lines = word_lines Blif text in
-    judged (option_or (first_fault (faults limits None) [] lines) (model_fault (last_line text) lines)) (model_net (words_of lines))
+blif_says limits text = model_says limits (last_line text) (word_lines Blif text)

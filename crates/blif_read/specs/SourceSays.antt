@@ -1,6 +1,5 @@
 -- What a BLIF text with external don't cares says: a network, with one of its don't cares where the text has a `.exdc`, or the first fault.
-use Rattle.std.specs.Prelude.{ℕ, ◌+◌, Bool, not, if◌then◌else◌, Option, Some, None, Result, Ok, Err, List, [], ◌∷◌, ◌++◌, length, take, drop, map, filter, position, is_some, codes}
-use Rattle.std.specs.List.{list_any}
+use Rattle.std.specs.Prelude.{ℕ, ◌+◌, Bool, not, ◌||◌, if◌then◌else◌, Option, Some, None, Result, Ok, Err, List, [], ◌∷◌, ◌++◌, take, drop, map, filter, position, is_some, slice_index_or, codes}
 use Rattle.std.specs.Option.{option_or}
 use Rattle.ae_base.specs.Twins.{is_among}
 use Rattle.ae_lex.specs.declared.text.Style.TheVariants.{Blif}
@@ -13,20 +12,26 @@ use Rattle.ae_net.specs.NetSource.{NetSource}
 use Rattle.ae_net.specs.Network.{Network}
 use Rattle.blif_read.specs.declared.fault.BlifFault.{BlifFault}
 use Rattle.blif_read.specs.declared.fault.NetLimits.TheVariants as limits
-use Rattle.blif_read.specs.Says.{Declared, inputs_of, outputs_of, model_of, gate_of, gates_of, outs, placed, faults, undefined_pin, unplaced, model_fault, model_net}
+use Rattle.blif_read.specs.Says.{Declared, inputs_of, outputs_of, model_of, gate_of, gates_of, outs, placed, faults, undefined_pin, unplaced, model_fault, model_net, model_says}
 
 -- ---- the two parts of a text
 
--- the place of the first `.exdc`, unless a line before it is an `.end`
-unfoldable pub exdc_place : List (List Word) → Option ℕ
-exdc_place lines = elim (position (heads (codes ".exdc")) lines) [
-  | None ↦ None
-  | Some k ↦ if list_any (heads (codes ".end")) (take k lines) then None else Some k
-]
+-- a `.exdc` or an `.end`
+abbrev pub ends_model : List Word → Bool
+ends_model line = heads (codes ".exdc") line || heads (codes ".end") line
+
+-- the place, if the line there is a `.exdc`
+abbrev pub if_exdc : List WordLine → Option ℕ → Option ℕ
+if_exdc lines None = None
+if_exdc lines (Some k) = if heads (codes ".exdc") (slice_index_or (words_of lines) k []) then Some k else None
+
+-- the place of the first `.exdc`, unless an `.end` stands before it
+abbrev pub exdc_place : List WordLine → Option ℕ
+exdc_place lines = if_exdc lines (position (λ line. ends_model line.words) lines)
 
 -- a `.exdc` stands before the end of the text
 abbrev pub has_exdc : List ℕ → Bool
-has_exdc text = is_some (exdc_place (words_of (word_lines Blif text)))
+has_exdc text = is_some (exdc_place (word_lines Blif text))
 
 -- ---- what the don't care part says
 
@@ -63,10 +68,8 @@ abbrev pub as_source : Result Network (ℕ × BlifFault) → Result NetSource (�
 as_source (Ok net) = Ok (record { net = net; free = None })
 as_source (Err fault) = Err fault
 
--- what the lines of a model say in a text with so many physical lines, and with those of a don't care part
-abbrev pub model_says : ℕ → List WordLine → Result Network (ℕ × BlifFault)
-model_says last lines = judged (option_or (first_fault (faults limits.Source None) [] lines) (model_fault last lines)) (model_net (words_of lines))
-
+-- What the lines of a model and those of its don't care part say, in a text with so many physical lines. The first faulty line decides, then
+-- what is wrong with the whole model, and then what is wrong with the whole part.
 abbrev pub both_say : ℕ → List WordLine → List WordLine → Result NetSource (ℕ × BlifFault)
 both_say last lines part =
     let said = words_of lines in
@@ -75,12 +78,10 @@ both_say last lines part =
     (option_or (option_or (first_fault (faults limits.Source None) [] lines) (first_fault (faults limits.Source (Some model)) [] part)) (option_or (model_fault last lines) (part_fault model part)))
     (record { net = model_net said; free = Some (part_net (model_of said) model (words_of part)) })
 
--- The first faulty line decides, then what is wrong with the whole model, and then what is wrong with the whole part.
+-- what lines say of which the one at this place, where there is one, begins the don't care part
+abbrev pub parts_say : Option ℕ → ℕ → List WordLine → Result NetSource (ℕ × BlifFault)
+parts_say None last lines = as_source (model_says limits.Source last lines)
+parts_say (Some k) last lines = both_say last (take k lines) (drop (k + 1) lines)
+
 unfoldable pub source_says : List ℕ → Result NetSource (ℕ × BlifFault)
-source_says text =
-    let lines = word_lines Blif text in
-    let last = last_line text in
-    elim (exdc_place (words_of lines)) [
-      | None ↦ as_source (model_says last lines)
-      | Some k ↦ both_say last (take k lines) (drop (k + 1) lines)
-    ]
+source_says text = let lines = word_lines Blif text in parts_say (exdc_place lines) (last_line text) lines

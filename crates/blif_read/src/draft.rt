@@ -77,7 +77,7 @@ fn signal_of_word(
 }
 
 /// The words after the first of a line that begins with this word.
-fn words_after<'a, 'b>(head: &[u8], words: &'a [&'b [u8]]) -> Option<&'a [&'b [u8]]>
+pub fn words_after<'a, 'b>(head: &[u8], words: &'a [&'b [u8]]) -> Option<&'a [&'b [u8]]>
     requires { bytes_eq [] head.now ≡ false }
     ensures { MatchOption result (heads head.now (texts words.now) ≡ false) (λ args. (heads head.now (texts words.now) ≡ true) × (texts args.now ≡ drop 1 (texts words.now))) }
 {

@@ -18,7 +18,7 @@ use blif_order::order_of;
 use std::alloc::Global;
 
 /// The lines after a place.
-fn lines_after<'a, 'b>(lines: &'a [WordLine<'b>], place: usize) -> &'a [WordLine<'b>]
+pub fn lines_after<'a, 'b>(lines: &'a [WordLine<'b>], place: usize) -> &'a [WordLine<'b>]
     requires { place < length lines.now }
     ensures { result.now ≡ drop (place + 1) lines.now }
 {

@@ -1,4 +1,4 @@
-use Rattle.std.proofs.Common.{◌≡◌, ℕ, List, Option, Some, None, Ok, Err, length, sym, ap, ◌∙◌}
+use Rattle.std.proofs.Common.{◌≡◌, ℕ, Some, None, Ok, Err, sym, ap, ◌∙◌}
 use Rattle.std.specs.Prelude.{position, is_none}
 use Rattle.ae_net.specs.Network.{Network}
 use Rattle.blif_read.specs.declared.fault.BlifFault.TheVariants as fault

@@ -1,7 +1,6 @@
 use Rattle.std.proofs.Common.{◌≡◌, ◌<◌, ◌+◌, ◌∷◌, [], ◌++◌, ℕ, List, cond, length, map, take, get_or, sym, ap, ap₂, subst, ◌∙◌, arith}
 use Rattle.std.proofs.lemmas.List.{map_more}
 use Rattle.ae_base.specs.Twins.{is_among}
-use Rattle.ae_net.specs.declared.net.Gate.{Gate}
 use Rattle.blif_read.specs.Build.{idle, zero_gate, port_of, shown_by}
 use Rattle.blif_read.proofs.Idle.{few_before, next_gates, next_port}
 use Rattle.blif_read.proofs.ports.add_ports.Goals as goal

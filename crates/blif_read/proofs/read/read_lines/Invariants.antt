@@ -15,4 +15,3 @@ pub record AreSeen (limits : NetLimits) (model : Option Declared) (lines : List 
 
 abbrev pub invariant-loop-line : goal.invariant-loop-line
 invariant-loop-line l = (model : Option Declared) → l.fn.seen ≡ spec.seen model [] → AreSeen l.limits model l.lines l.line-index l.seen
-
