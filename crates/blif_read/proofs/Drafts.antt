@@ -9,15 +9,15 @@ use Rattle.ae_lex.specs.Heads.{Word, heads}
 use Rattle.ae_lex.specs.Words.{WordLine}
 use Rattle.ae_lex.specs.Reads.{words_of}
 use Rattle.ae_net.specs.Named.{NamedGate, place_of}
-use Rattle.blif_read.specs.declared.fault.BlifErr.{BlifErr}
-use Rattle.blif_read.specs.declared.fault.BlifErr.TheVariants as errors
+use Rattle.ae_lex.specs.declared.errors.TextErr.{TextErr}
+use Rattle.ae_lex.specs.declared.errors.TextErr.TheVariants as errors
 use Rattle.blif_read.specs.declared.fault.BlifFault.{BlifFault}
 use Rattle.blif_read.specs.declared.fault.BlifFault.TheVariants as fault
 use Rattle.blif_read.specs.declared.draft.Draft.{Draft}
-use Rattle.blif_read.specs.Says.{gate_of, gates_of, where_any}
+use Rattle.blif_read.specs.Says.{gate_of, gates_of, where_any, unplaced}
 use Rattle.blif_read.specs.Seen.{Tells}
 use Rattle.blif_read.specs.Words.{gate_name, pin_names}
-use Rattle.blif_read.specs.Build.{rows_of, drafted, drafts_of, unplaced, front, front_number, draft_at, built, built_at}
+use Rattle.blif_read.specs.Build.{rows_of, drafted, drafts_of, front, front_number, draft_at, built, built_at}
 
 -- ---- the first line that passes a test
 
@@ -40,7 +40,7 @@ pub where_more : (h : Word) (t : List Word → Bool) (f : BlifFault) (all : List
 where_more h t f all k line lt e none is =
     ap (λ (o : Option (ℕ × BlifFault)). option_or o (where_any h t f (drop (k + 1) all))) (sym none) ∙ sym (where_cons h t f line (drop (k + 1) all)) ∙ ap (where_any h t f) (sym (rest_more all k line lt e)) ∙ is
 
-pub where_err : (h : Word) (t : List Word → Bool) (f : BlifFault) (all : List WordLine) (k : ℕ) (line : WordLine) (e : BlifErr) → k < length all → get_or all k line ≡ line → where_any h t f (drop k all) ≡ where_any h t f all
+pub where_err : (h : Word) (t : List Word → Bool) (f : BlifFault) (all : List WordLine) (k : ℕ) (line : WordLine) (e : TextErr BlifFault) → k < length all → get_or all k line ≡ line → where_any h t f (drop k all) ≡ where_any h t f all
     → Tells {X = Unit {0}} (where_any h t f (line ∷ [])) (Unit {0}) (Err e) → Tells {X = Unit {0}} (where_any h t f all) (Unit {0}) (Err e)
 where_err h t f all k line (errors.At n g) lt e is found =
     sym is ∙ ap (where_any h t f) (rest_more all k line lt e) ∙ where_cons h t f line (drop (k + 1) all) ∙ ap (λ (o : Option (ℕ × BlifFault)). option_or o (where_any h t f (drop (k + 1) all))) found

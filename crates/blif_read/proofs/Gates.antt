@@ -1,5 +1,5 @@
 -- The gates of lines without a fault.
-use Rattle.std.proofs.Common.{◌≡◌, ℕ, ◌-◌, ◌<◌, ◌≤◌, Bool, true, false, cond, eqb, ◌||◌, List, [], ◌∷◌, ◌++◌, length, get_or, map, take, drop, codes, None, refl, sym, subst, arith}
+use Rattle.std.proofs.Common.{◌≡◌, ℕ, ◌-◌, ◌<◌, ◌≤◌, Bool, true, false, cond, eqb, ◌||◌, List, [], ◌∷◌, ◌++◌, length, get_or, map, take, drop, codes, Option, None, refl, sym, subst, arith}
 use Rattle.std.specs.List.{AllByRecursion}
 use Rattle.std.proofs.lemmas.List.{length-take, length-take-le}
 use Rattle.ae_base.specs.declared.limits.TheConstants.{PINS}
@@ -12,7 +12,7 @@ use Rattle.ae_net.specs.Named.{NamedGate}
 use Rattle.ae_net.specs.Valid.{IsRowOf}
 use Rattle.blif_read.specs.declared.fault.NetLimits.{NetLimits}
 use Rattle.blif_read.specs.Words.{is_name_under, pin_names, row_end}
-use Rattle.blif_read.specs.Says.{faults, gate_of, gates_of}
+use Rattle.blif_read.specs.Says.{Declared, faults, gate_of, gates_of}
 use Rattle.blif_read.specs.Build.{row_cube, rows_of}
 use Rattle.blif_read.proofs.Sound.{AreGateWords, line_none, names_none, gate_words}
 
@@ -41,12 +41,12 @@ gate_fits limits ws rows fine =
       off_row = some_row (length ws - 1) rows;
     }
 
-pub gates_fit : (limits : NetLimits) (done : List (List Word)) (lines : List WordLine) → first_fault (faults limits) done lines ≡ None → AllByRecursion (IsFit limits) (gates_of (words_of lines))
+pub gates_fit : (limits : NetLimits) (model : Option Declared) (done : List (List Word)) (lines : List WordLine) → first_fault (faults limits model) done lines ≡ None → AllByRecursion (IsFit limits) (gates_of (words_of lines))
 unfolding gates_of
-gates_fit limits done [] h = tt
-gates_fit limits done (line ∷ lines) h =
-    let p = line_none limits done line lines h in
-    pick (heads (codes ".names") line.words) (λ e. gate_words limits _ _ (drop 1 line.words) (names_none limits done line.words e p.0)) (gates_fit limits (done ++ line.words ∷ []) lines p.1)
+gates_fit limits model done [] h = tt
+gates_fit limits model done (line ∷ lines) h =
+    let p = line_none limits model done line lines h in
+    pick (heads (codes ".names") line.words) (λ e. gate_words limits _ _ _ (drop 1 line.words) (names_none limits model done line.words e p.0)) (gates_fit limits model (done ++ line.words ∷ []) lines p.1)
   where
     pick : (b : Bool) → (b ≡ true → AreGateWords limits (drop 1 line.words)) → AllByRecursion (IsFit limits) (gates_of (words_of lines))
         → AllByRecursion (IsFit limits) (cond b (gate_of (drop 1 line.words) (rows_of lines) ∷ []) [] ++ gates_of (words_of lines))

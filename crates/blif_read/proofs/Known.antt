@@ -12,8 +12,8 @@ use Rattle.ae_net.specs.Named.{NamedGate}
 use Rattle.blif_read.specs.declared.fault.BlifFault.{BlifFault}
 use Rattle.blif_read.specs.declared.fault.BlifFault.TheVariants as fault
 use Rattle.blif_read.specs.Words.{pin_names}
-use Rattle.blif_read.specs.Says.{outputs_of, gate_of, gates_of, some_unknown, where_any}
-use Rattle.blif_read.specs.Build.{rows_of, undefined_pin, undefined_output, unplaced}
+use Rattle.blif_read.specs.Says.{outputs_of, gate_of, gates_of, some_unknown, where_any, undefined_pin, undefined_output, unplaced}
+use Rattle.blif_read.specs.Build.{rows_of}
 use Rattle.blif_read.proofs.Link.{AreKnown}
 
 all_known : (known ws : List Word) → some_unknown known ws ≡ false → AllByRecursion (λ w. is_among w known ≡ true) ws

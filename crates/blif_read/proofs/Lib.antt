@@ -18,6 +18,7 @@ pub mod Drafts
 pub mod Ranks
 pub mod Cubes
 pub mod Places
+pub mod Idle
 pub mod Link
 pub mod Known
 pub mod Placed
@@ -25,3 +26,4 @@ pub mod Network
 pub mod Models
 pub mod Whole
 pub mod Said
+pub mod Both

@@ -23,10 +23,10 @@ AreNames ws = AllByRecursion (λ w. is_name w ≡ true) ws
 each_name : (limits : NetLimits) (ws : List Word) → list_all (is_name_under limits) ws ≡ true → AreNames ws
 each_name limits ws h = recursion_from_All (λ w. is_name w ≡ true) ws (λ k d lt. name_under limits _ (AllPass-from_list_all (is_name_under limits) ws h k d lt))
 
-models_fine : (limits : NetLimits) (done : List (List Word)) (lines : List WordLine) → first_fault (faults limits) done lines ≡ None → AreNames (flat_map (drop 1) (filter (heads (codes ".model")) (words_of lines)))
+models_fine : (limits : NetLimits) (done : List (List Word)) (lines : List WordLine) → first_fault (faults limits None) done lines ≡ None → AreNames (flat_map (drop 1) (filter (heads (codes ".model")) (words_of lines)))
 models_fine limits done [] h = tt
 models_fine limits done (line ∷ lines) h =
-    let p = line_none limits done line lines h in
+    let p = line_none limits None done line lines h in
     let rest = models_fine limits (done ++ line.words ∷ []) lines p.1 in
     elim (cases_Bool (heads (codes ".model") line.words)) [
       | inl t ↦ rw t (each-append (λ w. is_name w ≡ true) (drop 1 line.words) _ (each_name limits (drop 1 line.words) (model_none limits done line.words t p.0)) rest)
@@ -38,5 +38,5 @@ first_named [] h = refl
 first_named (w ∷ ws) h = h.0
 
 -- the name of the model is a name, given or not
-pub model_named : (limits : NetLimits) (lines : List WordLine) → first_fault (faults limits) [] lines ≡ None → is_name (model_of (words_of lines)) ≡ true
+pub model_named : (limits : NetLimits) (lines : List WordLine) → first_fault (faults limits None) [] lines ≡ None → is_name (model_of (words_of lines)) ≡ true
 model_named limits lines h = first_named _ (models_fine limits [] lines h)

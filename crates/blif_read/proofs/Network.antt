@@ -1,9 +1,9 @@
 -- The network of gates that are placed.
-use Rattle.std.proofs.Common.{◌≡◌, ℕ, zero, suc, ◌+◌, ◌<◌, ◌≤◌, Bool, true, false, not, Some, List, [], ◌∷◌, ◌++◌, length, map, get_or, take, drop, All, refl, sym, ap, subst, ◌∙◌, arith, inl, inr, length-append, append_assoc}
+use Rattle.std.proofs.Common.{◌≡◌, ℕ, zero, suc, ◌+◌, ◌-◌, ◌<◌, ◌≤◌, Bool, true, false, not, Some, List, [], ◌∷◌, ◌++◌, length, map, get_or, take, drop, All, refl, sym, ap, subst, ◌∙◌, arith, inl, inr, length-append, append_assoc, append-nil}
 use Rattle.std.specs.Prelude.{slice_get}
 use Rattle.std.specs.List.{find, list_all, AllByRecursion}
 use Rattle.std.proofs.lemmas.Bool.{cases_Bool, cases_lt, cond-true, cond-false, and_parts, not-true}
-use Rattle.std.proofs.lemmas.List.{length-map, length_push, length-take-le, map-append, get_or-map, get_or_push, get_or_append_left, take_all, take-append-le, take-append-drop}
+use Rattle.std.proofs.lemmas.List.{length-map, length_push, length-take-le, map-append, same_lists, get_or_default, get_or-map, get_or_push, get_or_append_left, get_or-append_right, take_all, take-append-le, take-append-drop}
 use Rattle.std.proofs.lemmas.List.Elements.{All-append, All-weaker, All-from_recursion}
 use Rattle.std.proofs.lemmas.List.Folds.{list_any_none}
 use Rattle.ae_base.specs.Name.{is_name}
@@ -12,6 +12,9 @@ use Rattle.ae_base.specs.declared.limits.TheConstants.{NET_LINES, GATES}
 use Rattle.ae_base.proofs.Apart.{distinct_append}
 use Rattle.ae_base.proofs.Distinct.{each-append}
 use Rattle.ae_lex.specs.Heads.{Word}
+use Rattle.ae_net.specs.declared.net.Gate.{Gate}
+use Rattle.ae_net.specs.Implements.{port_names}
+use Rattle.ae_net.specs.Network.{gate_at}
 use Rattle.ae_net.specs.Named.{NamedGate, place_of, net_of}
 use Rattle.ae_net.specs.Named.{gate_of as gate_in}
 use Rattle.ae_net.specs.Valid.{IsDistinct, IsRowOf, IsGate, IsValid}
@@ -20,6 +23,7 @@ use Rattle.blif_read.specs.declared.fault.NetLimits.TheVariants.{Source, Written
 use Rattle.blif_read.specs.Words.{most_lines, is_name_under}
 use Rattle.blif_read.specs.Limits.{KeepsLimits}
 use Rattle.blif_read.specs.Says.{outs, can_go, place}
+use Rattle.blif_read.specs.SourceSays.{constant_0}
 use Rattle.blif_read.proofs.Words.{name_under}
 use Rattle.blif_read.proofs.Sound.{IsSound, distinct_push}
 use Rattle.blif_read.proofs.Gates.{IsFit}
@@ -27,6 +31,7 @@ use Rattle.blif_read.proofs.Steps.{among_both}
 use Rattle.blif_read.proofs.Tables.{place_of-append}
 use Rattle.blif_read.proofs.Places.{place_at, place_bound}
 use Rattle.blif_read.proofs.Link.{blank, cases_Option, place_some, place_none}
+use Rattle.blif_read.proofs.WrittenNames.{AreFresh}
 
 -- ---- gates that are placed
 
@@ -77,6 +82,36 @@ are_placed limits i cs (suc n) done fine h = elim (cases_Option (find (can_go i 
       rw (place_some i cs n done g e) (rest.0, omega (arith, rest.1, length_push done g)))
 ]
 
+-- what holds of each gate holds of each placed one
+pub placed_each : (Q : NamedGate → Type 0) (i : List Word) (cs : List NamedGate) (n : ℕ) (done : List NamedGate) → AllByRecursion Q cs → AllByRecursion Q done → AllByRecursion Q (place i cs n done)
+unfolding place
+placed_each Q i cs zero done h k = k
+placed_each Q i cs (suc n) done h k = elim (cases_Option (find (can_go i done) cs)) [
+  | inl e ↦ rw (place_none i cs n done e) k
+  | inr (g, e) ↦ rw (place_some i cs n done g e) (placed_each Q i cs n (done ++ g ∷ []) h (each-append Q done (g ∷ []) k ((found_is Q (can_go i done) cs g h e).1, tt)))
+]
+
+-- ---- constants after them
+
+pub outs_with : (gs : List NamedGate) (ws : List Word) → outs (gs ++ map constant_0 ws) ≡ outs gs ++ ws
+outs_with gs ws = map-append (λ (g : NamedGate). g.out) gs (map constant_0 ws) ∙ ap (λ (vs : List Word). outs gs ++ vs) (each ws)
+  where
+    each : (ws : List Word) → outs (map constant_0 ws) ≡ ws
+    each [] = refl
+    each (w ∷ ws) = ap (λ (vs : List Word). w ∷ vs) (each ws)
+
+-- a name of a constant: short enough, and that of no input
+abbrev pub IsIdle : NetLimits → List Word → Word → Type 0
+IsIdle limits i w = (is_name_under limits w ≡ true) × (is_among w i ≡ false)
+
+pub zeros_placed : (limits : NetLimits) (i : List Word) (gs : List NamedGate) (ws : List Word) → ArePlaced limits i gs → AllByRecursion (IsIdle limits i) ws → AreFresh (outs gs) ws → ArePlaced limits i (gs ++ map constant_0 ws)
+zeros_placed limits i gs [] h k f = subst (ArePlaced limits i) (sym (append-nil gs)) h
+zeros_placed limits i gs (w ∷ ws) h k f =
+    let fit : IsFit limits (constant_0 w) = record { few = omega arith; out = k.0.0; rows = tt; off_row = λ e. absurd cc } in
+    let go : can_go i gs (constant_0 w) ≡ true = rw f.0 refl in
+    let rest = subst (λ (had : List Word). AreFresh had ws) (sym (outs_with gs (w ∷ []))) f.1 in
+    subst (ArePlaced limits i) (append_assoc gs (constant_0 w ∷ []) (map constant_0 ws)) (zeros_placed limits i (gs ++ constant_0 w ∷ []) ws (placed_push limits i gs (constant_0 w) h (fit, k.0.1) go) k.1 rest)
+
 -- ---- the places of pins and outputs
 
 -- of names that are among the first the places are among the first
@@ -100,7 +135,8 @@ few_lines Written = omega arith
 
 -- what is known of the inputs, the outputs and the gates of a network
 pub record AreParts (limits : NetLimits) (i o d : List Word) (gs : List NamedGate) : Type 0 where
-  pub sound : IsSound limits i o d
+  pub in_part : Bool
+  pub sound : IsSound limits in_part i o d
   pub placed : ArePlaced limits i gs
   pub few : length gs ≤ GATES
   pub shown : AllByRecursion (λ w. is_among w (outs gs) ≡ true) o
@@ -141,6 +177,26 @@ outs_each : (Q : Word → Type 0) (R : NamedGate → Type 0) → ((g : NamedGate
 outs_each Q R f gs h = λ k d lt.
     let in' : k < length gs = omega (arith, length-map gs (λ (g : NamedGate). g.out)) in
     subst Q (sym (get_or-map (λ (g : NamedGate). g.out) gs k blank d in')) (f (get_or gs k blank) (All-from_recursion R gs h k blank in'))
+
+-- the ports have the names of the outputs
+pub ports_named : (limits : NetLimits) (model : Word) (i o d : List Word) (gs : List NamedGate) → AreParts limits i o d gs → port_names (net_of model i o gs) ≡ o
+unfolding net_of
+ports_named limits model i o d gs h =
+    let names = i ++ outs gs in
+    let n = net_of model i o gs in
+    let ports : length (map (λ w. place_of w names) o) ≡ length o = length-map o (λ w. place_of w names) in
+    same_lists _ _ (length-map n.outputs (λ s. (gate_at n (s - length i)).out) ∙ ports) (λ k d lt.
+    let in' : k < length o = omega (arith, length-map n.outputs (λ s. (gate_at n (s - length i)).out), ports) in
+    let w = get_or o k [] in
+    let p = port_at i (outs gs) w (h.sound.outputs_new k [] in') (All-from_recursion (λ v. is_among v (outs gs) ≡ true) o h.shown k [] in') in
+    let s = place_of w names in
+    let at : get_or n.outputs k 0 ≡ s = get_or-map (λ v. place_of v names) o k [] 0 in' in
+    let gate : s - length i < length gs = omega (arith, p.0, p.1, length-map gs (λ (g : NamedGate). g.out)) in
+    get_or-map (λ s. (gate_at n (s - length i)).out) n.outputs k 0 d (omega (arith, ports))
+    ∙ ap (λ s. (gate_at n (s - length i)).out) at
+    ∙ ap (λ (g : Gate). g.out) (get_or-map (gate_in names) gs (s - length i) blank _ gate)
+    ∙ sym (get_or-map (λ (g : NamedGate). g.out) gs (s - length i) blank [] gate)
+    ∙ sym (get_or-append_right i (outs gs) (length i) s [] refl p.0) ∙ p.2 ∙ get_or_default o k [] d in')
 
 pub is_valid : (limits : NetLimits) (model : Word) (i o d : List Word) (gs : List NamedGate) → is_name model ≡ true → AreParts limits i o d gs → IsValid (net_of model i o gs)
 unfolding net_of

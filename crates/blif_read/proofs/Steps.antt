@@ -1,6 +1,6 @@
 -- What lines say with one more line.
 use Rattle.std.proofs.Common.{◌≡◌, ℕ, ◌+◌, ◌-◌, ◌<◌, Bool, true, false, not, cond, ◌||◌, List, [], ◌∷◌, ◌++◌, length, get_or, map, take, drop, codes, inl, inr, Option, Some, None, Result, Ok, Err, refl, sym, ap, ◌∙◌, append-nil, append_assoc}
-use Rattle.std.specs.Prelude.{bytes_eq, filter, fold, slice_get, slice_index, option_map, unwrap_or}
+use Rattle.std.specs.Prelude.{bytes_eq, filter, fold, slice_get, slice_index, option_map, unwrap_or, is_some}
 use Rattle.std.specs.Borrow.{Bor}
 use Rattle.std.specs.List.{list_any, flat_map, concat, AllByRecursion}
 use Rattle.std.specs.Option.{option_or}
@@ -23,9 +23,10 @@ use Rattle.blif_read.specs.declared.fault.BlifFault.{BlifFault}
 use Rattle.blif_read.specs.declared.fault.BlifFault.TheVariants as fault
 use Rattle.blif_read.specs.declared.seen.OpenCover.{OpenCover}
 use Rattle.blif_read.specs.declared.seen.Seen.{Seen}
-use Rattle.blif_read.specs.Says.{inputs_of, outputs_of, gates_of, gate_of, outs, last_cover, declared_faults, row_faults, faults}
+use Rattle.blif_read.specs.Says.{Declared, inputs_of, outputs_of, inputs_in, outputs_in, gates_of, gate_of, outs, last_cover, declared_faults, listed_faults, row_faults, other_faults, faults}
 use Rattle.blif_read.specs.Seen.{open_cover, seen, row_faults_in, faults_in, with_end, with_line}
-use Rattle.blif_read.specs.Words.{gate_name, row_end, unsupported}
+use Rattle.blif_read.specs.Seen.{declared_more as more}
+use Rattle.blif_read.specs.Words.{gate_name, row_end}
 
 pub first_none : {X : Type 0} (b : Bool) (f : X) (rest : Option X) → cond b (Some f) rest ≡ None → (b ≡ false) × (rest ≡ None)
 first_none true f rest h = absurd cc
@@ -36,18 +37,18 @@ among_both w xs ys = list_any-append (bytes_eq w) xs ys
 
 -- ---- declared names
 
+first_onto : (cs ds : List (Bool × BlifFault)) → first_of (cs ++ ds) ≡ option_or (first_of cs) (first_of ds)
+first_onto [] ds = refl
+first_onto (c ∷ cs) ds = pick c.0 (first_onto cs ds)
+  where
+    pick : (b : Bool) → first_of (cs ++ ds) ≡ option_or (first_of cs) (first_of ds) → cond b (Some c.1) (first_of (cs ++ ds)) ≡ option_or (cond b (Some c.1) (first_of cs)) (first_of ds)
+    pick true e = refl
+    pick false e = e
+
 -- the faults of one name, and those of the names after it
 pub declared_more : (limits : NetLimits) (many : BlifFault) (others gates before : List Word) (w : Word) (ws : List Word)
     → first_of (declared_faults limits many others gates before (w ∷ ws)) ≡ option_or (first_of (declared_faults limits many others gates before (w ∷ []))) (first_of (declared_faults limits many others gates (before ++ w ∷ []) ws))
 declared_more limits many others gates before w ws = first_onto (declared_faults limits many others gates before (w ∷ [])) (declared_faults limits many others gates (before ++ w ∷ []) ws)
-  where
-    first_onto : (cs ds : List (Bool × BlifFault)) → first_of (cs ++ ds) ≡ option_or (first_of cs) (first_of ds)
-    first_onto [] ds = refl
-    first_onto (c ∷ cs) ds = pick c.0 (first_onto cs ds)
-      where
-        pick : (b : Bool) → first_of (cs ++ ds) ≡ option_or (first_of cs) (first_of ds) → cond b (Some c.1) (first_of (cs ++ ds)) ≡ option_or (cond b (Some c.1) (first_of cs)) (first_of ds)
-        pick true e = refl
-        pick false e = e
 
 -- the first name with a fault, where `had` are those before it
 pub declared_err : (limits : NetLimits) (many : BlifFault) (others gates old had : List Word) (words : List (Bor Word)) (i : ℕ) (d : Bor Word) (e : LineErr BlifFault) → i < length words
@@ -69,6 +70,25 @@ declared_ok limits many others gates old had new words i d lt names is h =
       ap (λ (ws : List Word). first_of (declared_faults limits many others gates ws rest)) h.1 ∙ ap (λ (o : Option BlifFault). option_or o (first_of (declared_faults limits many others gates (had ++ w ∷ []) rest))) (sym h.0)
           ∙ sym (declared_more limits many others gates had w rest) ∙ ap (λ (ws : List (Bor Word)). first_of (declared_faults limits many others gates had (texts ws))) (sym (drop_more words i d lt)) ∙ is,
     )
+
+-- of names that are only to be listed, where those so far have no fault
+abbrev Listed : NetLimits → List Word → List (Bor Word) → Option BlifFault
+Listed limits known words = first_of (listed_faults limits known (texts words))
+
+listed_more : (limits : NetLimits) (known : List Word) (words : List (Bor Word)) (i : ℕ) (d : Bor Word) → i < length words
+    → Listed limits known (drop i words) ≡ option_or (first_of (listed_faults limits known ((get_or words i d).now ∷ []))) (Listed limits known (drop (i + 1) words))
+listed_more limits known words i d lt =
+    let w = (get_or words i d).now in
+    ap (Listed limits known) (drop_more words i d lt) ∙ first_onto (listed_faults limits known (w ∷ [])) (listed_faults limits known (texts (drop (i + 1) words)))
+
+pub listed_err : (limits : NetLimits) (known : List Word) (words : List (Bor Word)) (i : ℕ) (d : Bor Word) (e : LineErr BlifFault) → i < length words → Listed limits known (drop i words) ≡ Listed limits known words
+    → Takes {X = Unit {0}} (listed_faults limits known ((get_or words i d).now ∷ [])) (Unit {0}) (Err e) → Takes {X = Unit {0}} (listed_faults limits known (texts words)) (Unit {0}) (Err e)
+listed_err limits known words i d (line.Fault f) lt is h = sym is ∙ listed_more limits known words i d lt ∙ ap (λ (o : Option BlifFault). option_or o (Listed limits known (drop (i + 1) words))) h
+listed_err limits known words i d line.Memory lt is h = tt
+
+pub listed_ok : (limits : NetLimits) (known : List Word) (words : List (Bor Word)) (i : ℕ) (d : Bor Word) → i < length words → Listed limits known (drop i words) ≡ Listed limits known words
+    → first_of (listed_faults limits known ((get_or words i d).now ∷ [])) ≡ None → Listed limits known (drop (i + 1) words) ≡ Listed limits known words
+listed_ok limits known words i d lt is h = ap (λ (o : Option BlifFault). option_or o (Listed limits known (drop (i + 1) words))) (sym h) ∙ sym (listed_more limits known words i d lt) ∙ is
 
 -- ---- one more line
 
@@ -155,9 +175,9 @@ abbrev pub headers : List Word
 headers = codes ".model" ∷ codes ".inputs" ∷ codes ".outputs" ∷ codes ".names" ∷ codes ".end" ∷ []
 
 -- no `.model` stands before one without a fault
-first_model : (limits : NetLimits) (before : List (List Word)) (line : List Word) → heads (codes ".model") line ≡ true → first_of (faults_in limits (seen before) line) ≡ None → list_any (heads (codes ".model")) before ≡ false
+first_model : (limits : NetLimits) (model : Option Declared) (before : List (List Word)) (line : List Word) → heads (codes ".model") line ≡ true → first_of (faults_in limits (seen model before) line) ≡ None → list_any (heads (codes ".model")) before ≡ false
 unfolding faults_in seen
-first_model limits before line e h = (or_parts (list_any (heads (codes ".end")) before) _ (first_none _ _ _ (rw e at h)).0).1
+first_model limits model before line e h = (or_parts (is_some model) _ (or_parts (list_any (heads (codes ".end")) before) _ (first_none _ _ _ (rw e at h)).0).1).1
 
 model_more : (before : List (List Word)) (line : List Word) → (heads (codes ".model") line ≡ true → list_any (heads (codes ".model")) before ≡ false)
     → let models = λ (ls : List (List Word)). slice_get (flat_map (drop 1) (filter (heads (codes ".model")) ls)) 0 in models (before ++ line ∷ []) ≡ cond (heads (codes ".model") line) (slice_get (drop 1 line) 0) (models before)
@@ -170,15 +190,27 @@ model_more before line first = ap (λ (ws : List Word). slice_get ws 0) (words_m
     pick true first = ap (λ (ws : List Word). slice_get (ws ++ drop 1 line) 0) (no_words before (first refl))
     pick false first = ap (λ (ws : List Word). slice_get ws 0) (append-nil had)
 
-pub seen_push : (limits : NetLimits) (before : List (List Word)) (line : List Word) → first_of (faults_in limits (seen before) line) ≡ None → seen (before ++ line ∷ []) ≡ with_line (seen before) line
+same_both : (b : Bool) (xs : List Word) → xs ≡ cond b xs xs
+same_both true xs = refl
+same_both false xs = refl
+
+inputs_more : (model : Option Declared) (before : List (List Word)) (line : List Word) → inputs_in model (before ++ line ∷ []) ≡ cond (heads (codes ".inputs") line) (more (is_some model) (inputs_in model before) (drop 1 line)) (inputs_in model before)
+inputs_more None before line = words_more (codes ".inputs") before line ∙ put (heads (codes ".inputs") line) (inputs_of before) (drop 1 line)
+inputs_more (Some m) before line = same_both (heads (codes ".inputs") line) m.inputs
+
+outputs_more : (model : Option Declared) (before : List (List Word)) (line : List Word) → outputs_in model (before ++ line ∷ []) ≡ cond (heads (codes ".outputs") line) (more (is_some model) (outputs_in model before) (drop 1 line)) (outputs_in model before)
+outputs_more None before line = words_more (codes ".outputs") before line ∙ put (heads (codes ".outputs") line) (outputs_of before) (drop 1 line)
+outputs_more (Some m) before line = same_both (heads (codes ".outputs") line) m.outputs
+
+pub seen_push : (limits : NetLimits) (model : Option Declared) (before : List (List Word)) (line : List Word) → first_of (faults_in limits (seen model before) line) ≡ None → seen model (before ++ line ∷ []) ≡ with_line (seen model before) line
 unfolding seen with_line
-seen_push limits before line h =
+seen_push limits model before line h =
     rw (
       any_more (codes ".end") before line,
       any_more (codes ".model") before line,
-      model_more before line (λ e. first_model limits before line e h),
-      words_more (codes ".inputs") before line ∙ put (heads (codes ".inputs") line) (inputs_of before) (drop 1 line),
-      words_more (codes ".outputs") before line ∙ put (heads (codes ".outputs") line) (outputs_of before) (drop 1 line),
+      model_more before line (λ e. first_model limits model before line e h),
+      inputs_more model before line,
+      outputs_more model before line,
       driven_more before line ∙ put (heads (codes ".names") line) (outs (gates_of before)) (gate_name (drop 1 line) ∷ []),
       cover_is before line,
     )
@@ -200,28 +232,31 @@ row_same cover r = pick (heads (codes ".names") (get_or cover 0 [])) (ends (map 
     pick false e = refl
 
 abbrev Same : List Word → Type 0
-Same line = (limits : NetLimits) (before : List (List Word)) → first_of (faults limits before line) ≡ first_of (faults_in limits (seen before) line)
+Same line = (limits : NetLimits) (model : Option Declared) (before : List (List Word)) → first_of (faults limits model before line) ≡ first_of (faults_in limits (seen model before) line)
 
 same_other : (line : List Word) → AllByRecursion (λ h. heads h line ≡ false) headers → Same line
 unfolding faults faults_in seen
-same_other line (m, (i, (o, (n, (e, u))))) limits before = rw (m, i, o, n, e) (pick (is_row line) (row_same (last_cover before) (concat line)))
+same_other line (m, (i, (o, (n, (e, u))))) limits model before = rw (m, i, o, n, e) (pick (is_row line) (row_same (last_cover before) (concat line)))
   where
+    others : List (Bool × BlifFault)
+    others = other_faults (is_some model) line
+
     pick : (row : Bool) → first_of (row_faults (last_cover before) (concat line)) ≡ first_of (row_faults_in (open_cover (last_cover before)) (concat line))
-        → cond (list_any (heads (codes ".end")) before) (Some fault.AfterEnd) (first_of (cond row (row_faults (last_cover before) (concat line)) ((is_among (word line 0) unsupported, fault.Unsupported) ∷ (true, fault.Unknown) ∷ [])))
-        ≡ cond (list_any (heads (codes ".end")) before) (Some fault.AfterEnd) (first_of (cond row (row_faults_in (open_cover (last_cover before)) (concat line)) ((is_among (word line 0) unsupported, fault.Unsupported) ∷ (true, fault.Unknown) ∷ [])))
+        → cond (list_any (heads (codes ".end")) before) (Some fault.AfterEnd) (first_of (cond row (row_faults (last_cover before) (concat line)) others))
+        ≡ cond (list_any (heads (codes ".end")) before) (Some fault.AfterEnd) (first_of (cond row (row_faults_in (open_cover (last_cover before)) (concat line)) others))
     pick true e = rw e refl
     pick false e = refl
 
 pub faults_same : (line : List Word) → Same line
 unfolding faults faults_in seen
-faults_same line = by_heads Same headers refl (λ ws limits before. refl, (λ ws limits before. refl, (λ ws limits before. refl, (λ ws limits before. refl, (λ ws limits before. refl, tt))))) same_other line
+faults_same line = by_heads Same headers refl (λ ws limits model before. refl, (λ ws limits model before. refl, (λ ws limits model before. refl, (λ ws limits model before. refl, (λ ws limits model before. refl, tt))))) same_other line
 
 -- ---- what is read
 
-pub takes : (limits : NetLimits) (before : List (List Word)) (ws : List Word) (old new : Seen) (result : Result (Unit {0}) (LineErr BlifFault)) → old ≡ seen before → Takes (faults_in limits old ws) (new ≡ with_line old ws) result
-    → Takes (faults limits before ws) (new ≡ seen (before ++ ws ∷ [])) result
-takes limits before ws old new (Ok x) is h =
-    let none : first_of (faults_in limits (seen before) ws) ≡ None = ap (λ (s : Seen). first_of (faults_in limits s ws)) (sym is) ∙ h.0 in
-    (faults_same ws limits before ∙ none, h.1 ∙ ap (λ (s : Seen). with_line s ws) is ∙ sym (seen_push limits before ws none))
-takes limits before ws old new (Err (line.Fault f)) is h = faults_same ws limits before ∙ ap (λ (s : Seen). first_of (faults_in limits s ws)) (sym is) ∙ h
-takes limits before ws old new (Err line.Memory) is h = tt
+pub takes : (limits : NetLimits) (model : Option Declared) (before : List (List Word)) (ws : List Word) (old new : Seen) (result : Result (Unit {0}) (LineErr BlifFault)) → old ≡ seen model before → Takes (faults_in limits old ws) (new ≡ with_line old ws) result
+    → Takes (faults limits model before ws) (new ≡ seen model (before ++ ws ∷ [])) result
+takes limits model before ws old new (Ok x) is h =
+    let none : first_of (faults_in limits (seen model before) ws) ≡ None = ap (λ (s : Seen). first_of (faults_in limits s ws)) (sym is) ∙ h.0 in
+    (faults_same ws limits model before ∙ none, h.1 ∙ ap (λ (s : Seen). with_line s ws) is ∙ sym (seen_push limits model before ws none))
+takes limits model before ws old new (Err (line.Fault f)) is h = faults_same ws limits model before ∙ ap (λ (s : Seen). first_of (faults_in limits s ws)) (sym is) ∙ h
+takes limits model before ws old new (Err line.Memory) is h = tt

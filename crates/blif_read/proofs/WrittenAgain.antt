@@ -23,10 +23,10 @@ use Rattle.ae_lex.specs.Heads.{heads}
 use Rattle.ae_lex.specs.Reads.{words_of}
 use Rattle.blif_read.proofs.Steps.{words_more}
 use Rattle.ae_net.specs.Named.{gate_of, net_of, place_of}
-use Rattle.blif_read.specs.Says.{some_unknown, inputs_of, outputs_of, gates_of, declared_faults, faults, blif_says}
+use Rattle.blif_read.specs.Says.{some_unknown, inputs_of, outputs_of, gates_of, declared_faults, faults, model_says, blif_says, undefined_pin, undefined_output, placed, unplaced}
 use Rattle.blif_read.specs.Words.{gate_name, pin_names}
-use Rattle.blif_read.specs.Build.{undefined_pin, undefined_output, placed, unplaced, lines_say}
-use Rattle.blif_read.proofs.Whole.{text_says}
+use Rattle.blif_read.specs.Build.{lines_say}
+use Rattle.blif_read.proofs.Whole.{no_line_fault}
 use Rattle.blif_read.proofs.Places.{AllBelow}
 use Rattle.blif_read.proofs.WrittenNames.{AreFresh, not_among, fresh, fresh_split, names_apart, places_back, signals_apart, each_among}
 use Rattle.blif_read.proofs.WrittenPlacing.{placed_in_order}
@@ -185,10 +185,11 @@ net_back n k =
     ∙ ap₂ made (places_back names n.outputs k.apart k.outputs) (gates_back names (length n.inputs) n.gates k.apart k.gates (omega (arith, k.size)))
 
 pub says_again : (n : Network) → IsValid n → KeepsLimits Written n → blif_says Written (blif_text n) ≡ Ok n
-unfolding blif_text
+unfolding blif_text blif_says
 says_again n v l =
     let k = known_of n v in
     let names = signal_names n in
+    let last = last_line (blif_text n) in
     let read : word_lines Blif (blif_text n) ≡ numbered 1 (net_lines n) = lines_written Blif (net_lines n) (net_plain n v.model_named k.inputs k.output_names k.fit) in
-    let fine : first_fault (faults Written) [] (numbered 1 (net_lines n)) ≡ None = fine_lines Written 1 [] (net_lines n) (net_fine n v l k) in
-    text_says Written (blif_text n) (numbered 1 (net_lines n)) (last_line (blif_text n)) (sym read) refl fine ∙ net_lines_say n (last_line (blif_text n)) v k ∙ ap (λ (m : Network). Ok m) (net_back n k)
+    let fine : first_fault (faults Written None) [] (numbered 1 (net_lines n)) ≡ None = fine_lines Written 1 [] (net_lines n) (net_fine n v l k) in
+    ap (model_says Written last) read ∙ no_line_fault Written last (numbered 1 (net_lines n)) fine ∙ net_lines_say n last v k ∙ ap (λ (m : Network). Ok m) (net_back n k)

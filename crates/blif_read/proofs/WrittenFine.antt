@@ -69,7 +69,7 @@ gate_fine names before i o d gate h fit room fresh =
       rows_fine (before ++ line ∷ []) (length gate.pins) gate.on ws [] gate.rows i o (d ++ gate.out ∷ []) (stands_words names before i o d gate h) long tt (cover_more [] before line),
     )
 
-end_fine : (before : List (List Word)) → first_of (faults Written before (codes ".end" ∷ [])) ≡ None
+end_fine : (before : List (List Word)) → first_of (faults Written None before (codes ".end" ∷ [])) ≡ None
 unfolding faults
 end_fine before = refl
 

@@ -20,25 +20,24 @@ use Rattle.blif_read.specs.declared.fault.BlifFault.{BlifFault}
 use Rattle.blif_read.specs.Words.{most_lines, is_name_under, gate_name, pin_names, row_end}
 use Rattle.blif_read.specs.Words as words
 use Rattle.ae_base.specs.Twins.{is_among}
-use Rattle.blif_read.specs.Seen.{names_faults}
-use Rattle.blif_read.specs.Says.{inputs_of, outputs_of, gates_of, outs, last_cover, declared_faults, row_faults, faults, where_any, whole_fault, model_of}
-use Rattle.blif_read.specs.Build.{undefined_pin, undefined_output, placed, unplaced, lines_say}
+use Rattle.blif_read.specs.Says.{inputs_of, outputs_of, gates_of, outs, last_cover, declared_faults, names_faults, row_faults, faults, where_any, whole_fault, model_of, undefined_pin, undefined_output, placed, unplaced}
+use Rattle.blif_read.specs.Build.{lines_say}
 use Rattle.blif_read.proofs.Steps.{no_heads, driven_by, words_more, driven_more}
 use Rattle.blif_read.proofs.WrittenNames.{AreFresh}
 
 -- none of these lines is faulty, each after those before it
 abbrev pub AreFine : NetLimits → List (List Word) → List (List Word) → Type 0
 AreFine limits before [] = Unit {0}
-AreFine limits before (line ∷ lines) = (first_of (faults limits before line) ≡ None) × AreFine limits (before ++ line ∷ []) lines
+AreFine limits before (line ∷ lines) = (first_of (faults limits None before line) ≡ None) × AreFine limits (before ++ line ∷ []) lines
 
 pub fine_append : (limits : NetLimits) (before xs ys : List (List Word)) → AreFine limits before xs → AreFine limits (before ++ xs) ys → AreFine limits before (xs ++ ys)
 fine_append limits before [] ys h k = subst (λ (b : List (List Word)). AreFine limits b ys) (append-nil before) k
 fine_append limits before (x ∷ xs) ys h k = (h.0, fine_append limits (before ++ x ∷ []) xs ys h.1 (subst (λ (b : List (List Word)). AreFine limits b ys) (sym (append_assoc before (x ∷ []) xs)) k))
 
-pub fine_lines : (limits : NetLimits) (k : ℕ) (before lines : List (List Word)) → AreFine limits before lines → first_fault (faults limits) before (numbered k lines) ≡ None
+pub fine_lines : (limits : NetLimits) (k : ℕ) (before lines : List (List Word)) → AreFine limits before lines → first_fault (faults limits None) before (numbered k lines) ≡ None
 fine_lines limits k before [] h = refl
 fine_lines limits k before (line ∷ lines) h =
-    ap (λ (o : Option BlifFault). option_or (at_line k o) (first_fault (faults limits) (before ++ line ∷ []) (numbered (suc k) lines))) h.0 ∙ fine_lines limits (suc k) (before ++ line ∷ []) lines h.1
+    ap (λ (o : Option BlifFault). option_or (at_line k o) (first_fault (faults limits None) (before ++ line ∷ []) (numbered (suc k) lines))) h.0 ∙ fine_lines limits (suc k) (before ++ line ∷ []) lines h.1
 
 -- ---- what the lines so far said
 
@@ -71,11 +70,11 @@ stands_names before ws w i o d h e =
 
 -- ---- statements before `.end`
 
-pub names_line : (limits : NetLimits) (before : List (List Word)) (ws i o d : List Word) → Stands before i o d → first_of (faults limits before (codes ".names" ∷ ws)) ≡ first_of (names_faults limits i d ws)
+pub names_line : (limits : NetLimits) (before : List (List Word)) (ws i o d : List Word) → Stands before i o d → first_of (faults limits None before (codes ".names" ∷ ws)) ≡ first_of (names_faults limits false i d ws)
 unfolding faults
 names_line limits before ws i o d h = rw (h.on, h.inputs_are, h.driven_are) refl
 
-pub row_line : (limits : NetLimits) (before : List (List Word)) (line : List Word) → is_row line ≡ true → list_any (heads (codes ".end")) before ≡ false → first_of (faults limits before line) ≡ first_of (row_faults (last_cover before) (concat line))
+pub row_line : (limits : NetLimits) (before : List (List Word)) (line : List Word) → is_row line ≡ true → list_any (heads (codes ".end")) before ≡ false → first_of (faults limits None before line) ≡ first_of (row_faults (last_cover before) (concat line))
 unfolding faults
 row_line limits before line row on =
     rw (
@@ -111,7 +110,7 @@ pin_names-snoc ws w =
     ap (λ k. take k (ws ++ w ∷ [])) e ∙ take_at ws (w ∷ []) (length ws) refl
 
 pub names_fine : (limits : NetLimits) (inputs driven ws : List (List ℕ)) (w : List ℕ) → AllByRecursion (λ w. is_name_under limits w ≡ true) ws → is_name_under limits w ≡ true → length ws ≤ PINS → length driven < GATES → is_among w (inputs ++ driven) ≡ false
-    → first_of (names_faults limits inputs driven (ws ++ w ∷ [])) ≡ None
+    → first_of (names_faults limits false inputs driven (ws ++ w ∷ [])) ≡ None
 names_fine limits inputs driven ws w pins out few room fresh =
     let some : eqb (length (ws ++ w ∷ [])) 0 ≡ false = ne_eqb _ 0 (λ e. omega (arith, length-append ws (w ∷ []), e)) in
     let all : list_all (is_name_under limits) (ws ++ w ∷ []) ≡ true = list_all-append (is_name_under limits) ws (w ∷ []) ∙ and_from _ _ (list_all-from_AllPass (is_name_under limits) ws (All-from_recursion (λ v. is_name_under limits v ≡ true) ws pins)) (and_from (is_name_under limits w) true out refl) in

@@ -7,8 +7,7 @@ use Rattle.std.proofs.lemmas.List.{append_assoc, append-nil, map-append}
 use Rattle.std.proofs.lemmas.List.Folds.{list_any-append}
 use Rattle.ae_base.specs.Twins.{is_among}
 use Rattle.ae_net.specs.Named.{NamedGate}
-use Rattle.blif_read.specs.Says.{outs, can_go, place}
-use Rattle.blif_read.specs.Build.{placed}
+use Rattle.blif_read.specs.Says.{outs, can_go, place, placed}
 use Rattle.blif_read.proofs.Link.{place_some}
 use Rattle.blif_read.proofs.WrittenNames.{AreFresh, each_among}
 

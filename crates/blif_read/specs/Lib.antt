@@ -1,6 +1,6 @@
 pub mod Words
 pub mod Says
-pub mod Gives
+pub mod SourceSays
 pub mod Limits
 pub mod Seen
 pub mod Build

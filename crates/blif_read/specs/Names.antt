@@ -1,7 +1,7 @@
 -- The names of faults, as the report writes them.
 use Rattle.std.specs.Prelude.{ℕ, List, codes}
 use Rattle.blif_read.specs.declared.fault.BlifFault.{BlifFault}
-use Rattle.blif_read.specs.declared.fault.BlifFault.TheVariants.{TwoModels, AfterEnd, Unsupported, Unknown, BadName, BadRow, MixedRows, StrayRow, DefinedTwice, Undefined, Cycle, NameTwice, OutputIsInput, NoInputs, NoOutputs, TooManyInputs, TooManyOutputs, TooManyPins, TooManyGates}
+use Rattle.blif_read.specs.declared.fault.BlifFault.TheVariants.{TwoModels, AfterEnd, Unsupported, Unknown, BadName, BadRow, MixedRows, StrayRow, DefinedTwice, Undefined, Cycle, NameTwice, OutputIsInput, NoInputs, NoOutputs, TooManyInputs, TooManyOutputs, TooManyPins, TooManyGates, ExdcTwice, ExdcName}
 
 abbrev pub fault_name : BlifFault → List ℕ
 fault_name TwoModels = codes "TwoModels"
@@ -23,3 +23,5 @@ fault_name TooManyInputs = codes "TooManyInputs"
 fault_name TooManyOutputs = codes "TooManyOutputs"
 fault_name TooManyPins = codes "TooManyPins"
 fault_name TooManyGates = codes "TooManyGates"
+fault_name ExdcTwice = codes "ExdcTwice"
+fault_name ExdcName = codes "ExdcName"

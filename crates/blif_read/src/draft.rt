@@ -2,10 +2,11 @@
 ghost use Rattle.std.specs.Prelude.{◌≡◌, ◌++◌, ◌∷◌, ◌+◌, ◌<◌, ◌^◌, length, map, drop, All, [], true, false, bytes_eq, MatchOption, IfOk, IfSome};
 ghost use Rattle.ae_base.specs.Name.{is_name};
 ghost use Rattle.blif_read.specs.Words.{pin_names};
-ghost use Rattle.blif_read.specs.declared.fault.BlifErr.TheVariants as errors;
+ghost use Rattle.ae_lex.specs.declared.errors.TextErr.TheVariants as errors;
 ghost use Rattle.blif_read.specs.declared.fault.BlifFault.TheVariants as fault;
 ghost use Rattle.blif_read.specs.Seen.{Tells};
 ghost use Rattle.blif_read.specs.Build as spec;
+ghost use Rattle.blif_read.specs.Says.{undefined_output, undefined_pin};
 ghost use Rattle.ae_lex.specs.Heads.{heads};
 ghost use Rattle.ae_lex.specs.Slices.{texts};
 
@@ -76,7 +77,7 @@ fn signal_of_word(
 }
 
 /// The words after the first of a line that begins with this word.
-fn words_after<'a, 'b>(head: &[u8], words: &'a [&'b [u8]]) -> Option<&'a [&'b [u8]]>
+pub fn words_after<'a, 'b>(head: &[u8], words: &'a [&'b [u8]]) -> Option<&'a [&'b [u8]]>
     requires { bytes_eq [] head.now ≡ false }
     ensures { MatchOption result (heads head.now (texts words.now) ≡ false) (λ args. (heads head.now (texts words.now) ≡ true) × (texts args.now ≡ drop 1 (texts words.now))) }
 {
@@ -117,7 +118,7 @@ fn draft_line(
     drafts: &mut Seq<Draft>,
 ) -> Result<(), BlifErr>
     requires { spec.AreSignals (inputs.now ++ driven.now) }
-    ensures { Tells (spec.undefined_pin (inputs.now ++ driven.now) (line.now ∷ [])) (drafts.new ≡ drafts.old ++ spec.drafted (inputs.now ++ driven.now) place line.now.words) result }
+    ensures { Tells (undefined_pin (inputs.now ++ driven.now) (line.now ∷ [])) (drafts.new ≡ drafts.old ++ spec.drafted (inputs.now ++ driven.now) place line.now.words) result }
 {
     let Some(names) = words_after(b".names", line.words()) else {
         return Ok(());
@@ -139,7 +140,7 @@ fn check_line(
     driven: &NameTable,
 ) -> Result<(), BlifErr>
     requires { spec.AreSignals (inputs.now ++ driven.now) }
-    ensures { Tells (spec.undefined_output (inputs.now ++ driven.now) (line.now ∷ [])) (Unit {0}) result }
+    ensures { Tells (undefined_output (inputs.now ++ driven.now) (line.now ∷ [])) (Unit {0}) result }
 {
     let Some(names) = words_after(b".outputs", line.words()) else {
         return Ok(());
@@ -160,7 +161,7 @@ pub fn draft_gates(
 ) -> Result<(), BlifErr>
     requires signals { spec.AreSignals (inputs.now ++ driven.now) }
     requires none { drafts.old ≡ [] }
-    ensures { Tells (spec.undefined_pin (inputs.now ++ driven.now) lines.now) (drafts.new ≡ spec.drafts_of (inputs.now ++ driven.now) 0 lines.now) result }
+    ensures { Tells (undefined_pin (inputs.now ++ driven.now) lines.now) (drafts.new ≡ spec.drafts_of (inputs.now ++ driven.now) 0 lines.now) result }
 {
     for (place, line) in lines.iter().enumerate() {
         draft_line(alloc, place, line, inputs, driven, drafts)?;
@@ -176,7 +177,7 @@ pub fn check_outputs(
     driven: &NameTable,
 ) -> Result<(), BlifErr>
     requires { spec.AreSignals (inputs.now ++ driven.now) }
-    ensures { Tells (spec.undefined_output (inputs.now ++ driven.now) lines.now) (Unit {0}) result }
+    ensures { Tells (undefined_output (inputs.now ++ driven.now) lines.now) (Unit {0}) result }
 {
     for line in lines {
         check_line(alloc, line, inputs, driven)?;

@@ -1,8 +1,21 @@
 //! Why a BLIF text is refused.
 
-use ae_base::Memory;
+ghost use Rattle.std.specs.Prelude.{◌≡◌};
+ghost use Rattle.blif_read.specs.Says as says;
+
+use ae_base::GATES;
+use ae_lex::TextErr;
 use std::fmt;
-use thiserror::Error;
+
+/// The most `.names` of a don't care part: its network has a gate besides for each output that they don't drive.
+pub const PART_GATES: u32 = 131_072;
+
+/// The most `.names` of a model or of a don't care part.
+pub fn most_gates(in_part: bool) -> u32
+    ensures { result ≡ says.most_gates in_part }
+{
+    if in_part { PART_GATES } else { GATES }
+}
 
 /// Which limits a text is to keep.
 #[derive(Clone, Copy, Debug, PartialEq, Eq)]
@@ -16,7 +29,7 @@ pub enum NetLimits {
 /// What is wrong with a line, or with the whole text.
 #[derive(Clone, Copy, Debug, PartialEq, Eq)]
 pub enum BlifFault {
-    /// A second `.model`, or one after `.end`.
+    /// A second `.model`, or one after `.end` or `.exdc`.
     TwoModels,
     /// A line with words after `.end`, other than `.model` and `.end`.
     AfterEnd,
@@ -52,8 +65,12 @@ pub enum BlifFault {
     TooManyOutputs,
     /// A `.names` with more than `PINS` pins.
     TooManyPins,
-    /// The first `.names` past `GATES`.
+    /// The first `.names` past `GATES`, or in a don't care part past `PART_GATES`.
     TooManyGates,
+    /// A second `.exdc`.
+    ExdcTwice,
+    /// A name in the don't care part that the model does not declare.
+    ExdcName,
 }
 
 impl fmt::Display for BlifFault {
@@ -84,30 +101,13 @@ impl fmt::Display for BlifFault {
             BlifFault::TooManyOutputs => f.write_str("TooManyOutputs"),
             BlifFault::TooManyPins => f.write_str("TooManyPins"),
             BlifFault::TooManyGates => f.write_str("TooManyGates"),
+            BlifFault::ExdcTwice => f.write_str("ExdcTwice"),
+            BlifFault::ExdcName => f.write_str("ExdcName"),
         }
     }
 }
 
 impl std::error::Error for BlifFault {}
 
-/// Why `read_blif` gives no network.
-#[derive(Clone, Copy, Debug, PartialEq, Eq, Drop, Error)]
-pub enum BlifErr {
-    /// The first fault, with the number of its line from 1 on.
-    #[error("line {line}: {what}")]
-    At { line: u32, what: BlifFault },
-    /// Memory is wanting.
-    #[error("want of memory")]
-    Memory,
-}
-
-impl From<Memory> for BlifErr {
-    ghost use Rattle.std.specs.Prelude.{◌≡◌};
-    ghost use Rattle.blif_read.specs.declared.fault.BlifErr.TheVariants as errors;
-
-    ghost from_gives = { λ _ e. e ≡ errors.Memory };
-
-    fn from(_want: Memory) -> BlifErr {
-        BlifErr::Memory
-    }
-}
+/// Why a text gives no network. A fault of the whole text has the number of its last line, or that of the line that it names.
+pub type BlifErr = TextErr<BlifFault>;

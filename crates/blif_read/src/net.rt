@@ -2,14 +2,14 @@
 ghost use Rattle.std.specs.Prelude.{◌≡◌, ℕ, ◌+◌, ◌<◌, ◌≤◌, ◌^◌, ◌++◌, List, length, map, drop, All, true, None, unwrap_or, codes, IfOk};
 ghost use Rattle.ae_base.specs.Name.{is_name};
 ghost use Rattle.ae_net.specs.Valid.{IsValid};
-ghost use Rattle.ae_base.specs.Twins.{is_among};
-ghost use Rattle.blif_read.specs.Gives.{Gives};
+ghost use Rattle.ae_lex.specs.Reads.{Gives};
 ghost use Rattle.blif_read.specs.Build as spec;
 
-use crate::build::{gate_of, renumbered};
-use crate::draft::{Draft, check_outputs, draft_gates, signal_of};
+use crate::build::gate_of;
+use crate::draft::{Draft, check_outputs, draft_gates};
 use crate::fault::{BlifErr, BlifFault};
 use crate::order::{first_unplaced, needs_of, ranks_of};
+use crate::ports::add_ports;
 use crate::seen::Seen;
 use ae_base::{Memory, Name, Seq, copies};
 use ae_lex::WordLine;
@@ -18,7 +18,7 @@ use blif_order::order_of;
 use std::alloc::Global;
 
 /// The lines after a place.
-fn lines_after<'a, 'b>(lines: &'a [WordLine<'b>], place: usize) -> &'a [WordLine<'b>]
+pub fn lines_after<'a, 'b>(lines: &'a [WordLine<'b>], place: usize) -> &'a [WordLine<'b>]
     requires { place < length lines.now }
     ensures { result.now ≡ drop (place + 1) lines.now }
 {
@@ -65,37 +65,6 @@ fn gates_of(
     Ok(gates)
 }
 
-/// The signal that the port of an output shows.
-#[tactic(auto, using(crate::proofs::Places::place_bound))]
-fn port_of(seen: &Seen, name: &Name, ranks: &[Option<u32>]) -> u32
-    requires known { is_among name.now (seen.now.inputs ++ seen.now.driven) ≡ true }
-    requires size { length ranks.now ≡ length seen.now.driven }
-    requires short { length seen.now.inputs + length ranks.now < 2 ^ 32 }
-    requires ranked { All (spec.IsRankBelow (length ranks.now)) ranks.now }
-    ensures { result ≡ spec.port_of seen.now ranks.now name.now }
-{
-    let inputs = seen.inputs.len() as u32;
-    match signal_of(&seen.inputs, &seen.driven, name) {
-        Some(signal) => renumbered(inputs, ranks, signal),
-        None => unreachable!(),
-    }
-}
-
-/// The signals that the output ports show.
-fn ports_of(alloc: Global, seen: &Seen, ranks: &[Option<u32>]) -> Result<Seq<u32>, Memory>
-    requires known { All (λ w. is_among w (seen.now.inputs ++ seen.now.driven) ≡ true) seen.now.outputs }
-    requires size { length ranks.now ≡ length seen.now.driven }
-    requires short { length seen.now.inputs + length ranks.now < 2 ^ 32 }
-    requires ranked { All (spec.IsRankBelow (length ranks.now)) ranks.now }
-    ensures { IfOk result (λ ports. ports ≡ map (spec.port_of seen.now ranks.now) seen.now.outputs) }
-{
-    let mut ports = Seq::new(alloc);
-    for name in seen.outputs.as_slice() {
-        ports.push(port_of(seen, name, ranks))?;
-    }
-    Ok(ports)
-}
-
 /// The name of the model, which is `unnamed` where none is given.
 fn model_of(alloc: Global, seen: &Seen) -> Result<Name, Memory>
     ensures named { IfOk result (λ name. is_name name ≡ true) }
@@ -122,24 +91,34 @@ fn unnamed(alloc: Global) -> Result<Name, Memory>
     Name::known(alloc, b"unnamed")
 }
 
+/// The order of placing, and for each gate its place there.
+#[derive(Drop)]
+struct Plan {
+    order: Vec<u32>,
+    ranks: Vec<Option<u32>>,
+}
+
 /// The network of gates in an order that places all.
 fn net_placed(
     alloc: Global,
     lines: &[WordLine<'_>],
     seen: &Seen,
     drafts: &[Draft],
-    order: &[u32],
-    ranks: &[Option<u32>],
+    plan: &Plan,
+    name: &Name,
 ) -> Result<Net, Memory>
-    requires within { All (λ g. g < length drafts.now) order.now }
-    requires buildable { spec.AreBuildable (length lines.now) seen.now drafts.now ranks.now }
-    requires valid { (model : List ℕ) → is_name model ≡ true → IsValid (spec.drawn lines.now seen.now drafts.now order.now ranks.now model) }
-    ensures { IfOk result (λ net. net ≡ spec.drawn lines.now seen.now drafts.now order.now ranks.now (unwrap_or seen.now.model (codes "unnamed"))) }
+    requires within { All (λ g. g < length drafts.now) plan.now.order.items }
+    requires buildable { spec.AreBuildable (length lines.now) seen.now drafts.now plan.now.ranks.items }
+    requires ports { spec.ArePorts seen.now plan.now.ranks.items (length plan.now.order.items) }
+    requires valid { IsValid (spec.drawn lines.now seen.now drafts.now plan.now.order.items plan.now.ranks.items name.now) }
+    ensures { IfOk result (λ net. net ≡ spec.drawn lines.now seen.now drafts.now plan.now.order.items plan.now.ranks.items name.now) }
 {
-    let gates = gates_of(alloc, lines, seen, drafts, order, ranks)?;
-    let outputs = ports_of(alloc, seen, ranks)?;
+    let ranks = plan.ranks.as_slice();
+    let mut gates = gates_of(alloc, lines, seen, drafts, plan.order.as_slice(), ranks)?;
+    let mut outputs = Seq::new(alloc);
+    add_ports(alloc, seen, ranks, &mut gates, &mut outputs)?;
     let inputs = copies(alloc, seen.inputs.as_slice())?;
-    let model = model_of(alloc, seen)?;
+    let model = name.copy(alloc)?;
     Ok(Net {
         model,
         inputs,
@@ -158,13 +137,6 @@ fn line_of(lines: &[WordLine<'_>], drafts: &[Draft], place: usize) -> u32
     lines[draft.line].number()
 }
 
-/// The order of placing, and for each gate its place there.
-#[derive(Drop)]
-struct Plan {
-    order: Vec<u32>,
-    ranks: Vec<Option<u32>>,
-}
-
 fn plan_of(alloc: Global, seen: &Seen, drafts: &[Draft]) -> Result<Plan, Memory>
     requires { spec.AreDrafts seen.now drafts.now }
     ensures { IfOk result (λ plan. spec.IsPlan (length seen.now.inputs) drafts.now plan.order.items plan.ranks.items) }
@@ -175,15 +147,17 @@ fn plan_of(alloc: Global, seen: &Seen, drafts: &[Draft]) -> Result<Plan, Memory>
     Ok(Plan { order, ranks })
 }
 
-/// The network of the drafts, or the line of the first gate that can't be placed.
+/// The network under a name of the drafts, or the line of the first gate that can't be placed.
 fn net_drafted(
     alloc: Global,
     lines: &[WordLine<'_>],
     seen: &Seen,
     drafts: &[Draft],
+    name: &Name,
 ) -> Result<Net, BlifErr>
-    requires { spec.AreDrafted lines.now seen.now drafts.now }
-    ensures { Gives (spec.placed_net lines.now seen.now) result }
+    requires drafted { spec.AreDrafted lines.now seen.now drafts.now }
+    requires named { is_name name.now ≡ true }
+    ensures { Gives (spec.placed_net name.now lines.now seen.now) result }
 {
     let plan = plan_of(alloc, seen, drafts)?;
     match first_unplaced(plan.ranks.as_slice()) {
@@ -191,25 +165,18 @@ fn net_drafted(
             line: line_of(lines, drafts, place),
             what: BlifFault::Cycle,
         }),
-        None => Ok(net_placed(
-            alloc,
-            lines,
-            seen,
-            drafts,
-            plan.order.as_slice(),
-            plan.ranks.as_slice(),
-        )?),
+        None => Ok(net_placed(alloc, lines, seen, drafts, &plan, name)?),
     }
 }
 
-/// What lines without a fault say, in a text with so many physical lines.
+/// What the lines of a model without a fault say, in a text with so many physical lines.
 pub fn net_said(
     alloc: Global,
     lines: &[WordLine<'_>],
     last: u32,
     seen: &Seen,
 ) -> Result<Net, BlifErr>
-    requires { spec.AreFaultless lines.now seen.now }
+    requires { spec.AreFaultless None lines.now seen.now }
     ensures { Gives (spec.lines_say last lines.now) result }
 {
     if seen.inputs.len() == 0 {
@@ -227,5 +194,22 @@ pub fn net_said(
     let mut drafts = Seq::new(alloc);
     draft_gates(alloc, lines, &seen.inputs, &seen.driven, &mut drafts)?;
     check_outputs(alloc, lines, &seen.inputs, &seen.driven)?;
-    net_drafted(alloc, lines, seen, drafts.as_slice())
+    let name = model_of(alloc, seen)?;
+    net_drafted(alloc, lines, seen, drafts.as_slice(), &name)
+}
+
+/// The network under a name that the lines of a don't care part without a fault say.
+pub fn part_said(
+    alloc: Global,
+    lines: &[WordLine<'_>],
+    seen: &Seen,
+    name: &Name,
+) -> Result<Net, BlifErr>
+    requires part { spec.ArePart lines.now seen.now }
+    requires named { is_name name.now ≡ true }
+    ensures { Gives (spec.part_says name.now lines.now seen.now) result }
+{
+    let mut drafts = Seq::new(alloc);
+    draft_gates(alloc, lines, &seen.inputs, &seen.driven, &mut drafts)?;
+    net_drafted(alloc, lines, seen, drafts.as_slice(), name)
 }

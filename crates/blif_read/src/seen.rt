@@ -1,16 +1,17 @@
 //! What the lines so far say.
-ghost use Rattle.std.specs.Prelude.{◌≡◌, ◌∷◌, ◌++◌, [], List, false, codes, slice_index, option_map};
+ghost use Rattle.std.specs.Prelude.{◌≡◌, ◌∷◌, ◌++◌, [], List, Option, Some, None, false, codes, slice_index, option_map};
 ghost use Rattle.ae_lex.specs.Heads.{Word};
 ghost use Rattle.ae_lex.specs.Reads.{Takes};
 ghost use Rattle.ae_lex.specs.Slices.{texts};
-ghost use Rattle.blif_read.specs.Says.{faults};
+ghost use Rattle.blif_read.specs.Says.{Declared, faults};
+ghost use Rattle.blif_read.specs.SourceSays.{declared_by};
 ghost use Rattle.blif_read.specs.Seen as spec;
 
-use crate::declare::{Kind, add_names};
-use crate::fault::{BlifFault, NetLimits};
-use crate::statement::{are_names, is_row, is_unsupported, is_word, joined, read_name, row_end};
+use crate::declare::{Kind, read_heading};
+use crate::fault::{BlifFault, NetLimits, most_gates};
+use crate::statement::{are_names, is_row, is_word, joined, other_fault, read_name, row_end};
 use crate::table::NameTable;
-use ae_base::{GATES, Name, PINS};
+use ae_base::{Name, PINS};
 use ae_lex::LineErr;
 use std::alloc::Global;
 
@@ -22,8 +23,10 @@ pub struct OpenCover {
 }
 
 /// What the lines so far say, as far as the faults of a further line depend on it.
+/// In a don't care part the inputs and outputs are those of the model, and its lines declare none.
 #[derive(Drop)]
 pub struct Seen {
+    pub in_part: bool,
     pub ended: bool,
     pub has_model: bool,
     pub model: Option<Name>,
@@ -37,14 +40,32 @@ impl Seen {
     /// Nothing is said yet.
     #[tactic(auto, unfolding(crate::specs::Seen::seen, crate::specs::Says::gates_of))]
     pub fn new(alloc: Global) -> Seen
-        ensures { result ≡ spec.seen [] }
+        ensures { result ≡ spec.seen None [] }
     {
         Seen {
+            in_part: false,
             ended: false,
             has_model: false,
             model: None,
             inputs: NameTable::new(alloc),
             outputs: NameTable::new(alloc),
+            driven: NameTable::new(alloc),
+            cover: None,
+        }
+    }
+
+    /// Nothing is said yet of the don't care part of this model.
+    #[tactic(auto, unfolding(crate::specs::Seen::seen, crate::specs::Says::gates_of))]
+    pub fn into_part(self, alloc: Global) -> Seen
+        ensures { (lines : List (List Word)) → self ≡ spec.seen None lines → result ≡ spec.seen (Some (declared_by lines)) [] }
+    {
+        Seen {
+            in_part: true,
+            ended: false,
+            has_model: false,
+            model: None,
+            inputs: self.inputs,
+            outputs: self.outputs,
             driven: NameTable::new(alloc),
             cover: None,
         }
@@ -59,7 +80,7 @@ impl Seen {
     ) -> Result<(), LineErr<BlifFault>>
         ensures { Takes (spec.faults_in limits self.old (codes ".model" ∷ texts words.now)) (self.new ≡ spec.with_line self.old (codes ".model" ∷ texts words.now)) result }
     {
-        if self.ended || self.has_model {
+        if self.ended || self.in_part || self.has_model {
             return Err(LineErr::Fault(BlifFault::TwoModels));
         }
         let model = match words {
@@ -88,9 +109,10 @@ impl Seen {
     {
         let kind = Kind {
             limits,
+            in_part: self.in_part,
             too_many: BlifFault::TooManyInputs,
         };
-        add_names(
+        read_heading(
             alloc,
             kind,
             &self.outputs,
@@ -114,10 +136,11 @@ impl Seen {
     {
         let kind = Kind {
             limits,
+            in_part: self.in_part,
             too_many: BlifFault::TooManyOutputs,
         };
         let no_gates = NameTable::new(alloc);
-        add_names(
+        read_heading(
             alloc,
             kind,
             &self.inputs,
@@ -146,7 +169,7 @@ impl Seen {
         if words.len() - 1 > PINS as usize {
             return Err(LineErr::Fault(BlifFault::TooManyPins));
         }
-        if self.driven.len() >= GATES as usize {
+        if self.driven.len() >= most_gates(self.in_part) as usize {
             return Err(LineErr::Fault(BlifFault::TooManyGates));
         }
         let name = Name::known(alloc, words[words.len() - 1])?;
@@ -208,10 +231,8 @@ impl Seen {
             self.read_outputs(alloc, limits, words)
         } else if is_word(head, b".names") {
             self.read_names(alloc, limits, words)
-        } else if is_unsupported(head) {
-            Err(LineErr::Fault(BlifFault::Unsupported))
         } else {
-            Err(LineErr::Fault(BlifFault::Unknown))
+            Err(LineErr::Fault(other_fault(self.in_part, head)))
         }
     }
 
@@ -242,7 +263,7 @@ impl Seen {
         limits: NetLimits,
         words: &[&[u8]],
     ) -> Result<(), LineErr<BlifFault>>
-        ensures { (before : List (List Word)) → self.old ≡ spec.seen before → Takes (faults limits before (texts words.now)) (self.new ≡ spec.seen (before ++ texts words.now ∷ [])) result }
+        ensures { (model : Option Declared) (before : List (List Word)) → self.old ≡ spec.seen model before → Takes (faults limits model before (texts words.now)) (self.new ≡ spec.seen model (before ++ texts words.now ∷ [])) result }
     {
         self.read_words(alloc, limits, words)
     }

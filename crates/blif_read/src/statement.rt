@@ -1,11 +1,14 @@
 //! What the words of a line are.
-ghost use Rattle.std.specs.Prelude.{◌≡◌, bytes_eq, if◌then◌else◌, Some, None, IfOk};
+ghost use Rattle.std.specs.Prelude.{◌≡◌, ◌∷◌, List, bytes_eq, if◌then◌else◌, Some, None, IfOk};
 ghost use Rattle.std.specs.List.{list_all, concat};
 ghost use Rattle.ae_base.specs.Twins.{is_among};
+ghost use Rattle.blif_read.specs.Says.{other_faults};
 ghost use Rattle.blif_read.specs.Words as words;
+ghost use Rattle.ae_lex.specs.First.{first_of};
+ghost use Rattle.ae_lex.specs.Heads.{Word};
 ghost use Rattle.ae_lex.specs.Slices.{texts};
 
-use crate::fault::NetLimits;
+use crate::fault::{BlifFault, NetLimits};
 use ae_base::{
     Memory, Name, SOURCE_LINES, WRITTEN_LINES, are_literals, is_bit, is_name, is_source_name,
 };
@@ -81,10 +84,23 @@ pub fn is_word(word: &[u8], other: &[u8]) -> bool
 }
 
 /// Whether a statement with this first word is one of the format that is not read.
-pub fn is_unsupported(word: &[u8]) -> bool
+fn is_unsupported(word: &[u8]) -> bool
     ensures { result ≡ is_among word.now words.unsupported }
 {
     is_one_of(word, &UNSUPPORTED)
+}
+
+/// What is wrong with a statement with this first word, which is none of those that are read.
+pub fn other_fault(in_part: bool, head: &[u8]) -> BlifFault
+    ensures { (words : List Word) → first_of (other_faults in_part (head.now ∷ words)) ≡ Some result }
+{
+    if in_part && is_word(head, b".exdc") {
+        return BlifFault::ExdcTwice;
+    }
+    if is_unsupported(head) {
+        return BlifFault::Unsupported;
+    }
+    BlifFault::Unknown
 }
 
 /// The characters of a row: those of its words, one after the other.

@@ -1,7 +1,6 @@
 -- The error of a synthesis that is made of the fault of a text, and of the errors of the calls below.
 use Rattle.std.specs.Prelude.{ℕ}
-use Rattle.blif_read.specs.declared.fault.BlifErr.{BlifErr}
-use Rattle.blif_read.specs.declared.fault.BlifErr.TheVariants as blif_err
+use Rattle.blif_read.specs.declared.fault.BlifFault.{BlifFault}
 use Rattle.expansion.specs.declared.functions.ExpandErr.{ExpandErr}
 use Rattle.expansion.specs.declared.functions.ExpandErr.TheVariants as expand_err
 use Rattle.ae_lex.specs.declared.errors.TextErr.{TextErr}
@@ -23,9 +22,9 @@ of_pla (text_err.At line what) = err.Pla line what
 of_pla text_err.Memory = err.Memory
 
 -- a BLIF text that is refused
-abbrev pub of_blif : BlifErr → SynthErr
-of_blif (blif_err.At line what) = err.Blif line what
-of_blif blif_err.Memory = err.Memory
+abbrev pub of_blif : TextErr BlifFault → SynthErr
+of_blif (text_err.At line what) = err.Blif line what
+of_blif text_err.Memory = err.Memory
 
 -- functions that have too many terms
 abbrev pub of_expand : ExpandErr → SynthErr

@@ -1,5 +1,5 @@
 use Rattle.std.proofs.Common.{◌≡◌, ◌++◌, drop}
-use Rattle.blif_read.specs.Build.{undefined_output}
+use Rattle.blif_read.specs.Says.{undefined_output}
 use Rattle.blif_read.proofs.draft.check_outputs.Given as goal
 
 abbrev pub invariant-loop-line : goal.invariant-loop-line

@@ -1,5 +1,6 @@
 use Rattle.std.proofs.Common.{◌≡◌, ◌++◌, drop}
-use Rattle.blif_read.specs.Build.{drafts_of, undefined_pin}
+use Rattle.blif_read.specs.Build.{drafts_of}
+use Rattle.blif_read.specs.Says.{undefined_pin}
 use Rattle.blif_read.proofs.draft.draft_gates.Given as goal
 
 abbrev pub invariant-loop-place : goal.invariant-loop-place

@@ -3,4 +3,4 @@ use Rattle.blif_read.proofs.Steps.{takes}
 use Rattle.blif_read.proofs.seen.Seen.read.Goals as goal
 
 pub returns : goal.returns
-returns c = λ before is. takes c.args.limits before (texts c.args.words.now) c.args.self.now c.read_words.new.self c.read_words.result is c.read_words.ensures
+returns c = λ model before is. takes c.args.limits model before (texts c.args.words.now) c.args.self.now c.read_words.new.self c.read_words.result is c.read_words.ensures
