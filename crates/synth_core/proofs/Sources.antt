@@ -6,21 +6,18 @@ use Rattle.std.proofs.lemmas.Bool.{and_parts, leb-true}
 use Rattle.std.proofs.lemmas.Option.{slice_get-get_or}
 use Rattle.std.proofs.lemmas.List.{length-map}
 use Rattle.std.proofs.lemmas.List.Elements.{All-weaker}
-use Rattle.ae_base.specs.Mask.{Set, has}
+use Rattle.ae_base.specs.Mask.{Set}
 use Rattle.ae_base.specs.Cube.{Signs}
 use Rattle.ae_base.specs.Name.{is_name, is_source_name}
 use Rattle.ae_base.specs.Source.{Source, on_set}
-use Rattle.ae_base.specs.Source.Specified.{Off}
 use Rattle.ae_base.specs.declared.limits.TheConstants.{SOURCE_NAME_BYTES}
-use Rattle.ae_base.proofs.Specified.{on_where}
 use Rattle.ae_net.specs.Names.{IsNames}
 use Rattle.ae_net.specs.Network.{Network, gate_at}
-use Rattle.ae_net.specs.Out.{out}
-use Rattle.ae_net.specs.Source as net
+use Rattle.ae_net.specs.Source.{source_of}
 use Rattle.ae_net.specs.Valid.{IsValid}
 use Rattle.blif_read.specs.Limits.{KeepsLimits}
 use Rattle.blif_read.specs.declared.fault.NetLimits.TheVariants.{Source as source_limits}
-use Rattle.fn_store.specs.Functions.{Functions, IsLive, Shows, AgreeAt}
+use Rattle.fn_store.specs.Functions.{Functions, IsLive, Shows}
 use Rattle.net_fn.specs.Refs.{ShowEach}
 use Rattle.fn_store.specs.declared.store.FnRef.{FnRef}
 use Rattle.expansion.specs.Stores.{expanded}
@@ -45,18 +42,12 @@ use Rattle.synth_core.specs.declared.settings.Choice.{Choice}
 use Rattle.ae_base.specs.declared.form.Form.{Form}
 use Rattle.synth_core.proofs.Shown.{listed_distinct, all_listed}
 
--- ---- which outputs are On
-
--- an output of a network is On exactly where it shows 1
-on_set_net : (n : Network) (o : ℕ) (x : Set) → has (out n None x) o ≡ on_set (net.source_of n) o x
-on_set_net n o x = sym (on_where (has (out n None x) o) Off refl)
-
 -- ---- names
 
 name_of : (name : List ℕ) → is_source_name name ≡ true → (is_name name ≡ true) × (length name ≤ SOURCE_NAME_BYTES)
 name_of name h = ((and_parts _ _ h).0, leb-true _ _ (and_parts _ _ h).1)
 
-pub net_named : (n : Network) → IsValid n → KeepsLimits source_limits n → IsNames (names_of (net.source_of n))
+pub net_named : (n : Network) → IsValid n → KeepsLimits source_limits n → IsNames (names_of (source_of n))
 net_named n valid keeps = record {
   model_named = valid.model_named;
   some_input = valid.some_input;
@@ -66,12 +57,6 @@ net_named n valid keeps = record {
   distinct = listed_distinct n valid;
   each = all_listed n valid (λ name. (is_name name ≡ true) × (length name ≤ SOURCE_NAME_BYTES)) (All-weaker (λ name. is_source_name name ≡ true) _ name_of _ keeps.named);
 }
-
--- ---- what references show
-
-module _ (agree : (s : Functions) (r : FnRef) (f g : Set → Bool) → AgreeAt s.polarity.n f g → Shows s r f → Shows s r g) (functions : Functions) (refs : List FnRef) where
-  pub net_shows : (n : Network) → ShowEach functions refs (λ o x. has (out n None x) o) → ShowEach functions refs (on_set (net.source_of n))
-  net_shows n show = record { each = λ o r at. agree functions r _ _ (λ x point. on_set_net n o x) (show.each o r at) }
 
 -- ---- what is expanded
 

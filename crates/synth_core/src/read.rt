@@ -2,7 +2,7 @@
 ghost use Rattle.std.specs.Prelude.{◌≡◌, ◌≢◌, ◌≤◌, ℕ, IfOk, IfErr, IsErrOf, Err, length};
 ghost use Rattle.ae_base.specs.declared.limits.TheConstants.{NET_LINES, TEXT_BYTES};
 ghost use Rattle.ae_cover.specs.Cover.{source_of};
-ghost use Rattle.ae_net.specs.Source as net_spec;
+ghost use Rattle.ae_net.specs.NetSource.{specified_by};
 ghost use Rattle.blif_read.specs.declared.fault.NetLimits.TheVariants.{Source as source_limits};
 ghost use Rattle.blif_read.specs.Limits.{KeepsLimits};
 ghost use Rattle.synth_core.specs.declared.error.SynthErr.TheVariants as synth_err;
@@ -17,12 +17,12 @@ use crate::error::SynthErr;
 use crate::settings::{Choice, Settings, SourceKind, polarity_of};
 use ae_base::{Memory, Name, Polarity, copies};
 use ae_cover::Cover;
-use ae_net::{Net, NetNames};
-use blif_read::{NetLimits, read_blif, said_law};
+use ae_net::{NetNames, Source};
+use blif_read::source_law;
 use davio_dd::Davio;
-use fn_store::{FnRef, FnStore, store_laws};
+use fn_store::{FnRef, FnStore};
 use named_faults::port_names;
-use net_fn::{cover_values, net_values};
+use net_fn::{cover_values, source_values};
 use pla_read::read_pla;
 use std::alloc::Global;
 
@@ -87,11 +87,12 @@ fn cover_source(alloc: Global, cover: &Cover, polarity: Polarity) -> Result<Sour
     })
 }
 
-/// The names of a network.
-fn net_names(alloc: Global, net: &Net) -> Result<NetNames, Memory>
-    requires { KeepsLimits source_limits net.now }
-    ensures { IfOk result (λ names. names ≡ names_of (net_spec.source_of net.now)) }
+/// The names of a network with don't cares: those of its network.
+fn net_names(alloc: Global, source: &Source) -> Result<NetNames, Memory>
+    requires { KeepsLimits source_limits source.now.net }
+    ensures { IfOk result (λ names. names ≡ names_of (specified_by source.now)) }
 {
+    let net = source.net();
     let inputs = copies(alloc, net.inputs())?;
     let outputs = port_names(alloc, net)?;
     let model = net.model().copy(alloc)?;
@@ -102,17 +103,16 @@ fn net_names(alloc: Global, net: &Net) -> Result<NetNames, Memory>
     })
 }
 
-/// The source that a network is, at a polarity of its inputs.
-fn net_source(alloc: Global, net: &Net, polarity: Polarity) -> Result<Sourced, Memory>
-    requires limits { KeepsLimits source_limits net.now }
-    requires inputs { polarity.n ≡ length net.now.inputs }
-    ensures sourced { IfOk result (λ r. IsSourced (net_spec.source_of net.now) polarity (parts r.names (⟦<Store as FnStore>⟧.functions r.functions) r.outputs.items)) }
+/// What a network with don't cares specifies, at a polarity of its inputs.
+fn net_source(alloc: Global, source: &Source, polarity: Polarity) -> Result<Sourced, Memory>
+    requires limits { KeepsLimits source_limits source.now.net }
+    requires inputs { polarity.n ≡ length source.now.net.inputs }
+    ensures sourced { IfOk result (λ r. IsSourced (specified_by source.now) polarity (parts r.names (⟦<Store as FnStore>⟧.functions r.functions) r.outputs.items)) }
     ensures whole { IfOk result (λ r. IsWhole (parts r.names (⟦<Store as FnStore>⟧.functions r.functions) r.outputs.items)) }
 {
-    let names = net_names(alloc, net)?;
+    let names = net_names(alloc, source)?;
     let mut functions = Store::new(alloc, polarity)?;
-    let outputs = net_values(alloc, &mut functions, net, None)?;
-    store_laws();
+    let outputs = source_values(alloc, &mut functions, source)?;
     Ok(Sourced {
         names,
         functions,
@@ -136,10 +136,10 @@ pub fn read_source(alloc: Global, bytes: &[u8], settings: &Settings) -> Result<S
             Ok(cover_source(alloc, &cover, polarity)?)
         }
         SourceKind::Blif => {
-            said_law();
-            let net = read_blif(alloc, bytes, NetLimits::Source)?;
-            let polarity = polarity_for(settings.polarity, net.inputs().len() as u32)?;
-            Ok(net_source(alloc, &net, polarity)?)
+            source_law();
+            let source = blif_read::read_source(alloc, bytes)?;
+            let polarity = polarity_for(settings.polarity, source.net().inputs().len() as u32)?;
+            Ok(net_source(alloc, &source, polarity)?)
         }
     }
 }

@@ -10,7 +10,7 @@ use ae_base::{Form, Polarity};
 pub enum SourceKind {
     /// An espresso PLA text.
     Pla,
-    /// A combinational BLIF text.
+    /// A combinational BLIF text, with external don't cares or without.
     Blif,
 }
 
