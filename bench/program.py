@@ -42,8 +42,8 @@ def is_missing():
 
 
 def sources():
-    """The paths of all sources, PLA and BLIF, by name."""
-    return [os.path.join(SOURCES, name) for name in sorted(os.listdir(SOURCES))]
+    """The paths of all sources, PLA and BLIF, by name. Those with don't cares stand in a folder beside them."""
+    return [os.path.join(SOURCES, name) for name in sorted(os.listdir(SOURCES)) if name.endswith((".pla", ".blif"))]
 
 
 def kind_of(source):
