@@ -11,7 +11,7 @@ use Rattle.blif_read.proofs.source.read_source.Goals as goal
 pub returns-in-Some : goal.returns-in-Some
 returns-in-Some c =
     let lines : c.as_slice-lines.result.now ≡ word_lines Blif c.args.bytes.now = cc (c.as_slice-lines.ensures, c.in_ok-list.ensures.list) in
-    let last : c.in_ok-list.field-0.last ≡ last_line c.args.bytes.now = cc (c.in_ok-list.last-is, c.in_ok-list.ensures.last) in
+    let last : c.in_ok-list.field-0.last ≡ last_line c.args.bytes.now = cc c.in_ok-list.ensures.last in
     let at : exdc_place c.as_slice-lines.result.now ≡ Some c.in-Some.place = sym c.exdc_place.ensures.place ∙ c.in-Some.is in
     let said = source_at c.args.bytes.now c.as_slice-lines.result.now c.in_ok-list.field-0.last c.in-Some.place lines last at in
     let parts = ap₂ (both_say c.in_ok-list.field-0.last) (sym c.lines_before.ensures) (sym c.lines_after.ensures) in
