@@ -3,8 +3,8 @@
 use crate::sets::set;
 use ae_base::{Cube, Memory, Name, TEXT_BYTES};
 use ae_cover::Cover;
-use ae_net::{Gate, Net, NetNames};
-use blif_read::{BlifErr, NetLimits, read_blif};
+use ae_net::{Gate, Net, NetNames, Source};
+use blif_read::{BlifErr, NetLimits, read_blif, read_source};
 use pla_read::{PlaErr, read_pla};
 use std::alloc::Global;
 
@@ -62,6 +62,14 @@ pub fn net_of(alloc: Global, text: &[u8]) -> Result<Net, BlifErr> {
         return Err(BlifErr::Memory);
     }
     read_blif(alloc, text, NetLimits::Source)
+}
+
+/// The source of a text, with its don't cares. A text of more than `TEXT_BYTES` is answered with want of memory.
+pub fn source_of(alloc: Global, text: &[u8]) -> Result<Source, BlifErr> {
+    if text.len() > TEXT_BYTES {
+        return Err(BlifErr::Memory);
+    }
+    read_source(alloc, text)
 }
 
 /// The cover of a text. A text of more than `TEXT_BYTES` is answered with want of memory.

@@ -1,10 +1,11 @@
-//! The call of `blif_read`: the half adder, a text for each fault, and the limits of both kinds of text.
+//! The calls of `blif_read`: the half adder, a source with don't cares, a text for each fault, and the limits of both kinds of text.
 
 use ae_base::{Memory, PINS, SOURCE_LINES, TEXT_BYTES, WRITTEN_LINES};
+use ae_net::Net;
 use blif_read::{BlifErr, BlifFault, NetLimits, read_blif};
 use std::alloc::{AllocError, Global};
 use std::test::Fail;
-use test_support::{HALF_ADDER, Table, are_gates, are_names, net_of};
+use test_support::{DONT_CARES, HALF_ADDER, Table, are_gates, are_names, net_of, source_of};
 
 static HALF_ADDER_GATES: [Table; 4] = [
     Table {
@@ -46,6 +47,60 @@ fn is_half_adder(alloc: Global) -> Result<bool, BlifErr> {
 #[test]
 fn half_adder(rt: HostRuntime) -> Result<(), Fail> {
     let same = is_half_adder(rt.alloc())?;
+    assert!(rt; same);
+    Ok(())
+}
+
+/// The OR of two inputs, and the first of them.
+static OR_GATES: [Table; 2] = [
+    Table {
+        name: b"f",
+        pins: &[0, 1],
+        rows: &[(&[0], &[]), (&[1], &[])],
+        on: true,
+    },
+    Table {
+        name: b"g",
+        pins: &[0],
+        rows: &[(&[0], &[])],
+        on: true,
+    },
+];
+
+/// Where they may have any value: the AND of the inputs, and nowhere.
+static FREE_GATES: [Table; 2] = [
+    Table {
+        name: b"f",
+        pins: &[0, 1],
+        rows: &[(&[0, 1], &[])],
+        on: true,
+    },
+    Table {
+        name: b"g",
+        pins: &[],
+        rows: &[],
+        on: true,
+    },
+];
+
+/// Whether the network has two inputs, and its outputs show these two gates.
+fn shows_gates(net: &Net, gates: &[Table]) -> bool {
+    are_names(net.inputs(), &[b"a", b"b"])
+        && net.outputs() == [2, 3].as_slice()
+        && are_gates(net.gates(), gates)
+}
+
+fn has_dont_cares(alloc: Global) -> Result<bool, BlifErr> {
+    let source = source_of(alloc, DONT_CARES)?;
+    match &source.free {
+        Some(free) => Ok(shows_gates(source.net(), &OR_GATES) && shows_gates(free, &FREE_GATES)),
+        None => Ok(false),
+    }
+}
+
+#[test]
+fn a_source_with_dont_cares(rt: HostRuntime) -> Result<(), Fail> {
+    let same = has_dont_cares(rt.alloc())?;
     assert!(rt; same);
     Ok(())
 }

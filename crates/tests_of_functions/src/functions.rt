@@ -1,4 +1,4 @@
-//! The calls of `net_fn`: the functions of a network's ports and signals, under a fault or none, and those of a cover's outputs.
+//! The calls of `net_fn`: the functions of a network's ports and signals, under a fault or none, and those of the outputs of a source with don't cares and of a cover.
 ghost use Rattle.std.specs.Prelude.{◌≡◌, ◌≤◌, IfOk, length};
 ghost use Rattle.fn_store.specs.Functions.{IsLive, Keeps};
 ghost use Rattle.net_fn.specs.Refs.{AreLive};
@@ -10,11 +10,13 @@ use ae_net::{Fault, Net, Place, faults};
 use blif_read::BlifErr;
 use expansion::{ExpandErr, Expansion, expand};
 use fn_store::{FnRef, FnStore, TermLists};
-use net_fn::{cover_values, faulty_values, net_values, port_values, signal_values};
+use net_fn::{
+    cover_values, faulty_values, net_values, port_values, signal_values, source_values,
+};
 use pla_read::PlaErr;
 use std::alloc::Global;
 use std::test::Fail;
-use test_support::{HALF_ADDER, are_sets, cover_of, net_of, polarity, set};
+use test_support::{DONT_CARES, HALF_ADDER, are_sets, cover_of, net_of, polarity, set, source_of};
 
 /// The terms of a function's expansion, each as the inputs whose literals it has.
 type Terms = &'static [&'static [u32]];
@@ -407,6 +409,21 @@ fn has_three_terms(alloc: Global) -> Result<bool, BlifErr> {
 fn expansions_of_a_half_adder(rt: HostRuntime) -> Result<(), Fail> {
     let three = has_three_terms(rt.alloc())?;
     assert!(rt; three);
+    Ok(())
+}
+
+/// Whether the OR that is free where both inputs are 1 is taken as their EXOR, and the other output as it is.
+fn are_specified(alloc: Global) -> Result<bool, BlifErr> {
+    let source = source_of(alloc, DONT_CARES)?;
+    let mut store = store_for(alloc, source.net(), &[0, 1])?;
+    let refs = source_values(alloc, &mut store, &source)?;
+    Ok(are_functions(&mut store, &refs, &[&[&[0], &[1]], &[&[0]]])?)
+}
+
+#[test]
+fn outputs_with_dont_cares(rt: HostRuntime) -> Result<(), Fail> {
+    let same = are_specified(rt.alloc())?;
+    assert!(rt; same);
     Ok(())
 }
 
