@@ -6,6 +6,8 @@ mod nets;
 mod sets;
 mod texts;
 
-pub use nets::{Literals, Table, are_gates, are_names, are_rows, cover_of, names_of, net_of, source_of};
+pub use nets::{
+    Literals, Table, are_gates, are_names, are_rows, cover_of, names_of, net_of, source_of,
+};
 pub use sets::{are_sets, polarity, set};
 pub use texts::{AND_NET, AND_VECTORS, DONT_CARES, HALF_ADDER};

@@ -13,4 +13,5 @@ pub const AND_VECTORS: &[u8] =
     b"andexor-vectors 1\nform reddy\ninputs x1 x2 _c\noutputs f1\npolarity 11\nvector 000 0\nvector 110 1\nvector 001 1\nvector 111 0\nvector 010 0\nvector 100 0\nend\n";
 
 /// The OR of two inputs, which may have any value where both are 1, and the first input.
-pub static DONT_CARES: &[u8] = b".model m\n.inputs a b\n.outputs f g\n.names a b f\n1- 1\n-1 1\n.names a g\n1 1\n.exdc\n.names a b f\n11 1\n.end\n";
+pub static DONT_CARES: &[u8] =
+    b".model m\n.inputs a b\n.outputs f g\n.names a b f\n1- 1\n-1 1\n.names a g\n1 1\n.exdc\n.names a b f\n11 1\n.end\n";

@@ -10,9 +10,7 @@ use ae_net::{Fault, Net, Place, faults};
 use blif_read::BlifErr;
 use expansion::{ExpandErr, Expansion, expand};
 use fn_store::{FnRef, FnStore, TermLists};
-use net_fn::{
-    cover_values, faulty_values, net_values, port_values, signal_values, source_values,
-};
+use net_fn::{cover_values, faulty_values, net_values, port_values, signal_values, source_values};
 use pla_read::PlaErr;
 use std::alloc::Global;
 use std::test::Fail;
