@@ -54,9 +54,8 @@ sound_lines before (line ∷ lines) h v =
 -- where the whole text has no fault either, they say a valid file
 pub whole_valid : (s : Seen) (ended : Bool) → IsSound s → first_of (whole_faults s.stage ended) ≡ None → IsValidVectorFile s.file
 whole_valid s ended v h =
-    let one = none_first (eqb s.stage 0) NoHead ((not ended, NoEnd) ∷ (ltb s.stage 5, OutOfOrder) ∷ []) h in
-    let two = none_first (not ended) NoEnd ((ltb s.stage 5, OutOfOrder) ∷ []) one.1 in
-    v.whole (ltb-false s.stage 5 (none_first (ltb s.stage 5) OutOfOrder [] two.1).0)
+    let none = none_first ((eqb s.stage 0, NoHead) ∷ (not ended, NoEnd) ∷ (ltb s.stage 5, OutOfOrder) ∷ []) h in
+    v.whole (ltb-false s.stage 5 none.1.1.0)
 
 judged_is : (fault : Option (ℕ × VecFault)) (said file : VectorFile) → judged fault said ≡ Ok file → (fault ≡ None) × (said ≡ file)
 judged_is None said file h = (refl, cc h)

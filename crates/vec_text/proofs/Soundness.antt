@@ -2,7 +2,7 @@
 use Rattle.std.proofs.Common.{◌≡◌, ◌≢◌, ℕ, suc, ◌-◌, ◌<◌, ◌≤◌, Bool, true, false, not, ◌&&◌, ◌||◌, eqb, ltb, leb, cond, List, [], ◌∷◌, ◌++◌, length, map, codes, None, All, refl, sym, ap, subst, ◌∙◌, inl, inr, arith}
 use Rattle.std.specs.List.{AllByRecursion, list_all}
 use Rattle.std.specs.Str.{bytes_eq}
-use Rattle.std.proofs.lemmas.Bool.{and_from, and_parts, or_parts, eqb-true, eqb-false, leb-true, le-leb, ltb-true, cases_Bool, false≢true}
+use Rattle.std.proofs.lemmas.Bool.{not-false, and_from, and_parts, or_parts, eqb-true, eqb-false, leb-true, le-leb, ltb-true, cases_Bool, false≢true}
 use Rattle.std.proofs.lemmas.List.{length-map}
 use Rattle.std.proofs.lemmas.List.Elements.{All-nil, All-append, All-push}
 use Rattle.ae_base.specs.declared.limits.TheConstants.{PINS}
@@ -16,7 +16,7 @@ use Rattle.ae_base.proofs.Heads.{by_heads}
 use Rattle.ae_base.proofs.ReadBack.{bits_point, cube_over, places_within}
 use Rattle.ae_lex.specs.First.{first_of}
 use Rattle.ae_lex.specs.Heads.{Word, word, heads}
-use Rattle.vec_text.specs.declared.fault.VecFault.TheVariants.{OutOfOrder, BadForm, BadNames, NameTwice, BadBits, BadNumber, BadPlace, BadEvidence}
+use Rattle.vec_text.specs.declared.fault.VecFault.TheVariants.{OutOfOrder, BadForm, BadNames, NameTwice, BadBits, BadNumber}
 use Rattle.vec_text.specs.declared.file.Vector.{Vector}
 use Rattle.vec_text.specs.declared.file.EsopLine.{EsopLine}
 use Rattle.vec_text.specs.declared.file.Idle.{Idle}
@@ -30,13 +30,9 @@ use Rattle.vec_text.specs.Sound.{AreInputs, IsFrontAlone, IsSound}
 use Rattle.vec_text.proofs.Found.{none_first}
 use Rattle.vec_text.proofs.Named.{labels}
 
-unnot : (b : Bool) → not b ≡ false → b ≡ true
-unnot true h = refl
-unnot false h = absurd (false≢true (sym h))
-
 -- what a condition that does not hold tells of the stage
 at_stage : (k j : ℕ) → not (eqb k j) ≡ false → k ≡ j
-at_stage k j h = eqb-true k j (unnot (eqb k j) h)
+at_stage k j h = eqb-true k j (not-false (eqb k j) h)
 
 -- ---- numbers, digits and undetectable faults
 
@@ -74,21 +70,12 @@ is_idle words p n t = record { place = place; shown = shown (bytes_eq (tree_at w
     named : is_name (word words 1) ≡ true
     named = (and_parts _ (is_name (word words 1)) (and_parts _ _ p).0).1
 
-    -- the number of a pin
-    counted : (b c : Bool) → b ≡ true → (not b || c) ≡ true → c ≡ true
-    counted true c e h = h
-    counted false c e h = absurd (false≢true e)
-
-    by_stem : (b : Bool) → is_place (cond b (Stem (word words 1)) (Port (word words 1))) ≡ true
-    by_stem true = named
-    by_stem false = named
-
     place : is_place (place_said words) ≡ true
     place = elim (cases_Bool (heads (codes "pin") words)) [
       | inl e ↦
-          let k = count PINS (word words 2) (counted (heads (codes "pin") words) (is_count PINS (word words 2)) e n) in
+          let k = count PINS (word words 2) (rw e at n) in
           rw e (and_from _ _ (and_from _ _ named (le-leb 1 (value (word words 2)) (omega (arith, k.some)))) (le-leb (value (word words 2)) PINS k.few))
-      | inr f ↦ rw f (by_stem (heads (codes "stem") words))
+      | inr f ↦ rw f (elim (cases_Bool (heads (codes "stem") words)) [ inl g ↦ rw g named | inr g ↦ rw g named ])
     ]
 
     shown : (b : Bool) → (b || (not (eqb (length (tree_at words)) 0) && list_all (λ c. eqb c 83 || eqb c 76) (tree_at words))) ≡ true → is_shown (cond b Wide (Tree (map step_said (tree_at words)))) ≡ true
@@ -101,17 +88,21 @@ is_idle words p n t = record { place = place; shown = shown (bytes_eq (tree_at w
 abbrev Keeps : List Word → Type 0
 Keeps line = (s : Seen) → eqb s.stage 0 ≡ false → first_of (faults_in s line) ≡ None → IsSound s → IsSound (with_line s line)
 
+-- before the inputs are read
+early : (s : Seen) → s.stage < 3 → IsFrontAlone s.file → IsSound s
+early s l front = record {
+  front = λ lt. front;
+  inputs = λ le. absurd (omega (arith, l, le));
+  outputs = λ le. absurd (omega (arith, l, le));
+  whole = λ le. absurd (omega (arith, l, le));
+}
+
 keeps_form : (ws : List Word) → Keeps (codes "form" ∷ ws)
 unfolding line_faults with_line
 keeps_form ws s later h v =
-    let one = none_first (not (eqb s.stage 1)) OutOfOrder ((not (is_form ws), BadForm) ∷ []) (rw later at h) in
-    let front : IsFrontAlone s.file = v.front (omega (arith, at_stage s.stage 1 one.0)) in
-    rw later (record {
-      front = λ lt. record { no_esop = front.no_esop; no_vectors = front.no_vectors; no_unchanged = front.no_unchanged };
-      inputs = λ le. absurd (omega (arith, le));
-      outputs = λ le. absurd (omega (arith, le));
-      whole = λ le. absurd (omega (arith, le));
-    })
+    let none = none_first ((not (eqb s.stage 1), OutOfOrder) ∷ (not (is_form ws), BadForm) ∷ []) (rw later at h) in
+    let front : IsFrontAlone s.file = v.front (omega (arith, at_stage s.stage 1 none.0)) in
+    rw later (early _ (omega arith) (record { no_esop = front.no_esop; no_vectors = front.no_vectors; no_unchanged = front.no_unchanged }))
 
 -- with a control there are two inputs
 two_inputs : (control : Bool) (words : List Word) → (control && eqb (length words) 1) ≡ false → 1 ≤ length words → control ≡ true → 2 ≤ length words
@@ -122,15 +113,13 @@ keeps_inputs : (ws : List Word) → Keeps (codes "inputs" ∷ ws)
 unfolding line_faults with_line
 keeps_inputs ws s later h v =
     let control = (features_of s.file.form).control in
-    let one = none_first (not (eqb s.stage 2)) OutOfOrder ((not (are_names ws) || control && eqb (length ws) 1, BadNames) ∷ (has_twins ws, NameTwice) ∷ []) (rw later at h) in
-    let two = none_first (not (are_names ws) || control && eqb (length ws) 1) BadNames ((has_twins ws, NameTwice) ∷ []) one.1 in
-    let three = none_first (has_twins ws) NameTwice [] two.1 in
-    let names = or_parts (not (are_names ws)) (control && eqb (length ws) 1) two.0 in
-    let are = (labels ws (unnot _ names.0)).1 in
-    let front : IsFrontAlone s.file = v.front (omega (arith, at_stage s.stage 2 one.0)) in
+    let none = none_first ((not (eqb s.stage 2), OutOfOrder) ∷ (not (are_names ws) || control && eqb (length ws) 1, BadNames) ∷ (has_twins ws, NameTwice) ∷ []) (rw later at h) in
+    let names = or_parts (not (are_names ws)) (control && eqb (length ws) 1) none.1.0 in
+    let are = (labels ws (not-false _ names.0)).1 in
+    let front : IsFrontAlone s.file = v.front (omega (arith, at_stage s.stage 2 none.0)) in
     rw later (record {
       front = λ lt. record { no_esop = front.no_esop; no_vectors = front.no_vectors; no_unchanged = front.no_unchanged };
-      inputs = λ le. record { labels = are; control = two_inputs control ws names.1 are.some; distinct = distinct_of ws three.0 };
+      inputs = λ le. record { labels = are; control = two_inputs control ws names.1 are.some; distinct = distinct_of ws none.1.1.0 };
       outputs = λ le. absurd (omega (arith, le));
       whole = λ le. absurd (omega (arith, le));
     })
@@ -138,16 +127,15 @@ keeps_inputs ws s later h v =
 keeps_outputs : (ws : List Word) → Keeps (codes "outputs" ∷ ws)
 unfolding line_faults with_line
 keeps_outputs ws s later h v =
-    let one = none_first (not (eqb s.stage 3)) OutOfOrder ((not (are_names ws), BadNames) ∷ (has_twins ws || share s.file.inputs ws, NameTwice) ∷ []) (rw later at h) in
-    let two = none_first (not (are_names ws)) BadNames ((has_twins ws || share s.file.inputs ws, NameTwice) ∷ []) one.1 in
-    let twice = or_parts (has_twins ws) (share s.file.inputs ws) (none_first (has_twins ws || share s.file.inputs ws) NameTwice [] two.1).0 in
-    let stage : s.stage ≡ 3 = at_stage s.stage 3 one.0 in
+    let none = none_first ((not (eqb s.stage 3), OutOfOrder) ∷ (not (are_names ws), BadNames) ∷ (has_twins ws || share s.file.inputs ws, NameTwice) ∷ []) (rw later at h) in
+    let twice = or_parts (has_twins ws) (share s.file.inputs ws) none.1.1.0 in
+    let stage : s.stage ≡ 3 = at_stage s.stage 3 none.0 in
     let front : IsFrontAlone s.file = v.front (omega (arith, stage)) in
     let inputs : AreInputs s.file.form s.file.inputs = v.inputs (omega (arith, stage)) in
     rw later (record {
       front = λ lt. record { no_esop = front.no_esop; no_vectors = front.no_vectors; no_unchanged = front.no_unchanged };
       inputs = λ le. inputs;
-      outputs = λ le. ((labels ws (unnot _ two.0)).1, distinct_append s.file.inputs ws inputs.distinct (distinct_of ws twice.0) twice.1);
+      outputs = λ le. ((labels ws (not-false _ none.1.0)).1, distinct_append s.file.inputs ws inputs.distinct (distinct_of ws twice.0) twice.1);
       whole = λ le. absurd (omega (arith, le));
     })
 
@@ -169,10 +157,10 @@ keeps_polarity ws s later h v =
     let o = s.file.outputs in
     let w = word ws 0 in
     let size = cond control (length i - 1) (length i) in
-    let one = none_first (not (eqb s.stage 4)) OutOfOrder ((not (is_polarity size ws), BadBits) ∷ []) (rw later at h) in
-    let bits : is_polarity size ws ≡ true = unnot (is_polarity size ws) (none_first (not (is_polarity size ws)) BadBits [] one.1).0 in
+    let none = none_first ((not (eqb s.stage 4), OutOfOrder) ∷ (not (is_polarity size ws), BadBits) ∷ []) (rw later at h) in
+    let bits : is_polarity size ws ≡ true = not-false _ none.1.0 in
     let long : length w ≡ size = long_bits size w (and_parts (eqb (length ws) 1) (are_bits size w) bits).1 in
-    let stage : s.stage ≡ 4 = at_stage s.stage 4 one.0 in
+    let stage : s.stage ≡ 4 = at_stage s.stage 4 none.0 in
     let front : IsFrontAlone s.file = v.front (omega (arith, stage)) in
     let inputs : AreInputs s.file.form i = v.inputs (omega (arith, stage)) in
     let outputs = v.outputs (omega (arith, stage)) in
@@ -242,13 +230,10 @@ keeps_esop ws s later h v =
     let m = length f.outputs in
     let cubes = (features_of f.form).cubes in
     let stands = leb 5 s.stage && cubes && eqb (length f.vectors) 0 && eqb (length f.unchanged) 0 in
-    let one = none_first (not stands) OutOfOrder ((not (eqb (length ws) 2), BadBits) ∷ (not (is_count m (word ws 0)), BadNumber) ∷ (not (is_cube n (word ws 1)), BadBits) ∷ []) (rw later at h) in
-    let two = none_first (not (eqb (length ws) 2)) BadBits ((not (is_count m (word ws 0)), BadNumber) ∷ (not (is_cube n (word ws 1)), BadBits) ∷ []) one.1 in
-    let three = none_first (not (is_count m (word ws 0))) BadNumber ((not (is_cube n (word ws 1)), BadBits) ∷ []) two.1 in
-    let four = none_first (not (is_cube n (word ws 1))) BadBits [] three.1 in
-    let parts = and_parts (leb 5 s.stage) cubes (and_parts (leb 5 s.stage && cubes) (eqb (length f.vectors) 0) (and_parts _ (eqb (length f.unchanged) 0) (unnot stands one.0)).0).0 in
+    let none = none_first ((not stands, OutOfOrder) ∷ (not (eqb (length ws) 2), BadBits) ∷ (not (is_count m (word ws 0)), BadNumber) ∷ (not (is_cube n (word ws 1)), BadBits) ∷ []) (rw later at h) in
+    let parts = and_parts (leb 5 s.stage) cubes (and_parts (leb 5 s.stage && cubes) (eqb (length f.vectors) 0) (and_parts _ (eqb (length f.unchanged) 0) (not-false stands none.0)).0).0 in
     rw later (listed s (f.esop ++ esop_said ws ∷ []) f.vectors f.unchanged parts.0 v
-    (λ k. with_lists f (f.esop ++ esop_said ws ∷ []) f.vectors f.unchanged (All-push (IsCubeOf n m) f.esop (esop_said ws) k.esop (is_cube_of n m ws (unnot _ three.0) (unnot _ four.0))) k.points k.responses k.unchanged
+    (λ k. with_lists f (f.esop ++ esop_said ws ∷ []) f.vectors f.unchanged (All-push (IsCubeOf n m) f.esop (esop_said ws) k.esop (is_cube_of n m ws (not-false _ none.1.1.0) (not-false _ none.1.1.1.0))) k.points k.responses k.unchanged
     (λ none. absurd (false≢true (sym none ∙ parts.1))) k.none_listed k))
 
 keeps_vector : (ws : List Word) → Keeps (codes "vector" ∷ ws)
@@ -258,11 +243,10 @@ keeps_vector ws s later h v =
     let n = length f.inputs in
     let m = length f.outputs in
     let stands = leb 5 s.stage && eqb (length f.unchanged) 0 in
-    let one = none_first (not stands) OutOfOrder ((not (is_vector n m ws), BadBits) ∷ []) (rw later at h) in
-    let vector = unnot (is_vector n m ws) (none_first (not (is_vector n m ws)) BadBits [] one.1).0 in
-    let outs = and_parts (eqb (length ws) 2 && are_bits n (word ws 0)) (are_bits m (word ws 1)) vector in
+    let none = none_first ((not stands, OutOfOrder) ∷ (not (is_vector n m ws), BadBits) ∷ []) (rw later at h) in
+    let outs = and_parts (eqb (length ws) 2 && are_bits n (word ws 0)) (are_bits m (word ws 1)) (not-false _ none.1.0) in
     let ins = and_parts (eqb (length ws) 2) (are_bits n (word ws 0)) outs.0 in
-    rw later (listed s f.esop (f.vectors ++ vector_said ws ∷ []) f.unchanged (and_parts (leb 5 s.stage) (eqb (length f.unchanged) 0) (unnot stands one.0)).0 v
+    rw later (listed s f.esop (f.vectors ++ vector_said ws ∷ []) f.unchanged (and_parts (leb 5 s.stage) (eqb (length f.unchanged) 0) (not-false stands none.0)).0 v
     (λ k. with_lists f f.esop (f.vectors ++ vector_said ws ∷ []) f.unchanged k.esop
     (All-push (λ (x : Vector). IsPoint n x.point) f.vectors (vector_said ws) k.points (point n (word ws 0) ins.1))
     (All-push (λ (x : Vector). IsPoint m x.outs) f.vectors (vector_said ws) k.responses (point m (word ws 1) outs.1)) k.unchanged k.no_cubes k.none_listed k))
@@ -273,12 +257,9 @@ keeps_unchanged ws s later h v =
     let f = s.file in
     let undetectable = (features_of f.form).undetectable in
     let stands = leb 5 s.stage && undetectable in
-    let one = none_first (not stands) OutOfOrder (idle_faults ws) (rw later at h) in
-    let two = none_first (not (is_placed ws)) BadPlace ((not (is_numbered ws), BadNumber) ∷ (not (is_tree (tree_at ws)), BadEvidence) ∷ []) one.1 in
-    let three = none_first (not (is_numbered ws)) BadNumber ((not (is_tree (tree_at ws)), BadEvidence) ∷ []) two.1 in
-    let four = none_first (not (is_tree (tree_at ws))) BadEvidence [] three.1 in
-    let idle = is_idle ws (unnot _ two.0) (unnot _ three.0) (unnot _ four.0) in
-    let parts = and_parts (leb 5 s.stage) undetectable (unnot stands one.0) in
+    let none = none_first ((not stands, OutOfOrder) ∷ idle_faults ws) (rw later at h) in
+    let idle = is_idle ws (not-false _ none.1.0) (not-false _ none.1.1.0) (not-false _ none.1.1.1.0) in
+    let parts = and_parts (leb 5 s.stage) undetectable (not-false stands none.0) in
     rw later (listed s f.esop f.vectors (f.unchanged ++ idle_said ws ∷ []) parts.0 v
     (λ k. with_lists f f.esop f.vectors (f.unchanged ++ idle_said ws ∷ []) k.esop k.points k.responses (All-push IsIdle f.unchanged (idle_said ws) k.unchanged idle) k.no_cubes (λ none. absurd (false≢true (sym none ∙ parts.1))) k))
 
@@ -297,16 +278,11 @@ unfolding with_line
 sound_push line s h v = elim (cases_Bool (eqb s.stage 0)) [
   | inl start ↦
       let stage : s.stage ≡ 0 = eqb-true _ _ start in
-      rw start (record { front = λ lt. v.front (omega (arith, stage)); inputs = λ le. absurd (omega (arith, le)); outputs = λ le. absurd (omega (arith, le)); whole = λ le. absurd (omega (arith, le)) })
+      rw start (early _ (omega arith) (v.front (omega (arith, stage))))
   | inr later ↦ by_heads Keeps first_words refl (keeps_form, (keeps_inputs, (keeps_outputs, (keeps_polarity, (keeps_esop, (keeps_vector, (keeps_unchanged, tt))))))) keeps_other line s later h v
 ]
 
 -- nothing is seen before the first line
 pub sound_none : IsSound (seen [])
 unfolding seen file_of
-sound_none = record {
-  front = λ lt. record { no_esop = refl; no_vectors = refl; no_unchanged = refl };
-  inputs = λ le. absurd (omega (arith, le));
-  outputs = λ le. absurd (omega (arith, le));
-  whole = λ le. absurd (omega (arith, le));
-}
+sound_none = early _ (omega arith) (record { no_esop = refl; no_vectors = refl; no_unchanged = refl })

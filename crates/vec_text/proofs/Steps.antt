@@ -27,12 +27,8 @@ long_same k file line le = rw (ne_eqb k 0 (λ e. omega (arith, le, e)), ne_eqb k
 
 pub faults_same : (before : List (List Word)) (line : List Word) → faults before line ≡ faults_in (seen before) line
 unfolding seen
-faults_same [] line = refl
-faults_same (a ∷ []) line = refl
-faults_same (a ∷ b ∷ []) line = refl
-faults_same (a ∷ b ∷ c ∷ []) line = refl
-faults_same (a ∷ b ∷ c ∷ d ∷ []) line = refl
 faults_same (a ∷ b ∷ c ∷ d ∷ e ∷ rest) line = long_same (length (a ∷ b ∷ c ∷ d ∷ e ∷ rest)) (file_of (a ∷ b ∷ c ∷ d ∷ e ∷ rest)) line (omega arith)
+faults_same _ line = refl
 
 -- ---- one more line
 
@@ -53,37 +49,29 @@ step_form : (ws : List Word) → Steps (codes "form" ∷ ws)
 unfolding line_faults with_line seen file_of
 step_form ws [] h = absurd (headless (codes "form" ∷ ws) refl h)
 step_form ws (a ∷ []) h = refl
-step_form ws (a ∷ b ∷ []) h = absurd cc
-step_form ws (a ∷ b ∷ c ∷ []) h = absurd cc
-step_form ws (a ∷ b ∷ c ∷ d ∷ []) h = absurd cc
 step_form ws (a ∷ b ∷ c ∷ d ∷ e ∷ rest) h = absurd cc
+step_form ws _ h = absurd cc
 
 step_inputs : (ws : List Word) → Steps (codes "inputs" ∷ ws)
 unfolding line_faults with_line seen file_of
 step_inputs ws [] h = absurd (headless (codes "inputs" ∷ ws) refl h)
-step_inputs ws (a ∷ []) h = absurd cc
 step_inputs ws (a ∷ b ∷ []) h = refl
-step_inputs ws (a ∷ b ∷ c ∷ []) h = absurd cc
-step_inputs ws (a ∷ b ∷ c ∷ d ∷ []) h = absurd cc
 step_inputs ws (a ∷ b ∷ c ∷ d ∷ e ∷ rest) h = absurd cc
+step_inputs ws _ h = absurd cc
 
 step_outputs : (ws : List Word) → Steps (codes "outputs" ∷ ws)
 unfolding line_faults with_line seen file_of
 step_outputs ws [] h = absurd (headless (codes "outputs" ∷ ws) refl h)
-step_outputs ws (a ∷ []) h = absurd cc
-step_outputs ws (a ∷ b ∷ []) h = absurd cc
 step_outputs ws (a ∷ b ∷ c ∷ []) h = refl
-step_outputs ws (a ∷ b ∷ c ∷ d ∷ []) h = absurd cc
 step_outputs ws (a ∷ b ∷ c ∷ d ∷ e ∷ rest) h = absurd cc
+step_outputs ws _ h = absurd cc
 
 step_polarity : (ws : List Word) → Steps (codes "polarity" ∷ ws)
 unfolding line_faults with_line seen file_of
 step_polarity ws [] h = absurd (headless (codes "polarity" ∷ ws) refl h)
-step_polarity ws (a ∷ []) h = absurd cc
-step_polarity ws (a ∷ b ∷ []) h = absurd cc
-step_polarity ws (a ∷ b ∷ c ∷ []) h = absurd cc
 step_polarity ws (a ∷ b ∷ c ∷ d ∷ []) h = refl
 step_polarity ws (a ∷ b ∷ c ∷ d ∷ e ∷ rest) h = absurd cc
+step_polarity ws _ h = absurd cc
 
 -- ---- a line after those
 
@@ -102,38 +90,29 @@ same file p q r = cc
 step_esop : (ws : List Word) → Steps (codes "esop" ∷ ws)
 unfolding line_faults with_line seen file_of
 step_esop ws [] h = absurd (headless (codes "esop" ∷ ws) refl h)
-step_esop ws (a ∷ []) h = absurd cc
-step_esop ws (a ∷ b ∷ []) h = absurd cc
-step_esop ws (a ∷ b ∷ c ∷ []) h = absurd cc
-step_esop ws (a ∷ b ∷ c ∷ d ∷ []) h = absurd cc
 step_esop ws (a ∷ b ∷ c ∷ d ∷ e ∷ rest) h =
     let before = a ∷ b ∷ c ∷ d ∷ e ∷ rest in
     let line = codes "esop" ∷ ws in
     same (file_of before) (grown esop_said (codes "esop") before line) (grown vector_said (codes "vector") before line ∙ append-nil _) (grown idle_said (codes "unchanged") before line ∙ append-nil _)
+step_esop ws _ h = absurd cc
 
 step_vector : (ws : List Word) → Steps (codes "vector" ∷ ws)
 unfolding line_faults with_line seen file_of
 step_vector ws [] h = absurd (headless (codes "vector" ∷ ws) refl h)
-step_vector ws (a ∷ []) h = absurd cc
-step_vector ws (a ∷ b ∷ []) h = absurd cc
-step_vector ws (a ∷ b ∷ c ∷ []) h = absurd cc
-step_vector ws (a ∷ b ∷ c ∷ d ∷ []) h = absurd cc
 step_vector ws (a ∷ b ∷ c ∷ d ∷ e ∷ rest) h =
     let before = a ∷ b ∷ c ∷ d ∷ e ∷ rest in
     let line = codes "vector" ∷ ws in
     same (file_of before) (grown esop_said (codes "esop") before line ∙ append-nil _) (grown vector_said (codes "vector") before line) (grown idle_said (codes "unchanged") before line ∙ append-nil _)
+step_vector ws _ h = absurd cc
 
 step_unchanged : (ws : List Word) → Steps (codes "unchanged" ∷ ws)
 unfolding line_faults with_line seen file_of
 step_unchanged ws [] h = absurd (headless (codes "unchanged" ∷ ws) refl h)
-step_unchanged ws (a ∷ []) h = absurd cc
-step_unchanged ws (a ∷ b ∷ []) h = absurd cc
-step_unchanged ws (a ∷ b ∷ c ∷ []) h = absurd cc
-step_unchanged ws (a ∷ b ∷ c ∷ d ∷ []) h = absurd cc
 step_unchanged ws (a ∷ b ∷ c ∷ d ∷ e ∷ rest) h =
     let before = a ∷ b ∷ c ∷ d ∷ e ∷ rest in
     let line = codes "unchanged" ∷ ws in
     same (file_of before) (grown esop_said (codes "esop") before line ∙ append-nil _) (grown vector_said (codes "vector") before line ∙ append-nil _) (grown idle_said (codes "unchanged") before line)
+step_unchanged ws _ h = absurd cc
 
 -- ---- any line
 
@@ -161,12 +140,8 @@ takes before ws old new (Err line.Memory) is h = tt
 
 -- the faults of the whole text go by the stage
 pub whole_same : (before : List (List Word)) (ended : Bool) → whole_faults (length before) ended ≡ whole_faults (stage_of before) ended
-whole_same [] ended = refl
-whole_same (a ∷ []) ended = refl
-whole_same (a ∷ b ∷ []) ended = refl
-whole_same (a ∷ b ∷ c ∷ []) ended = refl
-whole_same (a ∷ b ∷ c ∷ d ∷ []) ended = refl
 whole_same (a ∷ b ∷ c ∷ d ∷ e ∷ rest) ended = long (length (a ∷ b ∷ c ∷ d ∷ e ∷ rest)) (omega arith)
   where
     long : (k : ℕ) → 5 ≤ k → whole_faults k ended ≡ whole_faults 5 ended
     long k le = rw (ne_eqb k 0 (λ e. omega (arith, le, e)), le-ltb k 5 le) refl
+whole_same _ ended = refl
