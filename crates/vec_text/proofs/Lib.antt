@@ -1,10 +1,8 @@
 mod Examples
 pub mod Found
-pub mod Named
 pub mod Said
 pub mod Soundness
 pub mod Steps
 pub mod Written
 pub mod WrittenAgain
 pub mod WrittenLines
-pub mod WrittenWords

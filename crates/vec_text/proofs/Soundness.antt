@@ -1,21 +1,24 @@
 -- What lines without a fault say stays sound with one more, and is a valid file where they are whole.
-use Rattle.std.proofs.Common.{◌≡◌, ◌≢◌, ℕ, suc, ◌-◌, ◌<◌, ◌≤◌, Bool, true, false, not, ◌&&◌, ◌||◌, eqb, ltb, leb, cond, List, [], ◌∷◌, ◌++◌, length, map, codes, None, All, refl, sym, ap, subst, ◌∙◌, inl, inr, arith}
-use Rattle.std.specs.List.{AllByRecursion, list_all}
+use Rattle.std.proofs.Common.{◌≡◌, true, ◌&&◌, leb, List, length, ◌≢◌, ℕ, suc, ◌-◌, ◌<◌, ◌≤◌, Bool, false, not, ◌||◌, eqb, ltb, cond, [], ◌∷◌, ◌++◌, map, codes, None, All, refl, sym, ap, subst, ◌∙◌, inl, inr, arith}
+use Rattle.std.specs.List.{list_all, AllByRecursion}
+use Rattle.std.proofs.lemmas.Bool.{and_parts, leb-true, not-false, and_from, or_parts, eqb-true, eqb-false, le-leb, ltb-true, cases_Bool, false≢true}
+use Rattle.std.proofs.lemmas.List.Sums.{AllPass-from_list_all}
+use Rattle.ae_base.specs.declared.limits.TheConstants.{WRITTEN_LINES, PINS}
+use Rattle.ae_base.specs.Name.{is_name}
+use Rattle.ae_lex.specs.Heads.{Word, word, heads}
+use Rattle.vec_text.specs.Sound.{AreLabels, AreInputs, IsFrontAlone, IsSound}
+use Rattle.vec_text.specs.Words.{are_names, is_form, is_count, is_cube, is_polarity, is_vector, vector_said, esop_said, is_numbered, is_placed, place_said, is_tree, tree_at, shown_said, step_said, idle_said}
 use Rattle.std.specs.Str.{bytes_eq}
-use Rattle.std.proofs.lemmas.Bool.{not-false, and_from, and_parts, or_parts, eqb-true, eqb-false, leb-true, le-leb, ltb-true, cases_Bool, false≢true}
 use Rattle.std.proofs.lemmas.List.{length-map}
 use Rattle.std.proofs.lemmas.List.Elements.{All-nil, All-append, All-push}
-use Rattle.ae_base.specs.declared.limits.TheConstants.{PINS}
 use Rattle.ae_base.specs.Digits.{value, is_number, is_bit, is_literal, are_bits, ones}
 use Rattle.ae_base.specs.Form.{features_of}
-use Rattle.ae_base.specs.Name.{is_name}
 use Rattle.ae_base.specs.Terms.{IsPoint}
 use Rattle.ae_base.specs.Twins.{has_twins, share}
 use Rattle.ae_base.proofs.Apart.{distinct_of, distinct_append}
 use Rattle.ae_base.proofs.Heads.{by_heads}
 use Rattle.ae_base.proofs.ReadBack.{bits_point, cube_over, places_within}
 use Rattle.ae_lex.specs.First.{first_of}
-use Rattle.ae_lex.specs.Heads.{Word, word, heads}
 use Rattle.vec_text.specs.declared.fault.VecFault.TheVariants.{OutOfOrder, BadForm, BadNames, NameTwice, BadBits, BadNumber}
 use Rattle.vec_text.specs.declared.file.Vector.{Vector}
 use Rattle.vec_text.specs.declared.file.EsopLine.{EsopLine}
@@ -23,12 +26,16 @@ use Rattle.vec_text.specs.declared.file.Idle.{Idle}
 use Rattle.vec_text.specs.declared.file.PlaceName.TheVariants.{Stem, Port}
 use Rattle.vec_text.specs.declared.file.Shown.TheVariants.{Tree, Wide}
 use Rattle.vec_text.specs.VectorFile.{VectorFile, IsValidVectorFile, IsCubeOf, IsIdle, is_place, is_shown}
-use Rattle.vec_text.specs.Words.{is_form, are_names, is_count, is_cube, is_polarity, is_vector, vector_said, esop_said, is_numbered, is_placed, place_said, is_tree, tree_at, shown_said, step_said, idle_said}
 use Rattle.vec_text.specs.Says.{line_faults, file_of}
 use Rattle.vec_text.specs.Seen.{Seen, seen, faults_in, with_line, idle_faults}
-use Rattle.vec_text.specs.Sound.{AreInputs, IsFrontAlone, IsSound}
 use Rattle.vec_text.proofs.Found.{none_first}
-use Rattle.vec_text.proofs.Named.{labels}
+
+pub labels : (names : List Word) → are_names names ≡ true → (list_all is_name names ≡ true) × AreLabels names
+unfolding are_names
+labels names h =
+    let outer = and_parts (leb 1 (length names) && leb (length names) WRITTEN_LINES) (list_all is_name names) h in
+    let counted = and_parts (leb 1 (length names)) (leb (length names) WRITTEN_LINES) outer.0 in
+    (outer.1, record { named = AllPass-from_list_all is_name names outer.1; some = leb-true _ _ counted.0; few = leb-true _ _ counted.1 })
 
 -- what a condition that does not hold tells of the stage
 at_stage : (k j : ℕ) → not (eqb k j) ≡ false → k ≡ j

@@ -35,8 +35,7 @@ use Rattle.vec_text.specs.Says.{line_faults, file_of, faults, vec_says}
 use Rattle.vec_text.specs.Seen.{Seen, seen, faults_in, with_line}
 use Rattle.vec_text.proofs.Said.{Reads, read_of, read_more, read_says}
 use Rattle.vec_text.proofs.Steps.{faults_same, seen_push}
-use Rattle.vec_text.proofs.WrittenWords.{form_is, form_back, names_are, cube_is, count_is}
-use Rattle.vec_text.proofs.WrittenLines.{idle_back, file_plain, some_inputs}
+use Rattle.vec_text.proofs.WrittenLines.{form_is, form_back, names_are, cube_is, count_is, idle_back, file_plain, some_inputs}
 
 -- ---- written lines, from the front
 
@@ -118,49 +117,49 @@ listed_all has P xs none h = recursion_from_All (IsListed has P) xs (λ k d lt. 
     there true xs none k lt = refl
     there false xs none k lt = absurd (omega (arith, ap length (none refl)))
 
-goes_esop : (file w : VectorFile) (before es : List EsopLine) (lines : List (List Word)) → length w.outputs ≤ WRITTEN_LINES → AllByRecursion (IsListed (features_of w.form).cubes (IsCubeOf (length w.inputs) (length w.outputs))) es
-    → Goes file (with w (before ++ es) [] []) lines → Goes file (with w before [] []) (map (esop_line (length w.inputs)) es ++ lines)
+-- the lines of a list, each of which adds its element to what is seen
+goes_list : {A : Type 0} (file : VectorFile) (to : List A → Seen) (line : A → List Word) (P : A → Type 0)
+    → ((before : List A) (x : A) → P x → (is_end (line x) ≡ false) × (first_of (faults_in (to before) (line x)) ≡ None) × (with_line (to before) (line x) ≡ to (before ++ x ∷ [])))
+    → (before xs : List A) (lines : List (List Word)) → AllByRecursion P xs → Goes file (to (before ++ xs)) lines → Goes file (to before) (map line xs ++ lines)
+goes_list file to line P step before [] lines h rest = subst (λ ys. Goes file (to ys) lines) (append-nil before) rest
+goes_list file to line P step before (x ∷ xs) lines (h, hs) rest =
+    let s = step before x h in
+    goes_line file (to before) (to (before ++ x ∷ [])) (line x) (map line xs ++ lines) s.0 s.1 s.2
+    (goes_list file to line P step (before ++ x ∷ []) xs lines hs (subst (λ ys. Goes file (to ys) lines) (sym (append_assoc before (x ∷ []) xs)) rest))
+
+goes_esop : (file w : VectorFile) (es : List EsopLine) (lines : List (List Word)) → length w.outputs ≤ WRITTEN_LINES → AllByRecursion (IsListed (features_of w.form).cubes (IsCubeOf (length w.inputs) (length w.outputs))) es
+    → Goes file (with w es [] []) lines → Goes file (with w [] [] []) (map (esop_line (length w.inputs)) es ++ lines)
 unfolding line_faults with_line
-goes_esop file w before [] lines few h rest = subst (λ (es : List EsopLine). Goes file (with w es [] []) lines) (append-nil before) rest
-goes_esop file w before (e ∷ es) lines few h rest =
-    let more : before ++ (e ∷ es) ≡ (before ++ e ∷ []) ++ es = sym (append_assoc before (e ∷ []) es) in
+goes_esop file w es lines few =
     let n = length w.inputs in
     let m = length w.outputs in
-    let count : is_count m (decimal (e.output + 1)) ≡ true = count_is m (e.output + 1) (omega arith) (omega (arith, h.0.is.output)) (omega (arith, few)) in
-    let output : value (decimal (e.output + 1)) - 1 ≡ e.output = omega (arith, value_back (e.output + 1) (omega (arith, h.0.is.output, few))) in
-    let said : esop_said (decimal (e.output + 1) ∷ cube_text n e.cube ∷ []) ≡ e = ap₂ (λ k c. let made : EsopLine = record { output = k; cube = c } in made) output (cube_back n e.cube h.0.is.cube) in
-    goes_line file (with w before [] []) (with w (before ++ e ∷ []) [] []) (esop_line n e) (map (esop_line n) es ++ lines) refl
-    (rw (h.0.listed, count, cube_is n e.cube) refl) (ap (λ (x : EsopLine). with w (before ++ x ∷ []) [] []) said)
-    (goes_esop file w (before ++ e ∷ []) es lines few h.1 (subst (λ (es : List EsopLine). Goes file (with w es [] []) lines) more rest))
+    goes_list file (λ es. with w es [] []) (esop_line n) (IsListed (features_of w.form).cubes (IsCubeOf n m)) (λ before e h.
+    let count : is_count m (decimal (e.output + 1)) ≡ true = count_is m (e.output + 1) (omega arith) (omega (arith, h.is.output)) (omega (arith, few)) in
+    let output : value (decimal (e.output + 1)) - 1 ≡ e.output = omega (arith, value_back (e.output + 1) (omega (arith, h.is.output, few))) in
+    let said : esop_said (decimal (e.output + 1) ∷ cube_text n e.cube ∷ []) ≡ e = ap₂ (λ k c. let made : EsopLine = record { output = k; cube = c } in made) output (cube_back n e.cube h.is.cube) in
+    (refl, rw (h.listed, count, cube_is n e.cube) refl, ap (λ (x : EsopLine). with w (before ++ x ∷ []) [] []) said)) [] es lines
 
 -- a vector over n inputs, and its response over m outputs
 record IsVectorOf (n m : ℕ) (v : Vector) : Type 0 where
   point : IsPoint n v.point
   outs : IsPoint m v.outs
 
-goes_vectors : (file w : VectorFile) (es : List EsopLine) (before vs : List Vector) (lines : List (List Word)) → AllByRecursion (IsVectorOf (length w.inputs) (length w.outputs)) vs
-    → Goes file (with w es (before ++ vs) []) lines → Goes file (with w es before []) (map (vector_line (length w.inputs) (length w.outputs)) vs ++ lines)
+goes_vectors : (file w : VectorFile) (es : List EsopLine) (vs : List Vector) (lines : List (List Word)) → AllByRecursion (IsVectorOf (length w.inputs) (length w.outputs)) vs
+    → Goes file (with w es vs []) lines → Goes file (with w es [] []) (map (vector_line (length w.inputs) (length w.outputs)) vs ++ lines)
 unfolding line_faults with_line
-goes_vectors file w es before [] lines h rest = subst (λ (vs : List Vector). Goes file (with w es vs []) lines) (append-nil before) rest
-goes_vectors file w es before (v ∷ vs) lines h rest =
+goes_vectors file w es vs lines =
     let n = length w.inputs in
     let m = length w.outputs in
-    let more : before ++ (v ∷ vs) ≡ (before ++ v ∷ []) ++ vs = sym (append_assoc before (v ∷ []) vs) in
-    let said : vector_said (bits_of n v.point ∷ bits_of m v.outs ∷ []) ≡ v = ap₂ (λ s t. let made : Vector = record { point = s; outs = t } in made) (bits_back n v.point h.0.point) (bits_back m v.outs h.0.outs) in
-    goes_line file (with w es before []) (with w es (before ++ v ∷ []) []) (vector_line n m v) (map (vector_line n m) vs ++ lines) refl
-    (rw (bits_are n v.point, bits_are m v.outs) refl) (ap (λ (x : Vector). with w es (before ++ x ∷ []) []) said)
-    (goes_vectors file w es (before ++ v ∷ []) vs lines h.1 (subst (λ (vs : List Vector). Goes file (with w es vs []) lines) more rest))
+    goes_list file (λ vs. with w es vs []) (vector_line n m) (IsVectorOf n m) (λ before v h.
+    let said : vector_said (bits_of n v.point ∷ bits_of m v.outs ∷ []) ≡ v = ap₂ (λ s t. let made : Vector = record { point = s; outs = t } in made) (bits_back n v.point h.point) (bits_back m v.outs h.outs) in
+    (refl, rw (bits_are n v.point, bits_are m v.outs) refl, ap (λ (x : Vector). with w es (before ++ x ∷ []) []) said)) [] vs lines
 
-goes_unchanged : (file w : VectorFile) (es : List EsopLine) (vs : List Vector) (before us : List Idle) (lines : List (List Word)) → AllByRecursion (IsListed (features_of w.form).undetectable IsIdle) us
-    → Goes file (with w es vs (before ++ us)) lines → Goes file (with w es vs before) (map unchanged_line us ++ lines)
+goes_unchanged : (file w : VectorFile) (es : List EsopLine) (vs : List Vector) (us : List Idle) (lines : List (List Word)) → AllByRecursion (IsListed (features_of w.form).undetectable IsIdle) us
+    → Goes file (with w es vs us) lines → Goes file (with w es vs []) (map unchanged_line us ++ lines)
 unfolding line_faults with_line
-goes_unchanged file w es vs before [] lines h rest = subst (λ (us : List Idle). Goes file (with w es vs us) lines) (append-nil before) rest
-goes_unchanged file w es vs before (u ∷ us) lines h rest =
-    let more : before ++ (u ∷ us) ≡ (before ++ u ∷ []) ++ us = sym (append_assoc before (u ∷ []) us) in
-    let said = idle_back u h.0.is in
-    goes_line file (with w es vs before) (with w es vs (before ++ u ∷ [])) (unchanged_line u) (map unchanged_line us ++ lines) refl
-    (rw (h.0.listed, said.placed, said.numbered, said.tree) refl) (ap (λ (x : Idle). with w es vs (before ++ x ∷ [])) said.back)
-    (goes_unchanged file w es vs (before ++ u ∷ []) us lines h.1 (subst (λ (us : List Idle). Goes file (with w es vs us) lines) more rest))
+goes_unchanged file w es vs us lines = goes_list file (with w es vs) unchanged_line (IsListed (features_of w.form).undetectable IsIdle) (λ before u h.
+    let said = idle_back u h.is in
+    (refl, rw (h.listed, said.placed, said.numbered, said.tree) refl, ap (λ (x : Idle). with w es vs (before ++ x ∷ [])) said.back)) [] us lines
 
 -- ---- all lines
 
@@ -173,8 +172,8 @@ goes_body file v =
     let cubes = listed_all (features_of file.form).cubes (IsCubeOf (length file.inputs) (length file.outputs)) file.esop v.no_cubes v.esop in
     let idle = listed_all (features_of file.form).undetectable IsIdle file.unchanged v.none_listed v.unchanged in
     let vectors = recursion_from_All (IsVectorOf (length file.inputs) (length file.outputs)) file.vectors (λ k d lt. record { point = v.points k d lt; outs = v.responses k d lt }) in
-    goes_esop file file [] file.esop (vector_lines file ++ (unchanged_lines file ++ end_lines)) v.few_outputs cubes
-    (goes_vectors file file file.esop [] file.vectors (unchanged_lines file ++ end_lines) vectors (goes_unchanged file file file.esop file.vectors [] file.unchanged end_lines idle (goes_end file)))
+    goes_esop file file file.esop (vector_lines file ++ (unchanged_lines file ++ end_lines)) v.few_outputs cubes
+    (goes_vectors file file file.esop file.vectors (unchanged_lines file ++ end_lines) vectors (goes_unchanged file file file.esop file.vectors file.unchanged end_lines idle (goes_end file)))
 
 -- with a control there are two inputs
 not_alone : (control : Bool) (k n : ℕ) → 0 < n → k ≡ cond control (suc n) n → (control && eqb k 1) ≡ false
