@@ -2,7 +2,6 @@ pub mod Places
 pub mod Canonical
 pub mod Growing
 pub mod Splits
-pub mod Once
 pub mod Terms
 pub mod Point
 pub mod Walks

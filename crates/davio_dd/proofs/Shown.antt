@@ -15,8 +15,7 @@ use Rattle.davio_dd.specs.Diagram.{place_value, place_terms, IsDiagram, IsPlace,
 use Rattle.davio_dd.proofs.Places.{value-zero, value-one}
 use Rattle.davio_dd.proofs.Canonical.{same_place}
 use Rattle.davio_dd.proofs.Growing.{Moved, place-moved, value-moved, terms-grows}
-use Rattle.davio_dd.proofs.Terms.{terms-once, value-in_order, place-expansion}
-use Rattle.davio_dd.proofs.Once.{in_order-permutation}
+use Rattle.davio_dd.proofs.Terms.{terms-once, value-in_order, place-expansion, in_order-permutation}
 
 -- ---- places and functions
 

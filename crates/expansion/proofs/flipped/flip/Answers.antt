@@ -2,7 +2,7 @@ use Rattle.std.proofs.Common.{◌≡◌, ◌∙◌, ◌+◌, ◌++◌, ◌∷◌
 use Rattle.std.specs.List.{AllZip}
 use Rattle.std.proofs.lemmas.List.Elements.{all_zip_more}
 use Rattle.expansion.specs.Flipped.{flipped_polarity}
-use Rattle.expansion.proofs.FlippedLists.{IsFlip, all_flips, flipped_keeps, flipped_terms}
+use Rattle.expansion.proofs.Flips.{IsFlip, all_flips, flipped_keeps, flipped_terms}
 use Rattle.expansion.proofs.flipped.flip.Goals as goal
 
 pub loop-terms-preserved : goal.loop-terms-preserved

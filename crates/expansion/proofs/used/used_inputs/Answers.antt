@@ -3,7 +3,7 @@ use Rattle.std.specs.List.{list_any}
 use Rattle.std.proofs.lemmas.List.Folds.{list_any_more}
 use Rattle.ae_base.specs.Mask.{has}
 use Rattle.ae_base.proofs.Sets.{has-empty}
-use Rattle.expansion.proofs.Union.{all_used}
+use Rattle.expansion.proofs.UsedInputs.{all_used}
 use Rattle.expansion.proofs.used.used_inputs.Goals as goal
 
 pub loop-terms-init : goal.loop-terms-init

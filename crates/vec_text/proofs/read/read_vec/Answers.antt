@@ -7,8 +7,7 @@ use Rattle.ae_lex.specs.declared.text.Style.TheVariants.{Pla}
 use Rattle.vec_text.specs.Sound.{IsSound}
 use Rattle.vec_text.specs.VectorFile.{VectorFile}
 use Rattle.vec_text.specs.declared.fault.VecFault.{VecFault}
-use Rattle.vec_text.proofs.Said.{read_of, fault_says, text_says, sound_lines, whole_valid}
-use Rattle.vec_text.proofs.Soundness.{sound_none}
+use Rattle.vec_text.proofs.Said.{read_of, fault_says, text_says, sound_lines, whole_valid, sound_none}
 use Rattle.vec_text.proofs.read.read_vec.Goals as goal
 
 pub returns-in_err-end : goal.returns-in_err-end

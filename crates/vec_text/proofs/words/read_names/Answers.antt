@@ -1,6 +1,6 @@
 use Rattle.std.proofs.Common.{length, ap, sym, ◌∙◌, arith}
 use Rattle.ae_lex.specs.Slices.{texts}
-use Rattle.vec_text.proofs.Soundness.{labels}
+use Rattle.vec_text.proofs.Said.{labels}
 use Rattle.vec_text.proofs.words.read_names.Goals as goal
 
 pub names_of-requires : goal.names_of-requires
