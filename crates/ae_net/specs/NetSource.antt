@@ -1,5 +1,5 @@
 -- Networks with don't cares: what a network and the functions of its external don't cares specify.
-use Rattle.std.specs.Prelude.{◌≡◌, ℕ, Bool, false, if◌then◌else◌, Option, Some, None, List}
+use Rattle.std.specs.Prelude.{◌≡◌, ℕ, Bool, false, if◌then◌else◌, Option, Some, None}
 use Rattle.ae_base.specs.Mask.{Set, has}
 use Rattle.ae_base.specs.Source.{Source}
 use Rattle.ae_base.specs.Source.Specified.{Free}
@@ -22,7 +22,7 @@ is_free (Some free) o x = has (out free None x) o
 -- an output is specified Free where it is free, else as the network has it
 abbrev pub specified_by : NetSource → Source
 specified_by s = let own = source_of s.net in
-  record { model = own.model; inputs = own.inputs; outputs = own.outputs; specified = λ o x. if is_free s.free o x then Free else own.specified o x }
+    record { model = own.model; inputs = own.inputs; outputs = own.outputs; specified = λ o x. if is_free s.free o x then Free else own.specified o x }
 
 -- The network of the don't cares is valid too, and has the names of the network.
 pub record FreesOutputs (net free : Network) : Type 0 where

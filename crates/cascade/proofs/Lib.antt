@@ -1,12 +1,5 @@
-pub mod Values
 pub mod Law
-pub mod NamesApart
-pub mod GatesValid
 pub mod Valid
-pub mod Ports
 pub mod Ordered
 pub mod CodeLemmas
-pub mod CodeBounds
 pub mod VectorLemmas
-pub mod Shown
-pub mod Found

@@ -1,8 +1,8 @@
 -- The first vectors, as sets are put together.
-use Rattle.std.proofs.Common.{◌≡◌, ℕ, Bool, true, false, not, ◌&&◌, cond, List, [], ◌∷◌, refl, sym, ap, ap₂, ◌∙◌, ltb, arith}
+use Rattle.std.proofs.Common.{◌≡◌, ℕ, Bool, true, false, not, ◌&&◌, cond, List, [], ◌∷◌, refl, sym, ap, ◌∙◌, ltb, arith}
 use Rattle.std.proofs.lemmas.Bool.{le-ltb, lt-ltb}
 use Rattle.ae_base.specs.Cube.{Signs}
-use Rattle.ae_base.specs.Mask.{members, Set, differ, has, both, xor}
+use Rattle.ae_base.specs.Mask.{members, Set, has, both, xor}
 use Rattle.ae_base.specs.Lists.{without_repeats}
 use Rattle.ae_base.proofs.Members.{members-filter}
 use Rattle.ae_base.proofs.Sets.{inside-from, same_set, has-both, has-xor, has-where_below}
@@ -18,49 +18,21 @@ has-literals_at p used v k = has-where_below p.n (λ j. has used j && cond (has 
 
 pub all_high : (e : Terms) → both (used_inputs e) e.polarity.plain ≡ literals_at e.polarity (used_inputs e) true
 unfolding used_inputs
-all_high e =
-    same_set _ _ (λ k.
-    has-both (used_inputs e) e.polarity.plain k
-    ∙ ap (λ b. b && has e.polarity.plain k) (has-where_below e.polarity.n (is_used e) k)
-    ∙ by (ltb k e.polarity.n) (is_used e k) (has e.polarity.plain k)
-    ∙ sym (has-literals_at e.polarity (used_inputs e) true k ∙ ap (λ b. ltb k e.polarity.n && (b && cond (has e.polarity.plain k) true false)) (has-where_below e.polarity.n (is_used e) k)))
-  where
-    by : (below used plain : Bool) → ((below && used) && plain) ≡ (below && ((below && used) && cond plain true false))
-    by true true true = refl
-    by true true false = refl
-    by true false plain = refl
-    by false used plain = refl
+all_high e = same_set _ _ (λ k. simp (has-both, has-literals_at, has-where_below) (grind arith))
 
 pub all_low : (e : Terms) → xor (used_inputs e) (literals_at e.polarity (used_inputs e) true) ≡ literals_at e.polarity (used_inputs e) false
 unfolding used_inputs
-all_low e =
-    same_set _ _ (λ k.
-    has-xor (used_inputs e) (literals_at e.polarity (used_inputs e) true) k
-    ∙ ap₂ differ (has-where_below e.polarity.n (is_used e) k) (has-literals_at e.polarity (used_inputs e) true k ∙ ap (λ b. ltb k e.polarity.n && (b && cond (has e.polarity.plain k) true false)) (has-where_below e.polarity.n (is_used e) k))
-    ∙ by (ltb k e.polarity.n) (is_used e k) (has e.polarity.plain k)
-    ∙ sym (has-literals_at e.polarity (used_inputs e) false k ∙ ap (λ b. ltb k e.polarity.n && (b && cond (has e.polarity.plain k) false true)) (has-where_below e.polarity.n (is_used e) k)))
-  where
-    by : (below used plain : Bool) → differ (below && used) (below && ((below && used) && cond plain true false)) ≡ (below && ((below && used) && cond plain false true))
-    by true true true = refl
-    by true true false = refl
-    by true false plain = refl
-    by false used plain = refl
+all_low e = same_set _ _ (λ k. simp (has-xor, has-literals_at, has-where_below) (grind arith))
 
 -- the inputs whose literals are complemented are 1 where all literals are 0
 pub turned_members : (e : Terms) → members (literals_at e.polarity (used_inputs e) false) ≡ turned e
 unfolding turned used_inputs
 turned_members e =
+    let low : Set = literals_at e.polarity (used_inputs e) false in
     members-filter e.polarity.n low (inside-from e.polarity.n low (λ k l. has-literals_at e.polarity (used_inputs e) false k ∙ rw (le-ltb k e.polarity.n l) refl))
     ∙ filter_range_agree (has low) (λ j. is_used e j && not (has e.polarity.plain j)) 0 e.polarity.n (λ j l.
-    has-literals_at e.polarity (used_inputs e) false j
-    ∙ rw (has-where_below e.polarity.n (is_used e) j, lt-ltb j e.polarity.n (omega (arith, l))) (by (is_used e j) (has e.polarity.plain j)))
-  where
-    low : Set
-    low = literals_at e.polarity (used_inputs e) false
-
-    by : (used plain : Bool) → (used && cond plain false true) ≡ (used && not plain)
-    by used true = refl
-    by used false = refl
+    let below : ltb j e.polarity.n ≡ true = lt-ltb j e.polarity.n (omega (arith, l)) in
+    simp (has-literals_at, has-where_below, below) (grind arith))
 
 -- ---- the first four
 

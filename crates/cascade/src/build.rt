@@ -64,6 +64,7 @@ fn and_place(turned: &[u32], outs: &[Seq<Term>]) -> u32
 }
 
 /// What is worked out before the gates are made.
+#[tactic(auto, using(crate::proofs::Valid::few_turned))]
 fn plan<'a>(alloc: Global, lead: u32, e: &'a Expansion) -> Result<Plan<'a>, Memory>
     requires short { lead ≤ SOURCE_NAME_BYTES + 1 }
     requires cheap { cost e.now ≤ REDDY_TERMS }

@@ -25,7 +25,7 @@ pub struct Plan<'a> {
 }
 
 /// The place of a number in a list, or the list's length.
-#[tactic(auto, using(crate::proofs::CodeLemmas::place_found, crate::proofs::CodeLemmas::place_on))]
+#[tactic(auto, using(crate::proofs::Law::place_first, crate::proofs::Ordered::place_past))]
 fn place_of(list: &[u32], x: u32) -> usize
     ensures place { result ≡ spec.place_of list.now x }
     ensures within { result ≤ length list.now }

@@ -145,9 +145,10 @@ same_parts : (p : Signs) (nodes : List Node) → IsDiagram p.n nodes → (a b i 
     → AreSame p nodes a b → AreSame p nodes al bl × AreSame p nodes ah bh
 same_parts p nodes is a b i al ah bl bh pa pb below l r same =
     let at = λ (v : Bool) (x : Set) (point : IsPoint p.n x). same (put i v x) (inside-put p.n i v x point below) in
-    let s = has p.plain i in
-    (λ x point. sym (part-low p nodes is a i al ah pa l x) ∙ at (not s) x point ∙ part-low p nodes is b i bl bh pb r x,
-    λ x point. sym (part-high p nodes is a i al ah pa l x) ∙ ap₂ differ (at (not s) x point) (at s x point) ∙ part-high p nodes is b i bl bh pb r x)
+    let s = has p.plain i in (
+      λ x point. sym (part-low p nodes is a i al ah pa l x) ∙ at (not s) x point ∙ part-low p nodes is b i bl bh pb r x,
+      λ x point. sym (part-high p nodes is a i al ah pa l x) ∙ ap₂ differ (at (not s) x point) (at s x point) ∙ part-high p nodes is b i bl bh pb r x,
+    )
 
 -- a node is no place that tests later inputs alone
 node_differs : (p : Signs) (nodes : List Node) → IsDiagram p.n nodes → (a b : ℕ) (c : IsNodeAt nodes a) → Below p nodes (a + b) → IsPlace nodes a → IsPlace nodes b → c.node.input < top p.n nodes b → AreSame p nodes a b → ⊥

@@ -1,41 +1,335 @@
--- The gates of the factored network are gates: their pins are earlier signals, and they have few pins.
-use Rattle.std.proofs.Common.{◌≡◌, ◌≢◌, ℕ, suc, ◌+◌, ◌-◌, ◌<◌, ◌≤◌, ◌^◌, Bool, true, false, cond, inl, inr, List, [], ◌∷◌, ◌++◌, length, refl, sym, ap, ◌∙◌, subst, arith, eqb, eq-eqb, ne_eqb, length-append}
-use Rattle.std.specs.Prelude.{slice_index}
-use Rattle.std.specs.List.{list_any, AllByRecursion, position_or_len}
+-- The literals of the sums have signals, and their products have no input twice.
+use Rattle.std.proofs.Common.{◌≡◌, ◌≢◌, ℕ, ◌<◌, Bool, true, false, inl, inr, List, [], ◌∷◌, refl, sym, ap, ◌∙◌, arith, eqb, zero, suc, ◌+◌, ◌*◌, ◌-◌, ◌≤◌, ◌^◌, cond, ◌++◌, length, map, get_or, drop, ap₂, subst, eq-eqb, ne_eqb, length-append, length-drop, drop-cons, append_assoc, append-nil}
+use Rattle.std.specs.Prelude.{All, codes, filter, sum, slice_index}
+use Rattle.std.specs.List.{list_any, AllByRecursion, range_with_len, position_or_len}
+use Rattle.std.proofs.lemmas.Bool.{cases_Bool, false≢true, or_cases, or_left, or_right, cases_eq, lt-ltb}
+use Rattle.std.proofs.lemmas.List.Elements.{recursion_from_All, All-from_recursion}
+use Rattle.ae_base.specs.Mask.{has, either, first, inside, members}
+use Rattle.ae_base.specs.Cube.{Product, IsOver, IsProduct, whole}
+use Rattle.ae_base.proofs.Elements.{any_kept, any_range, range_below, each_member}
+use Rattle.esop.specs.Esop.{Cubes}
+use Rattle.factor.specs.declared.parts.Wires.{Wires}
+use Rattle.factor.specs.declared.literals.Literal.{Literal}
+use Rattle.factor.specs.Factored.{is_turned, wires, AreSums, inverters, named, output_gates, ends}
+use Rattle.factor.specs.Literals.{stands, is_empty, with_literal, holding, others}
+use Rattle.factor.specs.Seen.{EachLiteral, IsWithin}
+use Rattle.factor.specs.Sums.{Summands, IsSum, plain_sum, joined, has_constant, nodes}
+use Rattle.factor.specs.Sums.Summands.{end, literals, factored}
+use Rattle.factor.specs.Sums.IsSum.{flat, taken}
+use Rattle.factor.proofs.Taken.{some_stands, joined_by, lit, stands-with, stands-one, same_is, each_literal, kept}
+use Rattle.factor.proofs.Meaning.{over_held, over_others, each_avoids, none_stands, each_product, stands_below}
 use Rattle.std.specs.Fmt.{decimal}
-use Rattle.std.proofs.lemmas.Bool.{cases_Bool, cases_eq, false≢true, or_cases}
-use Rattle.std.proofs.lemmas.List.Elements.{All-from_recursion}
+use Rattle.std.proofs.lemmas.List.{length-map, map-append}
+use Rattle.std.proofs.lemmas.List.Sums.{sum_by-cons}
 use Rattle.ae_base.specs.declared.limits.TheConstants.{SOURCE_LINES, PINS, SOURCE_NAME_BYTES}
-use Rattle.ae_base.specs.Cube.{Product}
-use Rattle.ae_base.specs.Mask.{has, either, members}
-use Rattle.ae_base.specs.Name.{is_name}
-use Rattle.ae_base.proofs.Distinct.{Distinct, each_weaker, each-append, each-map}
-use Rattle.ae_base.proofs.Elements.{each_member}
-use Rattle.ae_base.proofs.Members.{members-has}
-use Rattle.ae_base.proofs.Sets.{has-either}
-use Rattle.ae_base.proofs.EachAt.{EachAt, EachAt-join}
+use Rattle.ae_base.proofs.Distinct.{each-append, each_weaker, AllPairs-from_Distinct, Distinct-filter, Distinct-range, Distinct, each-map}
+use Rattle.ae_base.proofs.Members.{length-members, members-has}
+use Rattle.ae_base.proofs.Sets.{has-inside, has-either, has-first}
+use Rattle.ae_net.specs.declared.net.Gate.{Gate}
+use Rattle.ae_net.specs.GateNames.{Group, names_in, numbered, names_to_outputs, AreGateNames, NamesDiffer}
 use Rattle.ae_net.specs.Lead.{IsLetter}
 use Rattle.ae_net.specs.Names.{inner}
-use Rattle.ae_net.specs.Valid.{IsGate}
-use Rattle.ae_net.proofs.GatesValid.{IsGate-cell, IsGate-inverter}
-use Rattle.ae_net.proofs.InnerAreNames.{numbered_is_name}
+use Rattle.ae_net.specs.Valid.{IsDistinct, IsGate}
 use Rattle.ae_net.specs.declared.gates.Cell.{Cell}
 use Rattle.ae_net.specs.declared.gates.Cell.TheVariants.{Inverter, And}
 use Rattle.factor.specs.declared.parts.Factor.{Factor}
-use Rattle.factor.specs.declared.parts.Wires.{Wires}
-use Rattle.factor.specs.declared.literals.Literal.{Literal}
 use Rattle.ae_net.specs.Gates.{pins_of, gate_of}
-use Rattle.factor.specs.Cells.{Part, Parts, before, literal_signal, literal_signals, product_of, are_excluded, join, joins, last_of, chain_of, closing, turned_by, parts, sum_part, output_cells}
-use Rattle.factor.specs.Factored.{inverters, named, output_gates, ends}
-use Rattle.factor.specs.Literals.{stands}
+use Rattle.factor.specs.Cells.{Part, literal_signal, literal_signals, product_of, are_excluded, join, joins, chain_of, closing, turned_by, parts, sum_part, output_cells, Parts, before, last_of}
 use Rattle.factor.specs.Plan.{most_gates}
-use Rattle.factor.specs.Seen.{EachLiteral, IsWithin}
-use Rattle.factor.specs.Sums.{Summands, has_constant}
-use Rattle.factor.specs.Sums.Summands.{end, literals, factored}
-use Rattle.factor.proofs.Naming.{FewPins, output_few, length-named}
-use Rattle.factor.proofs.Sizes.{literals_part, factored_part, parts-end, parts-literals, parts-factored, sum_part-is, closing_some, length-joins, output_bound, output_some}
-use Rattle.factor.proofs.Standing.{lit}
-use Rattle.factor.proofs.Wired.{Wired, Ready}
+use Rattle.factor.proofs.Sizes.{literals_part, factored_part, parts-literals, parts-factored, parts-end, sum_part-is, closing_some, output_bound, output_some, length-joins}
+use Rattle.ae_base.specs.Name.{is_name}
+use Rattle.ae_base.proofs.EachAt.{EachAt, EachAt-join}
+use Rattle.ae_net.proofs.GatesValid.{IsGate-cell, IsGate-inverter}
+use Rattle.ae_net.proofs.InnerAreNames.{numbered_is_name}
+
+-- ---- products
+
+-- it holds of the direct factors of each summand of the sum and of its inner sums
+abbrev pub EachFactor : (Product → Type 0) → Summands → Type 0
+EachFactor P (end b) = Unit {0}
+EachFactor P (literals ls rest) = P ls × EachFactor P rest
+EachFactor P (factored ls inner rest) = P ls × EachFactor P inner × EachFactor P rest
+
+is_product_with : (t : Literal) (c : Product) → IsProduct c → ((u : Literal) → stands u c ≡ true → u.input ≢ t.input) → IsProduct (with_literal t c)
+is_product_with t c product free j m = elim (cases_Bool (stands (lit j false) (with_literal t c))) [
+  | inl k ↦ elim (or_cases _ _ (sym (stands-with (lit j true) t c) ∙ m)) [
+    | inl a ↦ elim (or_cases _ _ (sym (stands-with (lit j false) t c) ∙ k)) [
+      | inl b ↦ absurd (false≢true (ap (λ (u : Literal). u.plain) (same_is (lit j false) t b ∙ sym (same_is (lit j true) t a))))
+      | inr b ↦ absurd (free (lit j false) b (ap (λ (u : Literal). u.input) (same_is (lit j true) t a)))
+    ]
+    | inr a ↦ elim (or_cases _ _ (sym (stands-with (lit j false) t c) ∙ k)) [
+      | inl b ↦ absurd (free (lit j true) a (ap (λ (u : Literal). u.input) (same_is (lit j false) t b)))
+      | inr b ↦ absurd (false≢true (sym (product j a) ∙ b))
+    ]
+  ]
+  | inr k ↦ k
+]
+
+product_one : (t : Literal) → IsProduct (with_literal t whole)
+product_one t j m = elim (cases_Bool (stands (lit j false) (with_literal t whole))) [
+  | inl k ↦ absurd (false≢true (ap (λ (u : Literal). u.plain) (stands-one (lit j false) t k ∙ sym (stands-one (lit j true) t m))))
+  | inr k ↦ k
+]
+
+plain_products : (cs : List Product) (b : Bool) → AllByRecursion IsProduct cs → EachFactor IsProduct (plain_sum (kept cs) b)
+plain_products [] b h = tt
+plain_products (c ∷ cs) b (h, hs) = elim (cases_Bool (is_empty c)) [ inl e ↦ rw e (plain_products cs b hs) | inr e ↦ rw e (h, plain_products cs b hs) ]
+
+joined_products : (t : Literal) (inner rest : Summands) → EachFactor IsProduct inner × EachLiteral (λ u. u.input ≢ t.input) inner → EachFactor IsProduct rest → EachFactor IsProduct (joined t inner rest)
+joined_products t inner rest h r =
+    joined_by (λ s. EachFactor IsProduct s × EachLiteral (λ u. u.input ≢ t.input) s) (EachFactor IsProduct) t inner rest h
+    (λ ls k. (is_product_with t ls k.0.0 k.1.0, r))
+    (λ ls deeper k. (is_product_with t ls k.0.0 k.1.0, k.0.1, r))
+    (λ k other. (product_one t, k.0, r))
+
+pub products : (n : ℕ) (cs : List Product) (s : Summands) → IsSum cs s → All (IsOver n) cs → EachFactor IsProduct s
+products n cs s (flat _ none) over = plain_products cs (list_any is_empty cs) (each_product n cs (recursion_from_All (IsOver n) cs over))
+products n cs s (taken _ t inner rest most hold other) over =
+    joined_products t inner rest (
+      products n (holding t cs) inner hold (over_held n t cs over),
+      each_literal (holding t cs) inner hold (λ u. u.input ≢ t.input) (none_stands t.input (holding t cs) (each_avoids t cs (each_product n cs (recursion_from_All (IsOver n) cs over)))),
+    )
+    (products n (others t cs) rest other (over_others n t cs over))
+
+-- ---- signals
+
+-- the literal has a signal: an input, or the inverter of one
+abbrev pub Wired : Wires → Literal → Type 0
+Wired w u = (u.input < w.inputs) × (u.plain ≡ false → list_any (λ i. eqb i u.input) w.turned ≡ true)
+
+-- what is known of the sum of an output
+pub record Ready (w : Wires) (s : Summands) : Type 0 where
+  pub products : EachFactor IsProduct s
+  pub wired : EachLiteral (Wired w) s
+
+neg_stands : (u : Literal) (cs : List Product) → u.plain ≡ false → some_stands u cs ≡ true → list_any (λ c. has c.neg u.input) cs ≡ true
+neg_stands u cs e m = ap (λ v. some_stands v cs) (sym (same e)) ∙ m
+  where
+    same : u.plain ≡ false → u ≡ lit u.input false
+    same f = rw f refl
+
+wired_literal : (e : Cubes) (cs : List Product) → All (IsOver e.n) cs → ((q : List Product → Bool) → q cs ≡ true → list_any q e.outs ≡ true) → (u : Literal) → some_stands u cs ≡ true → Wired (wires e) u
+wired_literal e cs over up u m =
+    let below : u.input < e.n = stands_below e.n u cs (recursion_from_All (IsOver e.n) cs over) m in (
+      below,
+      λ plain. any_kept (is_turned e.outs) u.input (up (λ ds. list_any (λ c. has c.neg u.input) ds) (neg_stands u cs plain m)) (range_with_len 0 e.n) (any_range 0 e.n u.input (omega arith) (omega (arith, below))),
+    )
+
+pub ready_all : (e : Cubes) (outs : List (List Product)) (sums : List Summands) → AreSums outs sums → AllByRecursion (All (IsOver e.n)) outs → ((q : List Product → Bool) → list_any q outs ≡ true → list_any q e.outs ≡ true) → AllByRecursion (Ready (wires e)) sums
+ready_all e [] [] are over up = tt
+ready_all e [] (s ∷ ss) are over up = absurd are
+ready_all e (cs ∷ css) [] are over up = absurd are
+ready_all e (cs ∷ css) (s ∷ ss) (is, are) (over, overs) up = (
+  record {
+    products = products e.n cs s is over;
+    wired = each_literal cs s is (Wired (wires e)) (wired_literal e cs over (λ q m. up q (or_left (q cs) (list_any q css) m)));
+  },
+  ready_all e css ss are overs (λ q m. up q (or_right (q cs) (list_any q css) m)),
+)
+
+pub within_all : (n : ℕ) (outs : List (List Product)) (sums : List Summands) → AreSums outs sums → AllByRecursion (All (IsOver n)) outs → AllByRecursion (IsWithin n) sums
+within_all n [] [] are over = tt
+within_all n [] (s ∷ ss) are over = absurd are
+within_all n (cs ∷ css) [] are over = absurd are
+within_all n (cs ∷ css) (s ∷ ss) (is, are) (over, overs) = (each_literal cs s is (λ u. u.input < n) (λ u m. stands_below n u cs (recursion_from_All (IsOver n) cs over) m), within_all n css ss are overs)
+
+-- ---- How the builder names gates, and that they have few pins.
+
+-- the name of a gate after which so many others stand
+abbrev pub name_of_cell : ℕ → ℕ → List ℕ → Bool → List ℕ
+name_of_cell k c out last = cond last out (inner k (codes "g" ++ decimal (suc c)))
+
+named_first : (k c : ℕ) (out : List ℕ) (x : Cell) (xs : List Cell) → named k c out (x ∷ xs) ≡ gate_of (name_of_cell k c out (eqb (length xs) 0)) x ∷ named k (suc c) out xs
+named_first k c out x [] = refl
+named_first k c out x (y ∷ ys) = rw (ne_eqb (suc (length ys)) 0 (λ e. absurd (omega (arith, e)))) refl
+
+last_same : (i n : ℕ) → i < n → eqb (n - suc i) 0 ≡ eqb (i + 1) n
+last_same i n l = elim (cases_eq (i + 1) n) [
+  | inl e ↦ eq-eqb (n - suc i) 0 (omega (arith, e)) ∙ sym (eq-eqb (i + 1) n e)
+  | inr other ↦ ne_eqb (n - suc i) 0 (λ z. other (omega (arith, l, z))) ∙ sym (ne_eqb (i + 1) n other)
+]
+
+-- one more gate is named
+pub named_more : (k c i : ℕ) (out name : List ℕ) (xs : List Cell) (x : Cell) (start now : List Gate) → i < length xs → x ≡ get_or xs i x → name ≡ name_of_cell k (c + i) out (eqb (i + 1) (length xs))
+    → start ++ named k (c + i) out (drop i xs) ≡ now → (start ++ gate_of name x ∷ []) ++ named k (c + (i + 1)) out (drop (i + 1) xs) ≡ now
+named_more k c i out name xs x start now l here name_is e =
+    let z : i + 1 ≡ suc i = omega arith in
+    let s : c + (i + 1) ≡ suc (c + i) = omega arith in
+    let len : length (drop (suc i) xs) ≡ length xs - suc i = length-drop (suc i) xs in
+    let first : named k (c + i) out (drop i xs) ≡ gate_of name x ∷ named k (suc (c + i)) out (drop (suc i) xs) =
+    ap (named k (c + i) out) (drop-cons xs i x l)
+    ∙ named_first k (c + i) out (get_or xs i x) (drop (suc i) xs)
+    ∙ ap₂ (λ (n : List ℕ) (y : Cell). gate_of n y ∷ named k (suc (c + i)) out (drop (suc i) xs)) (ap (name_of_cell k (c + i) out) (ap (λ n. eqb n 0) len ∙ last_same i (length xs) l) ∙ sym name_is) (sym here) in
+    let more : List Gate = named k (suc (c + i)) out (drop (suc i) xs) in
+    ap₂ (λ p q. (start ++ gate_of name x ∷ []) ++ named k p out (drop q xs)) s z
+    ∙ append_assoc start (gate_of name x ∷ []) more
+    ∙ ap (λ (gs : List Gate). start ++ gs) (sym first)
+    ∙ e
+
+-- ---- few pins
+
+abbrev pub FewPins : List Cell → Type 0
+FewPins cells = AllByRecursion (λ c. length (pins_of c) ≤ PINS) cells
+
+within_inside : (n : ℕ) (c : Product) → ((t : Literal) → stands t c ≡ true → t.input < n) → inside (either c.pos c.neg) (first n) ≡ true
+within_inside n c h = has-inside (either c.pos c.neg) (first n) (λ j m. has-first n j ∙ lt-ltb j n (elim (or_cases (has c.pos j) (has c.neg j) (sym (has-either c.pos c.neg j) ∙ m)) [ inl e ↦ h (lit j true) e | inr e ↦ h (lit j false) e ]))
+
+pub length-signals : (w : Wires) (n : ℕ) (c : Product) → ((t : Literal) → stands t c ≡ true → t.input < n) → length (literal_signals w c) ≤ n
+unfolding literal_signals
+length-signals w n c h = omega (arith, length-map (members (either c.pos c.neg)) (λ j. literal_signal w (has c.pos j) j), length-members n (either c.pos c.neg) (within_inside n c h))
+
+product_few : (k : ℕ) (signals : List ℕ) → length signals ≤ PINS → FewPins (product_of k signals).cells
+product_few k signals l = elim (cases_Bool (eqb (length signals) 1)) [ inl e ↦ rw e tt | inr e ↦ rw e (l, tt) ]
+
+join_few : (earlier : List Factor) (line : ℕ) (f : Factor) → length (pins_of (join earlier line f)) ≤ PINS
+join_few earlier line f = elim (cases_Bool (are_excluded earlier f.literals)) [ inl e ↦ rw e (omega arith) | inr e ↦ rw e (omega arith) ]
+
+joins_few : (k line : ℕ) (earlier fs : List Factor) → FewPins (joins k line earlier fs)
+joins_few k line earlier [] = tt
+joins_few k line earlier (f ∷ fs) = (join_few earlier line f, joins_few (suc k) k (earlier ++ f ∷ []) fs)
+
+turned_few : (constant : Bool) (k : ℕ) (part : Part) → FewPins part.cells → FewPins (turned_by constant k part).cells
+turned_few true k part h = each-append (λ c. length (pins_of c) ≤ PINS) part.cells (Inverter part.signal ∷ []) h (omega arith, tt)
+turned_few false k part h = h
+
+closing_few : (k : ℕ) (constant : Bool) (fs : List Factor) → FewPins (closing k constant fs).cells
+closing_few k true [] = (omega arith, tt)
+closing_few k false [] = (omega arith, tt)
+closing_few k constant (f ∷ fs) = rw (closing_some k constant (f ∷ fs) (omega arith)) (turned_few constant k (chain_of k (f ∷ fs)) (joins_few k f.signal (f ∷ []) fs))
+
+parts_few : (w : Wires) (n k : ℕ) (s : Summands) → n ≤ SOURCE_LINES → IsWithin n s → FewPins (parts w k s).cells
+parts_few w n k (end b) few h = rw (parts-end w k b) tt
+parts_few w n k (literals ls rest) few h =
+    rw (parts-literals w k ls rest)
+    (each-append (λ c. length (pins_of c) ≤ PINS) (literals_part w k ls).cells _ (product_few k (literal_signals w ls) (omega (arith, length-signals w n ls h.0)))
+    (parts_few w n (k + length (literals_part w k ls).cells) rest few h.1))
+parts_few w n k (factored ls inner rest) few h =
+    rw (parts-factored w k ls inner rest)
+    (each-append (λ c. length (pins_of c) ≤ PINS) (factored_part w k ls inner).cells _
+    (each-append (λ c. length (pins_of c) ≤ PINS) (sum_part w k inner).cells (And (literal_signals w ls ++ (sum_part w k inner).signal ∷ []) ∷ [])
+    (rw (sum_part-is w k inner) (each-append (λ c. length (pins_of c) ≤ PINS) (parts w k inner).cells _ (parts_few w n k inner few h.1) (closing_few _ (has_constant inner) _)))
+    (omega (arith, length-append (literal_signals w ls) ((sum_part w k inner).signal ∷ []), length-signals w n ls h.0), tt))
+    (parts_few w n (k + length (factored_part w k ls inner).cells) rest few h.2))
+
+pub sum_few : (w : Wires) (n k : ℕ) (s : Summands) → n ≤ SOURCE_LINES → IsWithin n s → FewPins (sum_part w k s).cells
+sum_few w n k s few h = rw (sum_part-is w k s) (each-append (λ c. length (pins_of c) ≤ PINS) (parts w k s).cells _ (parts_few w n k s few h) (closing_few _ (has_constant s) _))
+
+pub output_few : (w : Wires) (n k : ℕ) (s : Summands) → n ≤ SOURCE_LINES → IsWithin n s → FewPins (output_cells w k s)
+unfolding output_cells
+output_few w n k s few h = elim (cases_Bool (eqb (length (sum_part w k s).cells) 0)) [ inl e ↦ rw e (omega arith, tt) | inr e ↦ rw e (sum_few w n k s few h) ]
+
+-- ---- output after output
+
+pub length-named : (k c : ℕ) (out : List ℕ) (cells : List Cell) → length (named k c out cells) ≡ length cells
+length-named k c out [] = refl
+length-named k c out (x ∷ []) = refl
+length-named k c out (x ∷ y ∷ ys) = ap suc (length-named k (suc c) out (y ∷ ys))
+
+-- the gates of one more output stand
+pub outputs_more : (k : ℕ) (w : Wires) (sums : List Summands) (names : List (List ℕ)) (o c inner : ℕ) (s : Summands) (out : List ℕ) (now next all : List Gate)
+    → o < length sums → o < length names → s ≡ get_or sums o s → out ≡ get_or names o out
+    → next ≡ now ++ named k c out (output_cells w (w.inputs + length now) s) → inner ≡ length (output_cells w (w.inputs + length now) s) - 1
+    → now ++ output_gates k w (w.inputs + length now) c (drop o sums) (drop o names) ≡ all
+    → next ++ output_gates k w (w.inputs + length next) (c + inner) (drop (suc o) sums) (drop (suc o) names) ≡ all
+outputs_more k w sums names o c inner s out now next all l m s_is out_is e i h =
+    let cells = output_cells w (w.inputs + length now) s in
+    let len : w.inputs + length next ≡ w.inputs + length now + length cells = omega (arith, ap length e, length-append now (named k c out cells), length-named k c out cells) in
+    let more = output_gates k w (w.inputs + length now + length cells) (c + (length cells - 1)) (drop (suc o) sums) (drop (suc o) names) in
+    let first : output_gates k w (w.inputs + length now) c (drop o sums) (drop o names) ≡ named k c out cells ++ more =
+    ap₂ (λ (ss : List Summands) (ns : List (List ℕ)). output_gates k w (w.inputs + length now) c ss ns) (drop-cons sums o s l) (drop-cons names o out m)
+    ∙ ap₂ (λ (t : Summands) (n : List ℕ). output_gates k w (w.inputs + length now) c (t ∷ drop (suc o) sums) (n ∷ drop (suc o) names)) (sym s_is) (sym out_is) in
+    ap₂ (λ p q. next ++ output_gates k w p (c + q) (drop (suc o) sums) (drop (suc o) names)) len i
+    ∙ ap (λ (gs : List Gate). gs ++ more) e
+    ∙ append_assoc now (named k c out cells) more
+    ∙ ap (λ (gs : List Gate). now ++ gs) (sym first)
+    ∙ h
+
+pub ends_more : (k c : ℕ) (w : Wires) (sums : List Summands) (o inner port : ℕ) (s : Summands) (out : List ℕ) (now next : List Gate) (ports all : List ℕ)
+    → o < length sums → s ≡ get_or sums o s
+    → next ≡ now ++ named k c out (output_cells w (w.inputs + length now) s) → inner ≡ length (output_cells w (w.inputs + length now) s) - 1 → port ≡ w.inputs + length now + inner
+    → ports ++ ends w (w.inputs + length now) (drop o sums) ≡ all
+    → (ports ++ port ∷ []) ++ ends w (w.inputs + length next) (drop (suc o) sums) ≡ all
+ends_more k c w sums o inner port s out now next ports all l s_is e i p h =
+    let cells = output_cells w (w.inputs + length now) s in
+    let len : w.inputs + length next ≡ w.inputs + length now + length cells = omega (arith, ap length e, length-append now (named k c out cells), length-named k c out cells) in
+    let more = ends w (w.inputs + length now + length cells) (drop (suc o) sums) in
+    let port_is : port ≡ w.inputs + length now + (length cells - 1) = p ∙ ap (λ n. w.inputs + length now + n) i in
+    let first : ends w (w.inputs + length now) (drop o sums) ≡ port ∷ more =
+    ap (ends w (w.inputs + length now)) (drop-cons sums o s l)
+    ∙ ap (λ (t : Summands). ends w (w.inputs + length now) (t ∷ drop (suc o) sums)) (sym s_is)
+    ∙ ap (λ n. n ∷ more) (sym port_is) in
+    ap (λ n. (ports ++ port ∷ []) ++ ends w n (drop (suc o) sums)) len
+    ∙ append_assoc ports (port ∷ []) more
+    ∙ ap (λ (ns : List ℕ). ports ++ ns) (sym first)
+    ∙ h
+
+pub most_more : (sums : List Summands) (o : ℕ) (s : Summands) → o < length sums → s ≡ get_or sums o s → most_gates (drop o sums) ≡ (3 * nodes s + 1) + most_gates (drop (suc o) sums)
+most_more sums o s l e = ap most_gates (drop-cons sums o s l) ∙ ap (λ t. (3 * nodes t + 1) + most_gates (drop (suc o) sums)) (sym e)
+
+-- it holds of the sum in a place
+pub each_get : (P : Summands → Type 0) (sums : List Summands) → AllByRecursion P sums → (o : ℕ) (s : Summands) → o < length sums → s ≡ get_or sums o s → P s
+each_get P [] h o s l e = absurd (omega (arith, l))
+each_get P (r ∷ rs) (h, hs) zero s l e = subst P (sym e) h
+each_get P (r ∷ rs) (h, hs) (suc o) s l e = each_get P rs hs o s (omega (arith, l)) e
+
+-- ---- the names of all gates
+
+abbrev pub outs_of : List Gate → List (List ℕ)
+outs_of gates = map (λ gate. gate.out) gates
+
+inverter_names : (k : ℕ) (js : List ℕ) → outs_of (inverters k js) ≡ names_in k (record { letter = 105; texts = map (λ j. decimal (suc j)) js })
+inverter_names k [] = refl
+inverter_names k (j ∷ js) = ap (λ names. inner k (105 ∷ decimal (suc j)) ∷ names) (inverter_names k js)
+
+named_names : (k c : ℕ) (out : List ℕ) (cells : List Cell) → 0 < length cells → outs_of (named k c out cells) ≡ numbered k 103 c (length cells - 1) ++ out ∷ []
+named_names k c out [] some = absurd (omega (arith, some))
+named_names k c out (cell ∷ []) some = refl
+named_names k c out (cell ∷ next ∷ cells) some =
+    let z : length (cell ∷ next ∷ cells) - 1 ≡ suc (length (next ∷ cells) - 1) = omega arith in
+    let y : c + 1 ≡ suc c = omega arith in
+    rw (z, y) (ap (λ names. inner k (103 ∷ decimal (suc c)) ∷ names) (named_names k (suc c) out (next ∷ cells) (omega arith)))
+
+-- how many gates stand before the last one of each output
+abbrev counts : Wires → ℕ → List Summands → List ℕ
+counts w s [] = []
+counts w s (sum ∷ sums) = let cells = output_cells w s sum in (length cells - 1) ∷ counts w (s + length cells) sums
+
+few_counts : (w : Wires) (s : ℕ) (sums : List Summands) → sum (counts w s sums) ≤ most_gates sums
+few_counts w s [] = omega arith
+few_counts w s (sum ∷ sums) =
+    let cells = output_cells w s sum in
+    omega (arith, sum_by-cons (λ m. m) (length cells - 1) (counts w (s + length cells) sums), few_counts w (s + length cells) sums, output_bound w s sum)
+
+output_names : (k : ℕ) (w : Wires) (s c : ℕ) (sums : List Summands) (outs : List (List ℕ)) → outs_of (output_gates k w s c sums outs) ≡ names_to_outputs k 103 c (counts w s sums) outs
+output_names k w s c [] outs = refl
+output_names k w s c (sum ∷ sums) [] = refl
+output_names k w s c (sum ∷ sums) (out ∷ outs) =
+    let cells = output_cells w s sum in
+    let inner_names = numbered k 103 c (length cells - 1) in
+    map-append (λ (gate : Gate). gate.out) (named k c out cells) (output_gates k w (s + length cells) (c + (length cells - 1)) sums outs)
+    ∙ ap₂ (λ (a b : List (List ℕ)). a ++ b) (named_names k c out cells (output_some w s sum)) (output_names k w (s + length cells) (c + (length cells - 1)) sums outs)
+    ∙ append_assoc inner_names (out ∷ []) (names_to_outputs k 103 (c + (length cells - 1)) (counts w (s + length cells) sums) outs)
+
+pub gate_names : (k n s : ℕ) (p : ℕ → Bool) (w : Wires) (sums : List Summands) (outs : List (List ℕ)) → NamesDiffer → n < 2 ^ 63 → most_gates sums < 2 ^ 64
+    → AreGateNames k outs (outs_of (inverters k (filter p (range_with_len 0 n)) ++ output_gates k w s 0 sums outs))
+gate_names k n s p w sums outs differ small_n small =
+    let js : List ℕ = filter p (range_with_len 0 n) in
+    let texts : IsDistinct (map (λ j. decimal (suc j)) js) =
+    differ.numbers js (All-from_recursion (λ j. suc j < 2 ^ 64) js (each_weaker (λ j. j < n) (λ j. suc j < 2 ^ 64) (λ j l. omega (arith, l)) js (range_below p 0 n n (omega arith)))) (AllPairs-from_Distinct js (Distinct-filter p (range_with_len 0 n) (Distinct-range 0 n))) in
+    record {
+      groups = record { letter = 105; texts = map (λ j. decimal (suc j)) js } ∷ [];
+      letter = 103;
+      counts = counts w s sums;
+      are =
+          map-append (λ (gate : Gate). gate.out) (inverters k js) (output_gates k w s 0 sums outs)
+          ∙ ap₂ (λ (a b : List (List ℕ)). a ++ b) (inverter_names k js ∙ sym (append-nil _)) (output_names k w s 0 sums outs);
+      letters = All-from_recursion IsLetter (103 ∷ 105 ∷ []) ((omega arith, omega arith), ((omega arith, omega arith), tt));
+      other_letters = AllPairs-from_Distinct (103 ∷ 105 ∷ []) (((λ e. absurd (omega (arith, e))), tt), (tt, tt));
+      other_texts = All-from_recursion (λ (group : Group). IsDistinct group.texts) (record { letter = 105; texts = map (λ j. decimal (suc j)) js } ∷ []) (texts, tt);
+      few = omega (arith, small, few_counts w s sums);
+    }
+
+-- ---- The gates of the factored network are gates: their pins are earlier signals, and they have few pins.
 
 -- ---- pins
 

@@ -47,7 +47,7 @@ fn push_turned(outs: &[Seq<Cube>], j: u32, turned: &mut Seq<u32>) -> Result<(), 
 }
 
 /// The inputs, and those of them that have an inverter.
-#[tactic(auto, using(crate::proofs::Planned::one_more_turned))]
+#[tactic(auto, using(crate::proofs::Law::one_more_turned))]
 fn wires(alloc: Global, e: &Esop) -> Result<Wires, Memory>
     ensures { IfOk result (λ wires. wires ≡ spec.wires e.now) }
 {

@@ -1,36 +1,39 @@
 -- Every fault is detected, and the vectors are few.
-use Rattle.std.proofs.Common.{◌≡◌, ◌⊎◌, ℕ, ◌-◌, ◌*◌, ◌<◌, ◌≤◌, Bool, true, false, not, ◌&&◌, inl, inr, List, [], ◌∷◌, ◌++◌, length, get_or, refl, sym, ap, ◌∙◌, subst, arith, eqb, eqb-true, eq-eqb, length-append}
-use Rattle.std.specs.Prelude.{Contains, Option, Some, None}
+use Rattle.std.proofs.Common.{Bool, List, [], ap, arith, eq-eqb, eqb, eqb-true, false, inl, inr, length, length-append, not, refl, subst, sym, true, ℕ, ◌&&◌, ◌*◌, ◌++◌, ◌+◌, ◌-◌, ◌<◌, ◌∙◌, ◌∷◌, ◌≡◌, ◌≤◌, ◌⊎◌}
 use Rattle.std.specs.List.{flat_map, list_any}
+use Rattle.std.specs.Prelude.{Contains, None, Option, Some}
 use Rattle.std.proofs.lemmas.Bool.{and_from, cases_Bool, cases_lt, false≢true, lt-ltb, or_cases, or_left, or_right}
 use Rattle.std.proofs.lemmas.List.Elements.{Contains-append_left}
 use Rattle.std.proofs.lemmas.List.Folds.{list_any-append}
-use Rattle.ae_base.specs.Mask.{Set, has, len, members}
+use Rattle.ae_base.specs.Mask.{Set, first, has, len, members}
+use Rattle.ae_base.proofs.EachAt.{EachAt-get}
+use Rattle.ae_base.proofs.Elements.{All-get, Contains-from_any, any_found, any_kept, each_at, length_filter_le}
 use Rattle.ae_base.proofs.Members.{len-members, members-has}
-use Rattle.ae_base.proofs.Elements.{any_kept, length_filter_le, Contains-from_any}
 use Rattle.ae_base.proofs.Once.{length_once_le, unrepeated_has}
 use Rattle.ae_base.proofs.Sets.{has-where_below}
-use Rattle.ae_net.specs.declared.net.Place.{Place}
-use Rattle.ae_net.specs.declared.net.Place.TheVariants.{Stem, Pin, Port}
-use Rattle.ae_net.specs.Faults.{IsPlace, is_read}
+use Rattle.ae_net.specs.Faults.{IsPlace, is_read, is_read_by}
+use Rattle.ae_net.specs.Lead.{lead}
 use Rattle.ae_net.specs.Names.{Names}
+use Rattle.ae_net.specs.Network.{Network, signals}
+use Rattle.ae_net.specs.declared.net.Place.{Place}
+use Rattle.ae_net.specs.declared.net.Place.TheVariants.{Pin, Port, Stem}
 use Rattle.expansion.specs.Counts.{is_odd}
 use Rattle.expansion.specs.Even.{even_inputs}
 use Rattle.expansion.specs.Terms.{Terms, is_used, used_inputs}
-use Rattle.cascade.specs.Reddy.{lines, turned}
+use Rattle.cascade.specs.Reddy.{gates, lines, turned}
 use Rattle.cascade.specs.Shows.{CanBuild, reddy_net}
-use Rattle.universal_tests.specs.Sites.{IsInverterOf, IsOfLiteral, IsDetected}
+use Rattle.cascade.proofs.Law.{at_place, shows}
+use Rattle.cascade.proofs.Valid.{IsSound, inputs_are, sound_net, turned_parts, valid}
+use Rattle.universal_tests.specs.Sites.{IsDetected, IsInverterOf, IsOfLiteral}
 use Rattle.universal_tests.specs.Universal.{universal_vectors}
-use Rattle.universal_tests.proofs.CodeLemmas.{universal_few}
-use Rattle.universal_tests.proofs.Literals.{inverter_used, inverts_of, pair_detects, detects_odd}
-use Rattle.universal_tests.proofs.Line.{Inverts}
-use Rattle.universal_tests.proofs.TwoRuns.{inputs_are}
-use Rattle.universal_tests.proofs.Whole.{inverts, detects}
-use Rattle.input_tests.specs.Inputs.{first_term, term_high, term_but, pair_at, input_vectors_of}
+use Rattle.universal_tests.proofs.AtVectors.{universal_few}
+use Rattle.universal_tests.proofs.Literals.{detects_odd, inverts_of, pair_detects}
+use Rattle.universal_tests.proofs.Runs.{gates_are}
+use Rattle.universal_tests.proofs.Whole.{Apart, detects, inverts, of_inverter}
 use Rattle.input_tests.specs.Complete.{DetectsAll}
-use Rattle.input_tests.specs.Whole.{new_ones, cascade_tests, vector_bound}
-use Rattle.input_tests.proofs.FirstTerm.{FirstAt, pair, at, own, tells}
-use Rattle.input_tests.proofs.Reading.{read_used}
+use Rattle.input_tests.specs.Inputs.{first_term, input_vectors_of, pair_at, term_but, term_high}
+use Rattle.input_tests.specs.Whole.{cascade_tests, new_ones, vector_bound}
+use Rattle.input_tests.proofs.FirstTerm.{FirstAt, at, own, pair, tells}
 
 -- ---- a list's members
 
@@ -68,27 +71,38 @@ used_member : (e : Terms) (j : ℕ) → j < e.polarity.n → is_used e j ≡ tru
 unfolding used_inputs
 used_member e j l used = has-where_below e.polarity.n (is_used e) j ∙ and_from _ _ (lt-ltb j e.polarity.n l) used
 
-module _ (names : Names) (e : Terms) (can : CanBuild names e) (counted : (j : ℕ) → has (even_inputs e) j ≡ (has (used_inputs e) j && not (is_odd e j))) where
+module _ (names : Names) (e : Terms) (can : CanBuild names e) where
+  -- an input that is read is used
+  read_used : (j : ℕ) → j < e.polarity.n → is_read (reddy_net names e) j ≡ true → is_used e j ≡ true
+  read_used j l m =
+      let n : Network = reddy_net names e in
+      elim (or_cases _ _ m) [
+        | inl gate ↦
+            let found = any_found (λ g. list_any (λ pin. eqb pin j) g.pins) (gates (lead names) names e) (subst (λ gs. is_read_by gs j ≡ true) (gates_are names e) gate) in
+            each_at (λ pin. pin < e.polarity.n → is_used e pin ≡ true) j found.element.pins (EachAt-get (IsSound e) (lines e) (gates (lead names) names e) (sound_net names e can) found.place found.element found.there).1 found.passes l
+        | inr output ↦
+            let found = any_found (λ o. eqb o j) n.outputs output in
+            let late = All-get (λ s. (length n.inputs ≤ s) × (s < signals n)) n.outputs found.place found.element (valid names e can).ports found.there in
+            absurd (omega (arith, late.0, eqb-true found.element j found.passes, inputs_are names e can, l))
+      ]
+
   abbrev Of : Place → Type 0
   Of place = (j : ℕ) × (j < e.polarity.n) × IsOfLiteral (reddy_net names e) j place
-
-  abbrev Apart : Place → Type 0
-  Apart place = (j : ℕ) → j < e.polarity.n → IsOfLiteral (reddy_net names e) j place → ⊥
 
   gate_of : (p : ℕ) → ((j : ℕ) × (j < e.polarity.n) × IsInverterOf (reddy_net names e) p j) ⊎ ((j : ℕ) → j < e.polarity.n → IsInverterOf (reddy_net names e) p j → ⊥)
   gate_of p =
       elim (cases_lt p (length (turned e))) [
-        | inl early ↦ let i = inverts names e can p early in inl (get_or (turned e) p 0, i.0, i.1)
-        | inr late ↦ inr (λ j l is. let of : Inverts e p j = inverts_of names e can p j l is in absurd (omega (arith, late, of.early)))
+        | inl early ↦ let i = inverts e p early in let is = of_inverter names e can p i.0 i.1 in inl (i.0, is.0, is.1)
+        | inr late ↦ inr (λ j l is. let of = inverts_of names e can j l p is in absurd (omega (arith, late, of.place, (at_place (turned e) j of.listed).0)))
       ]
 
-  site_of : (place : Place) → Of place ⊎ Apart place
+  site_of : (place : Place) → Of place ⊎ Apart names e can place
   site_of (Stem s) =
       elim (cases_lt s e.polarity.n) [
         | inl source ↦ inl (s, source, inl refl)
         | inr late ↦ elim (gate_of (s - lines e)) [
           | inl r ↦ elim (cases_lt s (lines e)) [
-            | inl control ↦ inr (none late control)
+            | inl control ↦ inr (no_literal late (λ i same. omega (arith, same, control, inputs_are names e can)))
             | inr gate ↦ inl (r.0, r.1, inr (s - lines e, omega (arith, gate, inputs_are names e can), r.2))
           ]
           | inr never ↦ inr (λ j l of. elim of [
@@ -98,39 +112,35 @@ module _ (names : Names) (e : Terms) (can : CanBuild names e) (counted : (j : �
         ]
       ]
     where
-      none : e.polarity.n ≤ s → s < lines e → Apart (Stem s)
-      none late control j l (inl same) = absurd (omega (arith, same, l, late))
-      none late control j l (inr (i, same, is)) = absurd (omega (arith, same, control, inputs_are names e can))
+      no_literal : e.polarity.n ≤ s → ((i : ℕ) → s ≡ length ((reddy_net names e).inputs) + i → ⊥) → Apart names e can (Stem s)
+      no_literal late none j l (inl same) = absurd (omega (arith, same, l, late))
+      no_literal late none j l (inr (i, same, is)) = none i same
   site_of (Pin p q) = elim (gate_of p) [ inl r ↦ inl r | inr never ↦ inr never ]
   site_of (Port o) = inr (λ j l of. absurd of)
 
   -- an input whose literal has a site is used
   site_used : (j : ℕ) → j < e.polarity.n → (place : Place) → IsPlace (reddy_net names e) place → IsOfLiteral (reddy_net names e) j place → is_used e j ≡ true
-  site_used j l (Stem s) h (inl same) = read_used e j l names (ap (is_read (reddy_net names e)) (sym same) ∙ h)
-  site_used j l (Stem s) h (inr (p, same, is)) = inverter_used e j p (inverts_of names e can p j l is)
-  site_used j l (Pin p q) h is = inverter_used e j p (inverts_of names e can p j l is)
+  site_used j l (Stem s) h (inl same) = read_used j l (ap (is_read (reddy_net names e)) (sym same) ∙ h)
+  site_used j l (Stem s) h (inr (p, same, is)) = (turned_parts e j (inverts_of names e can j l p is).listed).1
+  site_used j l (Pin p q) h is = (turned_parts e j (inverts_of names e can j l p is).listed).1
   site_used j l (Port o) h of = absurd of
 
-  all_told : (place : Place) (u : Bool) → IsPlace (reddy_net names e) place → IsDetected (reddy_net names e) (cascade_tests e) (record { place = place; value = u })
-  all_told place u h =
-      elim (site_of place) [
-        | inr apart ↦ wider (detects names e can (record { place = place; value = u }) h apart)
+  pub detects_all : ((j : ℕ) → has (even_inputs e) j ≡ (has (used_inputs e) j && not (is_odd e j))) → DetectsAll (reddy_net names e) (cascade_tests e)
+  detects_all counted fault h =
+      elim (site_of fault.place) [
+        | inr apart ↦ wider (detects names e can fault h apart)
         | inl (j, l, of) ↦ elim (cases_Bool (is_odd e j)) [
-          | inl odd ↦ wider (detects_odd names e can (record { place = place; value = u }) j (l, odd) h of)
+          | inl odd ↦ wider (detects_odd names e can fault j (l, odd) h of)
           | inr even ↦
-              let used = site_used j l place h of in
+              let used = site_used j l fault.place h of in
               let first : FirstAt j e.outs = at names e can j used in
-              let r = pair_detects names e can j l first.o first.ts (own names e can j used) (tells names e can j used) place u h of in
-              let is : has (even_inputs e) j ≡ true = counted j ∙ and_from _ _ (used_member e j l used) (ap not even) in
-              (own names e can j used r.0, pair_in e j is _ ((at names e can j used).overall) r.0, r.1)
+              let r = pair_detects names e can j l first.o first.ts (own names e can j used) (tells names e can j used) fault.place fault.value h of in
+              (own names e can j used r.0, pair_in e j (counted j ∙ and_from _ _ (used_member e j l used) (ap not even)) _ first.overall r.0, r.1)
         ]
       ]
     where
-      wider : IsDetected (reddy_net names e) (universal_vectors e.polarity (used_inputs e)) (record { place = place; value = u }) → IsDetected (reddy_net names e) (cascade_tests e) (record { place = place; value = u })
+      wider : IsDetected (reddy_net names e) (universal_vectors e.polarity (used_inputs e)) fault → IsDetected (reddy_net names e) (cascade_tests e) fault
       wider (x, there, shows) = (x, universal_in e x there, shows)
-
-  pub detects_all : DetectsAll (reddy_net names e) (cascade_tests e)
-  detects_all fault h = all_told fault.place fault.value h
 
 -- ---- how many there are
 

@@ -91,6 +91,22 @@ fn push_pair(list: &mut Vec<Point>, e: &Expansion, low: Point, j: u32) -> Result
     Ok(())
 }
 
+/// The two vectors of each even input in order, each once.
+#[tactic(auto, using(crate::proofs::CodeLemmas::none_so_far))]
+fn vectors_of(alloc: Global, e: &Expansion) -> Result<Vec<Point>, Memory>
+    requires control { e.now.polarity.n < WIDTH }
+    ensures vectors { IfOk result (λ list. list.items ≡ spec.input_vectors_of e.now) }
+    ensures valid { OnOk result (IsTerms e.now) }
+{
+    let even = even_inputs(e);
+    let low = used_inputs(e).xor(literals_high(e));
+    let mut list = Vec::new(alloc);
+    for j in even.members() {
+        push_pair(&mut list, e, low, j)?;
+    }
+    Ok(list)
+}
+
 /// The two vectors of each even input in order, each once, over n + 1 inputs, the last of which is the control; n is the number of inputs,
 /// and a `Mask` has to be able to hold it. They are at most two for each even input.
 ///
@@ -98,6 +114,7 @@ fn push_pair(list: &mut Vec<Point>, e: &Expansion, low: Point, j: u32) -> Result
 /// it, of the first output whose expansion does, the one vector has the literals of T at 1 and those of the other used inputs at 0, and
 /// the other has the even input's own literal at 0 too. Unused inputs and the control are 0 in both. With the universal vectors these
 /// detect every stuck-at fault of the Reddy network.
+#[tactic(auto, using(crate::proofs::Whole::two_each, crate::proofs::CodeLemmas::pairs_distinct, crate::proofs::CodeLemmas::all_points))]
 pub fn input_vectors(alloc: Global, e: &Expansion) -> Result<Vec<Point>, Memory>
     requires control { e.now.polarity.n < WIDTH }
     ensures vectors { IfOk result (λ list. list.items ≡ spec.input_vectors_of e.now) }
@@ -107,12 +124,7 @@ pub fn input_vectors(alloc: Global, e: &Expansion) -> Result<Vec<Point>, Memory>
     ensures complete { IfOk result (λ list. (names : Names) → CanBuild names e.now
         → let universal = universal_vectors e.now.polarity (used_inputs e.now) in DetectsAll (reddy_net names e.now) (universal ++ new_ones universal list.items)) }
 {
-    let even = even_inputs(e);
-    let low = used_inputs(e).xor(literals_high(e));
-    let mut list = Vec::new(alloc);
-    for j in even.members() {
-        push_pair(&mut list, e, low, j)?;
-    }
+    let list = vectors_of(alloc, e)?;
     input_law();
     Ok(list)
 }

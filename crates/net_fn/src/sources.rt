@@ -1,10 +1,11 @@
 //! The functions of a network with don't cares.
-ghost use Rattle.std.specs.Prelude.{◌≡◌, ◌&&◌, ℕ, Bool, not, IfOk, length};
-ghost use Rattle.ae_base.specs.Mask.{Set};
+ghost use Rattle.std.specs.Prelude.{◌≡◌, IfOk, None, length};
+ghost use Rattle.ae_base.specs.Mask.{has};
 ghost use Rattle.ae_base.specs.Source.{on_set};
-ghost use Rattle.ae_net.specs.NetSource.{specified_by};
-ghost use Rattle.fn_store.specs.Functions.{Shows, Keeps};
-ghost use Rattle.net_fn.specs.Refs.{AreLive, ShowEach};
+ghost use Rattle.ae_net.specs.NetSource.{is_free, specified_by};
+ghost use Rattle.ae_net.specs.Out.{out};
+ghost use Rattle.fn_store.specs.Functions.{Keeps};
+ghost use Rattle.net_fn.specs.Refs.{ShowEach};
 
 use crate::nets::net_values;
 use ae_base::Memory;
@@ -29,30 +30,30 @@ pub fn source_values<S: FnStore>(
     match &source.free {
         Some(free) => {
             let frees = net_values(alloc, store, free, None)?;
-            where_not(alloc, store, &values, &frees)
+            specified_values(alloc, store, source, &values, &frees)
         }
         None => Ok(values),
     }
 }
 
-/// For each place the function that is 1 where the first list's is and the second list's is not.
-fn where_not<S: FnStore>(
+/// The functions where the outputs are specified On, from those that the network shows and those where the outputs are free.
+fn specified_values<S: FnStore>(
     alloc: Global,
     store: &mut S,
+    source: &Source,
     values: &[FnRef],
-    others: &[FnRef],
+    frees: &[FnRef],
 ) -> Result<Vec<FnRef>, Memory>
-    requires values { AreLive (S.functions store.old) values.now }
-    requires others { AreLive (S.functions store.old) others.now }
-    requires count { length values.now ≡ length others.now }
+    requires count { length values.now ≡ length frees.now }
+    requires values { ShowEach (S.functions store.old) values.now (λ o x. has (out source.now.net None x) o) }
+    requires frees { ShowEach (S.functions store.old) frees.now (is_free source.now.free) }
     ensures count { IfOk result (λ refs. length refs.items ≡ length values.now) }
-    ensures shows { IfOk result (λ refs. (fs gs : ℕ → Set → Bool) → ShowEach (S.functions store.old) values.now fs → ShowEach (S.functions store.old) others.now gs
-        → ShowEach (S.functions store.new) refs.items (λ o x. fs o x && not (gs o x))) }
+    ensures shows { IfOk result (λ refs. ShowEach (S.functions store.new) refs.items (on_set (specified_by source.now))) }
     ensures keeps { Keeps (S.functions store.old) (S.functions store.new) }
 {
     let mut refs = Vec::new(alloc);
     for k in 0..values.len() {
-        let kept = store.not(others[k])?;
+        let kept = store.not(frees[k])?;
         refs.push(store.and(values[k], kept)?)?;
     }
     Ok(refs)

@@ -1,14 +1,6 @@
+pub mod Runs
 pub mod AtVectors
-pub mod TwoRuns
-pub mod Products
-pub mod Turns
+pub mod Gates
 pub mod Chains
-pub mod AndFaults
-pub mod ControlFaults
-pub mod ChainFaults
 pub mod Whole
-pub mod CodeLemmas
-pub mod Line
-pub mod OddInputs
 pub mod Literals
-pub mod OneGate

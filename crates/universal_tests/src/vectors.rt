@@ -18,6 +18,21 @@ use cascade::{first_vectors, literals_high};
 use expansion::{Expansion, used_inputs};
 use std::alloc::Global;
 
+/// The universal vectors, each once.
+#[tactic(auto, using(crate::proofs::AtVectors::none_so_far))]
+fn vectors_of(alloc: Global, e: &Expansion) -> Result<Vec<Point>, Memory>
+    requires control { e.now.polarity.n < WIDTH }
+    ensures { IfOk result (λ list. list.items ≡ spec.universal_vectors e.now.polarity (used_inputs e.now)) }
+{
+    let used = used_inputs(e);
+    let high = literals_high(e);
+    let mut list = first_vectors(alloc, e)?;
+    for j in used.members() {
+        push_new(&mut list, high.xor(Mask::empty().with(j)))?;
+    }
+    Ok(list)
+}
+
 /// The universal vectors of the Reddy form, each once: control 0 and all literals 0, control 0 and all literals 1, control 1 and all
 /// literals 0, control 1 and all literals 1, and then for each used input in order control 0, its literal 0 and all others 1. The control
 /// has the number n, n being the number of inputs, which a `Mask` has to be able to hold. The literals are those of the used inputs. An
@@ -27,7 +42,7 @@ use std::alloc::Global;
 /// On the Reddy network of the expansions they detect every stuck-at fault but those of the literals of the source's inputs, and of these
 /// each whose input some output's expansion holds an odd number of times, which is where a source of these expansions uses it and it is
 /// not even; `universal_law` says the same of the definitions.
-#[tactic(auto, using(crate::proofs::CodeLemmas::none_so_far))]
+#[tactic(auto, using(crate::proofs::AtVectors::universal_few, crate::proofs::AtVectors::universal_distinct, crate::proofs::AtVectors::universal_points))]
 pub fn universal(alloc: Global, e: &Expansion) -> Result<Vec<Point>, Memory>
     requires control { e.now.polarity.n < WIDTH }
     ensures vectors { IfOk result (λ list. list.items ≡ spec.universal_vectors e.now.polarity (used_inputs e.now)) }
@@ -39,12 +54,7 @@ pub fn universal(alloc: Global, e: &Expansion) -> Result<Vec<Point>, Memory>
     ensures used_not_even { IfOk result (λ list. (s : Source) (names : Names) → AreExpansions s e.now.polarity e.now → CanBuild names e.now
         → DetectsLiterals (reddy_net names e.now) (IsUsedNotEven s e.now.polarity) list.items) }
 {
-    let used = used_inputs(e);
-    let high = literals_high(e);
-    let mut list = first_vectors(alloc, e)?;
-    for j in used.members() {
-        push_new(&mut list, high.xor(Mask::empty().with(j)))?;
-    }
+    let list = vectors_of(alloc, e)?;
     universal_law();
     Ok(list)
 }

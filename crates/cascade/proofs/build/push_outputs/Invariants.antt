@@ -1,6 +1,6 @@
 use Rattle.std.proofs.Common.{◌≡◌, ◌+◌, ◌++◌, drop, length}
 use Rattle.cascade.specs.Reddy.{chains, ends}
-use Rattle.cascade.proofs.NamesApart.{all_inner}
+use Rattle.cascade.proofs.Valid.{all_inner}
 use Rattle.cascade.proofs.build.push_outputs.Given as goal
 
 abbrev pub invariant-loop-o : goal.invariant-loop-o

@@ -3,7 +3,7 @@ use Rattle.ae_net.specs.Builder.{Built}
 use Rattle.expansion.specs.Terms.{Terms}
 use Rattle.expansion.specs.Kept.{IsTerms}
 use Rattle.cascade.specs.Reddy.{chain_place, ends, gates}
-use Rattle.cascade.proofs.CodeBounds.{net_valid}
+use Rattle.cascade.proofs.CodeLemmas.{net_valid}
 use Rattle.cascade.proofs.build.reddy_with.Goals as goal
 
 pub finish-requires : goal.finish-requires

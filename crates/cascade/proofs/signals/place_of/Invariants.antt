@@ -1,6 +1,5 @@
-use Rattle.std.proofs.Common.{◌≡◌, ◌+◌, drop}
-use Rattle.cascade.specs.Reddy as spec
+use Rattle.std.proofs.Common.{◌≢◌, ℕ, ◌<◌, get_or}
 use Rattle.cascade.proofs.signals.place_of.Given as goal
 
 abbrev pub invariant-loop-i : goal.invariant-loop-i
-invariant-loop-i l = spec.place_of l.list l.x ≡ l.i + spec.place_of (drop l.i l.list) l.x
+invariant-loop-i l = (k : ℕ) → k < l.i → get_or l.list k 0 ≢ l.x

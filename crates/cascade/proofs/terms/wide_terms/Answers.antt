@@ -1,9 +1,8 @@
-use Rattle.std.proofs.Common.{◌∙◌, ap}
+use Rattle.std.proofs.Common.{◌∙◌, ap, List}
 use Rattle.std.specs.Prelude.{filter}
 use Rattle.std.specs.List.{flat_map}
 use Rattle.ae_base.specs.Mask.{Set}
 use Rattle.ae_base.specs.Terms.{in_order}
-use Rattle.std.proofs.Common.{List}
 use Rattle.cascade.specs.Reddy.{is_wide, wide_terms}
 use Rattle.cascade.proofs.Ordered.{sorted_terms}
 use Rattle.cascade.proofs.terms.wide_terms.Goals as goal

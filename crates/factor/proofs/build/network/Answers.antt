@@ -5,7 +5,7 @@ use Rattle.ae_net.specs.Network.{Network}
 use Rattle.ae_net.specs.declared.net.Gate.{Gate}
 use Rattle.factor.specs.Factored.{inverters, output_gates, network_of}
 use Rattle.factor.specs.Plan.{sums_of}
-use Rattle.factor.proofs.Planned.{is_plan, as_many, net_is, net_valid}
+use Rattle.factor.proofs.Law.{is_plan, as_many, net_is, net_valid}
 use Rattle.factor.proofs.build.network.Goals as goal
 
 pub push_inverters-requires-clause-short : goal.push_inverters-requires-clause-short

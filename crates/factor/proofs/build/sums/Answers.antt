@@ -2,7 +2,7 @@ use Rattle.std.proofs.Common.{◌≡◌, ◌+◌, ◌∙◌, List, [], ◌∷◌
 use Rattle.std.proofs.lemmas.List.{take_more, map-append}
 use Rattle.ae_base.specs.Cube.{Product}
 use Rattle.factor.specs.Seen.{seen}
-use Rattle.factor.proofs.Planned.{sums_push}
+use Rattle.factor.proofs.Law.{sums_push}
 use Rattle.factor.proofs.build.sums.Goals as goal
 
 pub loop-cubes-preserved : goal.loop-cubes-preserved

@@ -1,4 +1,4 @@
-use Rattle.factor.proofs.CubeCounts.{same_count, fewer_count}
+use Rattle.factor.proofs.Law.{same_count, fewer_count}
 use Rattle.factor.proofs.laws.count_law.Goals as goal
 
 pub returns-clause-terms : goal.returns-clause-terms

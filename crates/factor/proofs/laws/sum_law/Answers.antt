@@ -1,6 +1,6 @@
 use Rattle.factor.proofs.Law.{value_of_sum}
 use Rattle.factor.proofs.Taken.{factors_differ}
-use Rattle.factor.proofs.Unique.{one_sum}
+use Rattle.factor.proofs.Meaning.{one_sum}
 use Rattle.factor.proofs.laws.sum_law.Goals as goal
 
 pub returns-clause-only : goal.returns-clause-only

@@ -1,7 +1,7 @@
 use Rattle.std.proofs.Common.{◌+◌, true, false, arith}
 use Rattle.factor.specs.Search.{better}
-use Rattle.factor.proofs.Standing.{lit}
-use Rattle.factor.proofs.Found.{best_more, below_step, below_more}
+use Rattle.factor.proofs.Taken.{lit}
+use Rattle.factor.proofs.Meaning.{best_more, below_step, below_more}
 use Rattle.factor.proofs.literals.best.Goals as goal
 
 pub loop-j-preserved : goal.loop-j-preserved

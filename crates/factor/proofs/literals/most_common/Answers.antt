@@ -1,4 +1,4 @@
-use Rattle.factor.proofs.Found.{picked_none, picked_some}
+use Rattle.factor.proofs.Meaning.{picked_none, picked_some}
 use Rattle.factor.proofs.literals.most_common.Goals as goal
 
 pub returns-in-None-clause-picked : goal.returns-in-None-clause-picked

@@ -2,7 +2,7 @@ use Rattle.std.proofs.Common.{List, ◌++◌, ◌∷◌, [], ◌+◌, drop, leng
 use Rattle.ae_net.specs.Gates.{gate_of}
 use Rattle.ae_net.specs.declared.net.Gate.{Gate}
 use Rattle.factor.specs.Factored.{named}
-use Rattle.factor.proofs.Naming.{named_more}
+use Rattle.factor.proofs.Valid.{named_more}
 use Rattle.factor.proofs.outputs.push_named.Goals as goal
 
 pub loop-i-preserved : goal.loop-i-preserved

@@ -4,7 +4,7 @@ use Rattle.ae_base.specs.declared.limits.TheConstants.{PINS}
 use Rattle.ae_net.specs.Gates.{pins_of}
 use Rattle.factor.specs.Cells.{output_cells}
 use Rattle.factor.specs.Seen.{seen}
-use Rattle.factor.proofs.Naming.{FewPins, output_few}
+use Rattle.factor.proofs.Valid.{FewPins, output_few}
 use Rattle.factor.proofs.Sizes.{output_bound}
 use Rattle.factor.proofs.outputs.push_output.Goals as goal
 

@@ -6,7 +6,7 @@ use Rattle.factor.specs.Plan.{sums_of}
 use Rattle.factor.specs.Seen.{seen, IsWithin}
 use Rattle.factor.specs.declared.outputs.Plan.{Plan}
 use Rattle.factor.specs.declared.sums.Sum.{Sum}
-use Rattle.factor.proofs.Naming.{outputs_more, ends_more, most_more, each_get, length-named}
+use Rattle.factor.proofs.Valid.{outputs_more, ends_more, most_more, each_get, length-named}
 use Rattle.factor.proofs.Sizes.{output_bound}
 use Rattle.factor.proofs.outputs.push_outputs.Goals as goal
 

@@ -6,7 +6,7 @@ use Rattle.factor.specs.declared.parts.Factor.{Factor}
 use Rattle.factor.specs.Cells.{Parts, parts, sum_part, closing}
 use Rattle.factor.specs.Seen.{seen}
 use Rattle.factor.specs.Sums.Summands.{end, literals, factored}
-use Rattle.factor.proofs.Made.{literals_cells, literals_factors, factored_cells, factored_signal, more_cells, more_factors, sum_cells, sum_signal}
+use Rattle.factor.proofs.Sizes.{literals_cells, literals_factors, factored_cells, factored_signal, more_cells, more_factors, sum_cells, sum_signal}
 use Rattle.factor.proofs.Sizes.{parts-end, parts_bound, sum_bound, length-factors}
 use Rattle.factor.proofs.parts.+parts.Goals as goal
 

@@ -6,8 +6,8 @@ use Rattle.factor.specs.Literals.{holding, others}
 use Rattle.factor.specs.Seen.{seen}
 use Rattle.factor.specs.Sums.{IsSum}
 use Rattle.factor.specs.Sums.IsSum.{flat, taken}
-use Rattle.factor.proofs.Counted.{counted_stands}
-use Rattle.factor.proofs.Fewer.{standing, fewer_held, fewer_others, over_held, over_others, free_first}
+use Rattle.factor.proofs.Taken.{counted_stands}
+use Rattle.factor.proofs.Meaning.{standing, fewer_held, fewer_others, over_held, over_others, free_first}
 use Rattle.factor.proofs.sums.+sum_of.Goals as goal
 
 pub sum_of-requires : goal.sum_of-requires

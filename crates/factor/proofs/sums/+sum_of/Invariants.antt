@@ -1,4 +1,4 @@
-use Rattle.factor.proofs.Fewer.{standing}
+use Rattle.factor.proofs.Meaning.{standing}
 use Rattle.factor.proofs.sums.+sum_of.Given as goal
 
 abbrev pub decreases-sum_of : goal.decreases-sum_of

@@ -4,7 +4,7 @@ use Rattle.std.specs.List.{list_any}
 use Rattle.factor.specs.Literals.{is_empty}
 use Rattle.factor.specs.Seen.{with_cube, with_cubes}
 use Rattle.factor.specs.Sums.Summands.{end}
-use Rattle.factor.proofs.Fewer.{cubes_plain, cubes_more}
+use Rattle.factor.proofs.Meaning.{cubes_plain, cubes_more}
 use Rattle.factor.proofs.sums.flat.Goals as goal
 
 pub loop-d-init : goal.loop-d-init

@@ -1,7 +1,7 @@
 use Rattle.std.proofs.Common.{◌≡◌, ◌++◌, ◌+◌, ◌∙◌, ap, ap₂}
 use Rattle.ae_base.specs.Terms.{IsPoint}
 use Rattle.input_tests.specs.Whole.{cascade_tests, new_ones}
-use Rattle.input_tests.proofs.Joined.{joined_points, joined_distinct}
+use Rattle.input_tests.proofs.CodeLemmas.{joined_points, joined_distinct}
 use Rattle.input_tests.proofs.complete.cascade_vectors.Goals as goal
 use Rattle.input_tests.proofs.complete.cascade_vectors.Goals.{After-drop-others-2}
 

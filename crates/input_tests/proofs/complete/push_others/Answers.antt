@@ -1,5 +1,5 @@
 use Rattle.std.proofs.Common.{ap, ◌∙◌}
-use Rattle.input_tests.proofs.Joined.{next, put_new}
+use Rattle.input_tests.proofs.CodeLemmas.{next, put_new}
 use Rattle.input_tests.proofs.complete.push_others.Goals as goal
 
 pub loop-point-preserved : goal.loop-point-preserved

@@ -9,5 +9,5 @@ pub returns-clause-literals : goal.returns-clause-literals
 returns-clause-literals c = literals.detects_odd
 
 pub returns-clause-used_not_even : goal.returns-clause-used_not_even
-returns-clause-used_not_even c s names e are can =
-    literals.detects_not_even s e are (c.even_law.ensures.used s e.polarity e are) (c.even_law.ensures.even s e.polarity e are) (c.even_law.ensures.counted e can.terms) names can
+returns-clause-used_not_even c s names e are can fault j tested =
+    literals.detects_odd names e can fault j (literals.held_oddly s e are (c.even_law.ensures.used s e.polarity e are) (c.even_law.ensures.even s e.polarity e are) (c.even_law.ensures.counted e can.terms) j tested)

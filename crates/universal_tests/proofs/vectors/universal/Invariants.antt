@@ -1,8 +1,0 @@
-use Rattle.std.proofs.Common.{◌≡◌, ◌++◌}
-use Rattle.ae_base.specs.Mask.{members}
-use Rattle.expansion.specs.Terms.{used_inputs}
-use Rattle.universal_tests.proofs.CodeLemmas.{so_far}
-use Rattle.universal_tests.proofs.vectors.universal.Given as goal
-
-abbrev pub invariant-loop-j : goal.invariant-loop-j
-invariant-loop-j l = (l.list.items ≡ so_far l.e.polarity (used_inputs l.e) l.yielded) × (l.yielded ++ l.j-iterator ≡ members (used_inputs l.e))
