@@ -1,5 +1,5 @@
 -- Tests of a network: the test for a fault detects it, and a fault without a test is undetectable.
-use Rattle.std.proofs.Common.{◌≡◌, ℕ, ◌<◌, ◌≤◌, Bool, true, false, not, ◌&&◌, cond, inl, inr, List, [], ◌∷◌, length, get_or, Option, Some, None, refl, sym, ap, ◌∙◌, subst, eqb, eqb-true, eq-eqb, arith}
+use Rattle.std.proofs.Common.{◌≡◌, ℕ, ◌<◌, ◌≤◌, Bool, true, false, not, ◌&&◌, cond, inl, inr, List, [], ◌∷◌, length, get_or, Option, Some, None, refl, sym, ap, ◌∙◌, subst, eqb, eqb-true, eq-eqb, ne_eqb, arith}
 use Rattle.std.specs.Prelude.{slice_index, ◌↔◌, All, Contains, filter, is_none}
 use Rattle.std.proofs.lemmas.Bool.{cases_lt, true≢false, le-ltb}
 use Rattle.std.proofs.lemmas.List.Folds.{Any-from_list_any}
@@ -26,13 +26,8 @@ use Rattle.test_gen.proofs.Folded.{complete, each_new, each_held}
 
 -- a fault that changes an output at the point is detected there
 changed : (n : Network) (fault : Fault) (o : ℕ) (x : Set) → changes n fault o x ≡ true → detects n fault x ≡ true
-changed n fault o x h = by_test (eqb (out n (Some fault) x) (out n None x)) refl
-  where
-    by_test : (b : Bool) → eqb (out n (Some fault) x) (out n None x) ≡ b → not b ≡ true
-    by_test true e =
-        let same : out n (Some fault) x ≡ out n None x = eqb-true _ _ e in
-        absurd (true≢false (sym h ∙ ap (λ s. differ (has (out n None x) o) (has s o)) same ∙ differ-same (has (out n None x) o)))
-    by_test false e = refl
+changed n fault o x h =
+    ap not (ne_eqb _ _ (λ same. true≢false (sym h ∙ ap (λ s. differ (has (out n None x) o) (has s o)) same ∙ differ-same (has (out n None x) o))))
 
 out-above : (n : Network) (fault : Option Fault) (x : Set) (k : ℕ) → length n.outputs ≤ k → has (out n fault x) k ≡ false
 unfolding out
@@ -89,11 +84,8 @@ module _ (n : Network) (p : Signs) (inputs : p.n ≡ length n.inputs) (real : (f
     is_complete fault place =
         elim (complete (detects n) (test_for n p) (test-detects n p) [] (fault_list n) fault ((places fault).1 place)) [
           | inl e ↦ inr (no_test fault e)
-          | inr told ↦ inl (by_point (Any-from_list_any (detects n fault) _ told))
+          | inr told ↦ let at = Any-from_list_any (detects n fault) _ told in inl (at.1, (at.0, at.2, at.3), (real fault at.1).1 at.4)
         ]
-      where
-        by_point : (k : ℕ) × (x : Set) × (k < length (tests_of n p)) × (get_or (tests_of n p) k x ≡ x) × (detects n fault x ≡ true) → IsDetected n (tests_of n p) fault
-        by_point (k, x, l, e, h) = (x, (k, l, e), (real fault x).1 h)
 
     pub is_each_new : IsEachNew n (tests_of n p)
     unfolding tests_of

@@ -3,21 +3,15 @@ use Rattle.std.proofs.Common.{◌≡◌, ℕ, zero, suc, ◌+◌, ◌<◌, ◌�
 use Rattle.std.specs.Prelude.{◌⊎◌, filter, fold, Contains}
 use Rattle.std.specs.List.{AllByRecursion, list_any}
 use Rattle.std.specs.Option.{option_to_list}
-use Rattle.std.proofs.lemmas.Bool.{cases_Bool, cases_lt, or_left, or_right, true≢false}
+use Rattle.std.proofs.lemmas.Bool.{cases_Bool, cases_lt, or_left, or_right, true≢false, false_from_ne_true}
 use Rattle.std.proofs.lemmas.List.{get_or_append_left, length_push, get_or_push}
-use Rattle.std.proofs.lemmas.List.Folds.{list_any-append}
+use Rattle.std.proofs.lemmas.List.Folds.{list_any-append, list_any_at}
 use Rattle.ae_base.proofs.Distinct.{each-append}
 use Rattle.ae_base.proofs.Contained.{Contains-first, Contains-later, Contains-cases, nothing_in_none}
 
-neither : (a b : Bool) → (a || b) ≡ false → (a ≡ false) × (b ≡ false)
-neither true b h = absurd (true≢false h)
-neither false b h = (refl, h)
-
 -- no test of the list detects the fault: each one alone does not
 none_at : {P : Type 0} (q : P → Bool) (xs : List P) (d : P) (k : ℕ) → list_any q xs ≡ false → k < length xs → q (get_or xs k d) ≡ false
-none_at q [] d k h l = absurd (omega (arith, l))
-none_at q (x ∷ xs) d zero h l = (neither (q x) (list_any q xs) h).0
-none_at q (x ∷ xs) d (suc k) h l = none_at q xs d k (neither (q x) (list_any q xs) h).1 (omega arith)
+none_at q xs d k h l = false_from_ne_true _ (λ e. true≢false (sym (list_any_at q xs k d l e) ∙ h))
 
 module _ {G P : Type 0} (tells : G → P → Bool) (test : G → Option P) where
   -- with the test for the fault at the end, where no test of the list detects it
@@ -27,24 +21,21 @@ module _ {G P : Type 0} (tells : G → P → Bool) (test : G → Option P) where
   pub grown-old : (pts : List P) (g : G) → list_any (tells g) pts ≡ true → grown pts g ≡ pts
   grown-old pts g h = rw h refl
 
-  pub grown-none : (pts : List P) (g : G) → test g ≡ None → grown pts g ≡ pts
-  grown-none pts g e = ap (λ o. cond (list_any (tells g) pts) pts (pts ++ option_to_list o)) e ∙ either_way (list_any (tells g) pts)
-    where
-      either_way : (b : Bool) → cond b pts (pts ++ []) ≡ pts
-      either_way true = refl
-      either_way false = append-nil pts
-
   pub grown-new : (pts : List P) (g : G) (x : P) → list_any (tells g) pts ≡ false → test g ≡ Some x → grown pts g ≡ pts ++ x ∷ []
   grown-new pts g x h e = rw (h, e) refl
 
   -- ---- what is there stays
 
-  more : (pts : List P) (g : G) → (ys : List P) × (grown pts g ≡ pts ++ ys)
-  more pts g = by_test (list_any (tells g) pts)
+  -- nothing is added, or a test that was found
+  grown-cases : (pts : List P) (g : G) → (grown pts g ≡ pts) ⊎ ((x : P) × (test g ≡ Some x) × (list_any (tells g) pts ≡ false) × (grown pts g ≡ pts ++ x ∷ []))
+  grown-cases pts g = elim (cases_Bool (list_any (tells g) pts)) [ inl h ↦ inl (grown-old pts g h) | inr h ↦ by_test h (test g) refl ]
     where
-      by_test : (b : Bool) → (ys : List P) × (cond b pts (pts ++ option_to_list (test g)) ≡ pts ++ ys)
-      by_test true = ([], sym (append-nil pts))
-      by_test false = (option_to_list (test g), refl)
+      by_test : list_any (tells g) pts ≡ false → (o : Option P) → test g ≡ o → (grown pts g ≡ pts) ⊎ ((x : P) × (test g ≡ Some x) × (list_any (tells g) pts ≡ false) × (grown pts g ≡ pts ++ x ∷ []))
+      by_test h None e = inl (rw (h, e) (append-nil pts))
+      by_test h (Some x) e = inr (x, e, h, grown-new pts g x h e)
+
+  more : (pts : List P) (g : G) → (ys : List P) × (grown pts g ≡ pts ++ ys)
+  more pts g = elim (grown-cases pts g) [ inl e ↦ ([], e ∙ sym (append-nil pts)) | inr (x, e, h, is) ↦ (x ∷ [], is) ]
 
   pub front : (pts : List P) (gs : List G) → (ys : List P) × (fold grown pts gs ≡ pts ++ ys)
   front pts [] = ([], sym (append-nil pts))
@@ -72,12 +63,8 @@ module _ {G P : Type 0} (tells : G → P → Bool) (test : G → Option P) where
   -- what holds of each test for a fault holds of all
   pub each_held : (Q : P → Type 0) → ((g : G) (x : P) → test g ≡ Some x → Q x) → (pts : List P) (gs : List G) → AllByRecursion Q pts → AllByRecursion Q (fold grown pts gs)
   each_held Q h pts [] k = k
-  each_held Q h pts (g ∷ gs) k = each_held Q h (grown pts g) gs (by_told (list_any (tells g) pts) (test g) refl)
-    where
-      by_told : (b : Bool) (o : Option P) → test g ≡ o → AllByRecursion Q (cond b pts (pts ++ option_to_list o))
-      by_told true o e = k
-      by_told false None e = each-append Q pts [] k tt
-      by_told false (Some x) e = each-append Q pts (x ∷ []) k (h g x e, tt)
+  each_held Q h pts (g ∷ gs) k =
+      each_held Q h (grown pts g) gs (elim (grown-cases pts g) [ inl e ↦ rw e k | inr (x, e, new, is) ↦ rw is (each-append Q pts (x ∷ []) k (h g x e, tt)) ])
 
   module _ (some : (g : G) (x : P) → test g ≡ Some x → tells g x ≡ true) where
     -- after its turn a fault is detected, or has no test
@@ -117,17 +104,18 @@ module _ {G P : Type 0} (tells : G → P → Bool) (test : G → Option P) where
     -- each test that is added is new
     pub each_new : (d : P) (pts : List P) (gs : List G) (k : ℕ) → length pts ≤ k → k < length (fold grown pts gs) → IsNewAt d gs (fold grown pts gs) k
     each_new d pts [] k from below = absurd (omega (arith, from, below))
-    each_new d pts (g ∷ gs) k from below = by_told (λ l. each_new d (grown pts g) gs k l below) (list_any (tells g) pts) refl
+    each_new d pts (g ∷ gs) k from below = elim (grown-cases pts g) [
+      | inl e ↦ let r = each_new d (grown pts g) gs k (rw e from) below in (r.0, Contains-later g gs r.0 r.1, r.2, r.3)
+      | inr (x, e, h, is) ↦ elim (cases_lt (length pts) k) [
+        | inl l ↦ let r = each_new d (grown pts g) gs k (rw is (omega (arith, l, length_push pts x))) below in (r.0, Contains-later g gs r.0 r.1, r.2, r.3)
+        | inr le ↦ here x h e is (omega (arith, le, from))
+      ]
+    ]
       where
-        later : (length (grown pts g) ≤ k → IsNewAt d gs (fold grown (grown pts g) gs) k) → (us : List P) → grown pts g ≡ us → length us ≤ k → IsNewAt d (g ∷ gs) (fold grown (grown pts g) gs) k
-        later ih us e l =
-            let r = ih (rw e l) in
-            (r.0, Contains-later g gs r.0 r.1, r.2, r.3)
-
-        here : (x : P) → list_any (tells g) pts ≡ false → test g ≡ Some x → k ≡ length pts → IsNewAt d (g ∷ gs) (fold grown (grown pts g) gs) k
-        here x h e at =
+        here : (x : P) → list_any (tells g) pts ≡ false → test g ≡ Some x → grown pts g ≡ pts ++ x ∷ [] → k ≡ length pts → IsNewAt d (g ∷ gs) (fold grown (grown pts g) gs) k
+        here x h e is at =
             let r = front (grown pts g) gs in
-            let whole : fold grown (grown pts g) gs ≡ (pts ++ x ∷ []) ++ r.0 = r.1 ∙ ap (λ us. us ++ r.0) (grown-new pts g x h e) in
+            let whole : fold grown (grown pts g) gs ≡ (pts ++ x ∷ []) ++ r.0 = r.1 ∙ ap (λ us. us ++ r.0) is in
             let long : length (pts ++ x ∷ []) ≡ length pts + 1 = length_push pts x in
             let earlier : (j : ℕ) → j < k → get_or ((pts ++ x ∷ []) ++ r.0) j d ≡ get_or pts j d =
             λ j l. get_or_append_left (pts ++ x ∷ []) r.0 d j (omega (arith, long, at, l)) ∙ get_or_append_left pts (x ∷ []) d j (omega (arith, at, l)) in
@@ -138,15 +126,3 @@ module _ {G P : Type 0} (tells : G → P → Bool) (test : G → Option P) where
               ap (tells g) there ∙ some g x e,
               λ j l. ap (tells g) (earlier j l) ∙ none_at (tells g) pts d j h (omega (arith, at, l)),
             )
-
-        by_test : (length (grown pts g) ≤ k → IsNewAt d gs (fold grown (grown pts g) gs) k) → list_any (tells g) pts ≡ false → (o : Option P) → test g ≡ o → IsNewAt d (g ∷ gs) (fold grown (grown pts g) gs) k
-        by_test ih h None e = later ih pts (grown-none pts g e) from
-        by_test ih h (Some x) e =
-            elim (cases_lt (length pts) k) [
-              | inl l ↦ later ih (pts ++ x ∷ []) (grown-new pts g x h e) (omega (arith, l, length_push pts x))
-              | inr le ↦ here x h e (omega (arith, le, from))
-            ]
-
-        by_told : (length (grown pts g) ≤ k → IsNewAt d gs (fold grown (grown pts g) gs) k) → (b : Bool) → list_any (tells g) pts ≡ b → IsNewAt d (g ∷ gs) (fold grown (grown pts g) gs) k
-        by_told ih true h = later ih pts (grown-old pts g h) from
-        by_told ih false h = by_test ih h (test g) refl

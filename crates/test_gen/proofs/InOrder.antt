@@ -2,13 +2,13 @@
 use Rattle.std.proofs.Common.{◌≡◌, ◌≢◌, ℕ, zero, suc, ◌+◌, ◌<◌, Bool, true, false, not, ◌||◌, ◌&&◌, cond, inl, inr, List, [], ◌∷◌, ◌++◌, Some, refl, sym, ap, ap₂, ◌∙◌, eq-eqb, ne_eqb, arith}
 use Rattle.std.specs.Prelude.{◌⊎◌, filter, slice_get}
 use Rattle.std.specs.List.{AllByRecursion}
-use Rattle.std.proofs.lemmas.Bool.{cases_eq, cases_Bool, cases_lt, true≢false, false≢true}
+use Rattle.std.proofs.lemmas.Bool.{cases_eq, cases_Bool, cases_lt, true≢false, false≢true, not-true, not-false, false_from_ne_true}
 use Rattle.std.proofs.lemmas.List.Elements.{filter-append}
 use Rattle.ae_base.specs.Mask.{Set, empty, has}
 use Rattle.ae_base.specs.Cube.{Signs}
 use Rattle.ae_base.specs.Points.{put}
 use Rattle.ae_base.specs.Terms.{IsPoint, literal}
-use Rattle.ae_base.proofs.Points.{put-same, put-other}
+use Rattle.ae_base.proofs.Points.{put-same, put-other, inside-put, literal-low}
 use Rattle.ae_base.proofs.Sets.{same_set, has-empty, inside-above, inside-from}
 use Rattle.ae_base.proofs.Distinct.{each-append}
 use Rattle.fn_store.specs.Davio.{low, high}
@@ -22,16 +22,14 @@ low-literal p j y h = by_sign (has p.plain j) (has y j) h
   where
     by_sign : (b v : Bool) → cond b v (not v) ≡ false → v ≡ not b
     by_sign true v e = e
-    by_sign false true e = refl
-    by_sign false false e = absurd (true≢false e)
+    by_sign false v e = not-false v e
 
 high-literal : (p : Signs) (j : ℕ) (y : Set) → literal p j y ≡ true → has y j ≡ has p.plain j
 high-literal p j y h = by_sign (has p.plain j) (has y j) h
   where
     by_sign : (b v : Bool) → cond b v (not v) ≡ true → v ≡ b
     by_sign true v e = e
-    by_sign false false e = refl
-    by_sign false true e = absurd (false≢true e)
+    by_sign false v e = not-true v e
 
 -- ---- points that agree below an input
 
@@ -49,12 +47,6 @@ put_below j v x y at same k l =
 from_put : (j : ℕ) (v : Bool) (x y : Set) → SameBelow (suc j) y (put j v x) → SameBelow j y x
 from_put j v x y same k l = same k (omega arith) ∙ put-other j k v x (λ e. absurd (omega (arith, e, l)))
 
-at_put : (j : ℕ) (v : Bool) (x y : Set) → SameBelow (suc j) y (put j v x) → has y j ≡ v
-at_put j v x y same = same j (omega arith) ∙ put-same j v x
-
-put_point : (n j : ℕ) (v : Bool) (x : Set) → j < n → IsPoint n x → IsPoint n (put j v x)
-put_point n j v x l is = inside-from n (put j v x) (λ k above. put-other j k v x (λ e. absurd (omega (arith, e, l, above))) ∙ inside-above n x is k above)
-
 literal-at : (p : Signs) (k : ℕ) (x y : Set) → has x k ≡ has y k → literal p k x ≡ literal p k y
 literal-at p k x y e = ap (λ v. cond (has p.plain k) v (not v)) e
 
@@ -68,7 +60,7 @@ each_point : (p : Signs) (m j : ℕ) (x : Set) → j + m ≡ p.n → IsPoint p.n
 unfolding points_from
 each_point p zero j x e is = (is, tt)
 each_point p (suc m) j x e is =
-    each-append (IsPoint p.n) _ _ (each_point p m (suc j) (low p j x) (omega arith) (put_point p.n j _ x (omega arith) is)) (each_point p m (suc j) (high p j x) (omega arith) (put_point p.n j _ x (omega arith) is))
+    each-append (IsPoint p.n) _ _ (each_point p m (suc j) (low p j x) (omega arith) (inside-put p.n j _ x is (omega arith))) (each_point p m (suc j) (high p j x) (omega arith) (inside-put p.n j _ x is (omega arith)))
 
 none_in : (p : Signs) (f : Set → Bool) (m j : ℕ) (x : Set) → j + m ≡ p.n → IsPoint p.n x → ((y : Set) → IsPoint p.n y → SameBelow j y x → f y ≡ false) → filter f (points_from p m j x) ≡ []
 unfolding points_from
@@ -76,8 +68,8 @@ none_in p f zero j x e is h = let k = h x is (λ k l. refl) in rw k refl
 none_in p f (suc m) j x e is h =
     filter-append f (points_from p m (suc j) (low p j x)) (points_from p m (suc j) (high p j x))
     ∙ ap₂ (λ a b. a ++ b)
-    (none_in p f m (suc j) (low p j x) (omega arith) (put_point p.n j _ x (omega arith) is) (λ y point same. h y point (from_put j _ x y same)))
-    (none_in p f m (suc j) (high p j x) (omega arith) (put_point p.n j _ x (omega arith) is) (λ y point same. h y point (from_put j _ x y same)))
+    (none_in p f m (suc j) (low p j x) (omega arith) (inside-put p.n j _ x is (omega arith)) (λ y point same. h y point (from_put j _ x y same)))
+    (none_in p f m (suc j) (high p j x) (omega arith) (inside-put p.n j _ x is (omega arith)) (λ y point same. h y point (from_put j _ x y same)))
 
 pub no_front : {X : Type 0} (xs ys : List X) → xs ++ ys ≡ [] → (xs ≡ []) × (ys ≡ [])
 no_front [] ys e = (refl, e)
@@ -87,16 +79,12 @@ none_out : (p : Signs) (f : Set → Bool) (m j : ℕ) (x : Set) → j + m ≡ p.
 unfolding points_from
 none_out p f zero j x e is none y point same =
     let same_one : y ≡ x = same_point p.n y x point is (λ k l. same k (omega arith)) in
-    ap f same_one ∙ dropped (f x) none
-  where
-    dropped : (b : Bool) → cond b (x ∷ []) [] ≡ [] → b ≡ false
-    dropped true h = absurd cc
-    dropped false h = refl
+    ap f same_one ∙ false_from_ne_true _ (λ kept. let one = rw kept at none in cc)
 none_out p f (suc m) j x e is none y point same =
     let parts : (filter f (points_from p m (suc j) (low p j x)) ≡ []) × (filter f (points_from p m (suc j) (high p j x)) ≡ []) = no_front _ _ (sym (filter-append f (points_from p m (suc j) (low p j x)) (points_from p m (suc j) (high p j x))) ∙ none) in
     elim (cases_Bool (literal p j y)) [
-      | inl at ↦ none_out p f m (suc j) (high p j x) (omega arith) (put_point p.n j _ x (omega arith) is) parts.1 y point (put_below j _ x y (high-literal p j y at) same)
-      | inr at ↦ none_out p f m (suc j) (low p j x) (omega arith) (put_point p.n j _ x (omega arith) is) parts.0 y point (put_below j _ x y (low-literal p j y at) same)
+      | inl at ↦ none_out p f m (suc j) (high p j x) (omega arith) (inside-put p.n j _ x is (omega arith)) parts.1 y point (put_below j _ x y (high-literal p j y at) same)
+      | inr at ↦ none_out p f m (suc j) (low p j x) (omega arith) (inside-put p.n j _ x is (omega arith)) parts.0 y point (put_below j _ x y (low-literal p j y at) same)
     ]
 
 pub first_of_front : {X : Type 0} (xs ys : List X) (x : X) → slice_get xs 0 ≡ Some x → slice_get (xs ++ ys) 0 ≡ Some x
@@ -129,26 +117,16 @@ least_first p f (suc m) j x y e is point same holds least =
     ∙ elim (cases_Bool (literal p j y)) [
       | inr at ↦
           first_of_front (filter f A) (filter f B) y
-          (least_first p f m (suc j) (low p j x) y (omega arith) (put_point p.n j _ x (omega arith) is) point (put_below j _ x y (low-literal p j y at) same) holds
+          (least_first p f m (suc j) (low p j x) y (omega arith) (inside-put p.n j _ x is (omega arith)) point (put_below j _ x y (low-literal p j y at) same) holds
           (λ z z_point z_same h. least z z_point (from_put j _ x z z_same) h))
       | inl at ↦
           let none : filter f A ≡ [] =
-          none_in p f m (suc j) (low p j x) (omega arith) (put_point p.n j _ x (omega arith) is) (λ z z_point z_same. not_one z z_point z_same at (f z) refl) in
+          none_in p f m (suc j) (low p j x) (omega arith) (inside-put p.n j _ x is (omega arith)) (λ z z_point z_same. false_from_ne_true _ (λ h.
+          not_above p j x y z same (from_put j _ x z z_same) at (literal-at p j z (low p j x) (z_same j (omega arith)) ∙ literal-low p j x) (least z z_point (from_put j _ x z z_same) h))) in
           ap (λ us. slice_get (us ++ filter f B) 0) none
-          ∙ least_first p f m (suc j) (high p j x) y (omega arith) (put_point p.n j _ x (omega arith) is) point (put_below j _ x y (high-literal p j y at) same) holds
+          ∙ least_first p f m (suc j) (high p j x) y (omega arith) (inside-put p.n j _ x is (omega arith)) point (put_below j _ x y (high-literal p j y at) same) holds
           (λ z z_point z_same h. least z z_point (from_put j _ x z z_same) h)
     ]
-  where
-    literal_low : (z : Set) → SameBelow (suc j) z (low p j x) → literal p j z ≡ false
-    literal_low z z_same = by_sign (has p.plain j) (has z j) (at_put j _ x z z_same)
-      where
-        by_sign : (b v : Bool) → v ≡ not b → cond b v (not v) ≡ false
-        by_sign true v k = k
-        by_sign false v k = ap not k
-
-    not_one : (z : Set) → IsPoint p.n z → SameBelow (suc j) z (low p j x) → literal p j y ≡ true → (v : Bool) → f z ≡ v → v ≡ false
-    not_one z z_point z_same at true h = absurd (not_above p j x y z same (from_put j _ x z z_same) at (literal_low z z_same) (least z z_point (from_put j _ x z z_same) h))
-    not_one z z_point z_same at false h = refl
 
 empty_point : (n : ℕ) → IsPoint n empty
 empty_point n = inside-from n empty (λ k l. has-empty k)

@@ -20,10 +20,7 @@ there : (refs : List FnRef) (k : ℕ) → k < length refs → slice_get refs k �
 there refs k l = slice_get-get_or refs k (record { at = 0 }) l
 
 Shows-kept : (s t : Functions) (r : FnRef) (f : Set → Bool) → Keeps s t → Shows s r f → Shows t r f
-Shows-kept s t r f keeps shows = record {
-  live = keeps.live r shows.live;
-  is = subst (λ (p : Signs). IsExpansion p f (t.terms r.at)) (sym keeps.polarity) (subst (λ ts. IsExpansion s.polarity f ts) (sym (keeps.terms r shows.live)) shows.is);
-}
+Shows-kept s t r f keeps shows = record { live = keeps.live r shows.live; is = rw (keeps.polarity, keeps.terms r shows.live) shows.is }
 
 -- the functions of the first o pairs are equal, and the store has kept its functions
 pub record Agreed (start now : Functions) (good bad : List FnRef) (o : ℕ) : Type 0 where

@@ -2,6 +2,7 @@
 use Rattle.std.proofs.Common.{◌≡◌, ℕ, zero, suc, ◌+◌, ◌<◌, Bool, true, false, not, cond, List, [], ◌∷◌, ◌++◌, length, get_or, take, Option, Some, None, refl, sym, ap, ◌∙◌, append-nil, arith}
 use Rattle.std.specs.Prelude.{◌↔◌, filter, is_none}
 use Rattle.std.specs.List.{AllZip}
+use Rattle.std.proofs.lemmas.Bool.{false_from_ne_true}
 use Rattle.std.proofs.lemmas.List.{take_more}
 use Rattle.std.proofs.lemmas.List.Elements.{filter-append}
 use Rattle.ae_base.specs.Mask.{Set}
@@ -48,10 +49,6 @@ pub one_point : (n : Network) (x : Set) → ((fault : Fault) → Detects n fault
 one_point n x real faults found h = AllZip-weaker (IsFirstTelling n (x ∷ [])) (λ fault first. not (detects n fault x) ≡ is_none first) each faults found h
   where
     each : (fault : Fault) (first : Option ℕ) → IsFirstTelling n (x ∷ []) fault first → not (detects n fault x) ≡ is_none first
-    each fault None missed = by_test (detects n fault x) refl
-      where
-        by_test : (b : Bool) → detects n fault x ≡ b → not b ≡ true
-        by_test true e = absurd (missed 0 (omega arith) ((real fault).1 e))
-        by_test false e = refl
+    each fault None missed = ap not (false_from_ne_true _ (λ e. missed 0 (omega arith) ((real fault).1 e)))
     each fault (Some zero) is = ap not ((real fault).0 is.detects)
     each fault (Some (suc i)) is = absurd (let l = is.is_place in omega (arith, l))

@@ -3,7 +3,7 @@ use Rattle.std.proofs.Common.{◌≡◌, ℕ, suc, ◌+◌, ◌<◌, ◌≤◌, 
 use Rattle.std.specs.Prelude.{filter, fold, is_none}
 use Rattle.std.specs.List.{AllByRecursion, between, list_any}
 use Rattle.std.proofs.lemmas.Slice.{between_to_end}
-use Rattle.std.proofs.lemmas.Bool.{cases_Bool, or_left, or_right, true≢false, false≢true}
+use Rattle.std.proofs.lemmas.Bool.{cases_Bool, or_left, or_right, true≢false, not-true, not-false}
 use Rattle.std.proofs.lemmas.List.Folds.{list_any-append}
 use Rattle.std.specs.Option.{option_to_list}
 use Rattle.std.proofs.Math.Seq.{drop-cons}
@@ -44,28 +44,20 @@ pub Searching-some : (start now next : Functions) (n : Network) (all rest : List
 Searching-some start now next n all rest g x points idle s kept e = record {
   keeps = Keeps-through start now next s.keeps kept;
   tests =
-      sym (batch (detects n) (test_for n start.polarity) keep (points ++ x ∷ []) rest (λ h out. told h (by_not (detects n h x) out)))
+      sym (batch (detects n) (test_for n start.polarity) keep (points ++ x ∷ []) rest (λ h out. told h (not-false (detects n h x) out)))
       ∙ ap (λ us. fold (with_test n start.polarity) us rest) (sym (grown-new (detects n) (test_for n start.polarity) points g x s.fresh.0 e))
       ∙ s.tests;
   without =
-      ap (λ us. idle ++ us) (filter-filter (has_no_test n start.polarity) keep (λ h out. has_one h (by_not (detects n h x) out) (test_for n start.polarity h) refl) rest)
+      ap (λ us. idle ++ us) (filter-filter (has_no_test n start.polarity) keep (λ h out. has_one h (not-false (detects n h x) out) (test_for n start.polarity h) refl) rest)
       ∙ ap (λ (o : Option Set). idle ++ cond (is_none o) (g ∷ filter (has_no_test n start.polarity) rest) (filter (has_no_test n start.polarity) rest)) (sym e)
       ∙ s.without;
   fresh =
       each_kept (λ h. list_any (detects n h) points ≡ false) (λ h. list_any (detects n h) (points ++ x ∷ []) ≡ false) keep
-      (λ h old new. list_any-append (detects n h) points (x ∷ []) ∙ rw old (rw (by_kept (detects n h x) new) refl)) rest s.fresh.1;
+      (λ h old new. list_any-append (detects n h) points (x ∷ []) ∙ rw old (rw (not-true (detects n h x) new) refl)) rest s.fresh.1;
 }
   where
     keep : Fault → Bool
     keep h = not (detects n h x)
-
-    by_not : (b : Bool) → not b ≡ false → b ≡ true
-    by_not true h = refl
-    by_not false h = absurd (true≢false h)
-
-    by_kept : (b : Bool) → not b ≡ true → b ≡ false
-    by_kept true h = absurd (false≢true h)
-    by_kept false h = refl
 
     told : (h : Fault) → detects n h x ≡ true → list_any (detects n h) (points ++ x ∷ []) ≡ true
     told h d = list_any-append (detects n h) points (x ∷ []) ∙ or_right _ _ (or_left _ _ d)
