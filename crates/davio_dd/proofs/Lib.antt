@@ -4,5 +4,4 @@ pub mod Growing
 pub mod Splits
 pub mod Terms
 pub mod Point
-pub mod Walks
 pub mod Shown

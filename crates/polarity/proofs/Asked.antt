@@ -1,27 +1,89 @@
--- Asking an advisor once more: what it is told, and the best so far.
-use Rattle.std.proofs.Common.{◌≡◌, true, ℕ, suc, ◌<◌, ◌≤◌, cond, ltb, List, [], ◌∷◌, ◌++◌, length, map, drop, refl, ap, sym, subst, ◌∙◌, inl, inr, arith, append_assoc, append-nil}
+-- Asking an advisor once more, and advisor by advisor: what each is told, and the best so far. What is chosen then is one polarity.
+use Rattle.std.proofs.Common.{◌≡◌, ℕ, ◌+◌, ◌<◌, ◌≤◌, List, [], ◌∷◌, ◌++◌, length, map, take, drop, get_or, ap, sym, subst, ◌∙◌, arith, add-one, suc, true, cond, ltb, refl, inl, inr, append_assoc, append-nil}
+use Rattle.std.proofs.Math.ListN.{set}
+use Rattle.std.specs.List.{AllZip, All, filter, AllByRecursion}
+use Rattle.std.proofs.lemmas.List.{take-append-drop, take-set, take_more_set, drop-set-lt, drop_all, drop_more, map-append, map_more, map_push, take-map, drop-map}
+use Rattle.std.proofs.lemmas.List.Elements.{AllZip-push, All-append, All-cons, All-nil, All-push, All-weaker, filter-append, length_all_zip, recursion_from_All}
+use Rattle.ae_base.specs.Source.{Source}
+use Rattle.polarity.specs.Asking.{AreAskedInOrder, IsBeingAsked, AreAsked, cheaper_at}
+use Rattle.polarity.specs.Search.{Advised, IsAsked, IsChosen, IsFirstCheapest, IsTold, Stands, advised, candidates, is_over, new_entries, told_at}
 use Rattle.std.specs.Prelude.{not}
-use Rattle.std.specs.List.{All, filter}
 use Rattle.std.proofs.Math.Seq.{drop-append_seam}
 use Rattle.std.proofs.lemmas.Bool.{cases_lt, lt-ltb, le-ltb}
 use Rattle.std.proofs.lemmas.Bool.Decides.{nat_tests}
-use Rattle.std.proofs.lemmas.List.{map-append}
-use Rattle.std.proofs.lemmas.List.Elements.{All-append, All-cons, All-nil, All-push, All-weaker, AllZip-push, filter-append, length_all_zip}
 use Rattle.std.proofs.lemmas.List.Sums.{sum_by-take-le}
 use Rattle.ae_base.specs.Cube.{Signs}
-use Rattle.ae_base.specs.Source.{Source}
 use Rattle.expansion.specs.Functions.{AreExpansions}
 use Rattle.expansion.specs.Terms.{Terms, cost}
 use Rattle.polarity.specs.Advisors.{entry_of, ends_untold}
-use Rattle.polarity.specs.Asking.{IsBeingAsked, AreAsked, cheaper_at}
 use Rattle.polarity.specs.Cost.{cost_of, IsLocallyCheapest}
 use Rattle.polarity.specs.Settling.{settling}
 use Rattle.polarity.specs.Makers.{HasTooManyAt}
-use Rattle.polarity.specs.Search.{Advised, IsAsked, IsChosen, IsFirstCheapest, IsTold, Stands, advised, candidates, is_over, new_entries, told_at}
 use Rattle.polarity.proofs.Rounds.{Costs}
 use Rattle.polarity.specs.declared.entry.Entry.{Entry}
 use Rattle.polarity.specs.declared.entry.Told.{Told}
 use Rattle.polarity.specs.declared.entry.Told.TheVariants.{Untold, Over, Cost}
+use Rattle.ae_base.proofs.Distinct.{each_front}
+
+-- as f sees them: the elements passed before and after the write at i, and the rest, which stays
+pub record Seam {X Y : Type 0} (f : X → Y) (xs0 xs : List X) (i : ℕ) (x y : X) : Type 0 where
+  pub before : map f (take (i + 1) xs0) ≡ map f (take i xs0) ++ f x ∷ []
+  pub after : map f (take (i + 1) (set xs i y)) ≡ map f (take i xs) ++ f y ∷ []
+  pub rest : drop (i + 1) (set xs i y) ≡ drop (i + 1) xs0
+
+pub seam : {X Y : Type 0} (f : X → Y) (xs0 xs : List X) (i : ℕ) (d y : X) → length xs ≡ length xs0 → i < length xs → drop i xs ≡ drop i xs0 → Seam f xs0 xs i (get_or xs i d) y
+seam f xs0 xs i d y long lt rest =
+    let lt0 : i < length xs0 = omega arith in
+    let both : get_or xs i d ∷ drop (i + 1) xs ≡ get_or xs0 i d ∷ drop (i + 1) xs0 = sym (drop_more xs i d lt) ∙ rest ∙ drop_more xs0 i d lt0 in
+    let same : get_or xs0 i d ≡ get_or xs i d = cc in
+    let next : drop (i + 1) xs ≡ drop (i + 1) xs0 = cc in
+    record {
+      before = map_more f xs0 i d lt0 ∙ ap (λ v. map f (take i xs0) ++ f v ∷ []) same;
+      after = ap (map f) (take_more_set xs i y lt) ∙ map_push f (take i xs) y;
+      rest = drop-set-lt (i + 1) xs i y (omega arith) ∙ next;
+    }
+
+pub AllZip-pass : {X Y : Type 0} (f : X → Y) (R : Y → Y → Type 0) (xs0 xs : List X) (i : ℕ) (x y : X) → Seam f xs0 xs i x y → AllZip R (map f (take i xs0)) (map f (take i xs)) → R (f x) (f y)
+    → AllZip R (map f (take (i + 1) xs0)) (map f (take (i + 1) (set xs i y)))
+AllZip-pass f R xs0 xs i x y s h r = rw (s.before, s.after) (AllZip-push R (map f (take i xs0)) (map f (take i xs)) (f x) (f y) h r)
+
+AllZip-beside : {Y : Type 0} (R : Y → Y → Type 0) → ((y : Y) → R y y) → (xs ys zs : List Y) → AllZip R xs ys → AllZip R (xs ++ zs) (ys ++ zs)
+AllZip-beside R r [] [] [] h = tt
+AllZip-beside R r [] [] (z ∷ zs) h = (r z, AllZip-beside R r [] [] zs tt)
+AllZip-beside R r (x ∷ xs) (y ∷ ys) zs h = (h.0, AllZip-beside R r xs ys zs h.1)
+AllZip-beside R r _ _ zs h = absurd h
+
+map-parts : {X Y : Type 0} (f : X → Y) (i : ℕ) (xs : List X) → map f (take i xs) ++ map f (drop i xs) ≡ map f xs
+map-parts f i xs = sym (map-append f (take i xs) (drop i xs)) ∙ ap (map f) (take-append-drop i xs)
+
+-- all places, where those up to i were passed and the rest stayed
+pub AllZip-whole : {X Y : Type 0} (f : X → Y) (R : Y → Y → Type 0) → ((y : Y) → R y y) → (xs0 xs : List X) (i : ℕ) → AllZip R (map f (take i xs0)) (map f (take i xs)) → drop i xs ≡ drop i xs0
+    → AllZip R (map f xs0) (map f xs)
+AllZip-whole f R r xs0 xs i h rest =
+    subst (λ l. AllZip R l (map f xs)) (map-parts f i xs0)
+    (subst (λ l. AllZip R (map f (take i xs0) ++ map f (drop i xs0)) l) (ap (λ l. map f (take i xs) ++ map f l) (sym rest) ∙ map-parts f i xs)
+    (AllZip-beside R r (map f (take i xs0)) (map f (take i xs)) (map f (drop i xs0)) h))
+
+-- ---- in order
+
+-- those up to i were asked, and those after i stayed
+ordered : {X : Type 0} (f : X → Advised) (s : Source) (limit : ℕ) (xs0 xs : List X) (i : ℕ) → AllZip (IsAsked s limit) (map f (take i xs0)) (map f (take i xs)) → drop (i + 1) xs ≡ drop (i + 1) xs0
+    → AreAskedInOrder s limit (map f xs0) (map f xs)
+ordered f s limit xs0 xs i asked rest = record {
+  whole = i;
+  asked = rw (take-map f i xs0, take-map f i xs) asked;
+  untouched = drop-map f (suc i) xs ∙ ap (map f) (rw add-one at rest) ∙ sym (drop-map f (suc i) xs0);
+}
+
+-- where the one at i was asked for some time
+pub ordered_stopped : {X : Type 0} (f : X → Advised) (s : Source) (limit : ℕ) (xs0 xs : List X) (i : ℕ) (x y : X) → Seam f xs0 xs i x y → AllZip (IsAsked s limit) (map f (take i xs0)) (map f (take i xs))
+    → AreAskedInOrder s limit (map f xs0) (map f (set xs i y))
+ordered_stopped f s limit xs0 xs i x y at asked = ordered f s limit xs0 (set xs i y) i (subst (λ l. AllZip (IsAsked s limit) (map f (take i xs0)) (map f l)) (sym (take-set xs i y)) asked) at.rest
+
+-- and where all were asked
+pub ordered_whole : {X : Type 0} (f : X → Advised) (s : Source) (limit : ℕ) (xs0 xs : List X) (i : ℕ) → AllZip (IsAsked s limit) (map f (take i xs0)) (map f (take i xs)) → length xs ≤ i → length xs0 ≤ i
+    → AreAskedInOrder s limit (map f xs0) (map f xs)
+ordered_whole f s limit xs0 xs i asked all all0 = ordered f s limit xs0 xs i asked (drop_all (i + 1) xs (omega arith) ∙ sym (drop_all (i + 1) xs0 (omega arith)))
 
 -- ---- what is told
 
@@ -151,11 +213,10 @@ stands_more before left left' log log' e h less grows = record {
 new_entries-push : (bs us : List Advised) (b u : Advised) → length bs ≡ length us
     → new_entries (bs ++ b ∷ []) (us ++ u ∷ []) ≡ new_entries bs us ++ drop (length b.log) u.log
 new_entries-push [] [] b u e = append-nil (drop (length b.log) u.log)
-new_entries-push [] (v ∷ us) b u e = absurd (omega (arith, e))
-new_entries-push (c ∷ bs) [] b u e = absurd (omega (arith, e))
 new_entries-push (c ∷ bs) (v ∷ us) b u e =
     ap (λ l. drop (length c.log) v.log ++ l) (new_entries-push bs us b u (omega (arith, e)))
     ∙ sym (append_assoc (drop (length c.log) v.log) (new_entries bs us) (drop (length b.log) u.log))
+new_entries-push _ _ b u e = absurd (omega (arith, e))
 
 -- after one more advisor
 pub asked_more : (s : Source) (limit : ℕ) (start : Signs) (bs us : List Advised) (b u : Advised) (best best' : Signs) → AreAsked s limit start bs us best
@@ -178,3 +239,33 @@ pub ends_untold-push : (log : List Entry) (p : Signs) → ends_untold (log ++ en
 ends_untold-push [] p = refl
 ends_untold-push (e ∷ []) p = refl
 ends_untold-push (e ∷ f ∷ rest) p = ends_untold-push (f ∷ rest) p
+
+module _ (s : Source) where
+  abbrev Dearer : Signs → List Signs → Type 0
+  Dearer p qs = AllByRecursion (λ q. cost_of s p < cost_of s q) qs
+
+  abbrev NoCheaper : Signs → List Signs → Type 0
+  NoCheaper p qs = AllByRecursion (λ q. cost_of s p ≤ cost_of s q) qs
+
+  -- of two first cheapest ones neither stands before the other
+  not_before : (p q y : Signs) (xb ys yb : List Signs) → p ∷ xb ≡ y ∷ (ys ++ q ∷ yb) → NoCheaper p xb → cost_of s q < cost_of s y → ⊥
+  not_before p q y xb ys yb same none dearer =
+      let head : p ≡ y = cc in
+      let tail : xb ≡ ys ++ q ∷ yb = cc in
+      let no = (each_front (λ r. cost_of s p ≤ cost_of s r) ys (q ∷ yb) (subst (NoCheaper p) tail none)).1.0 in
+      omega (arith, no, dearer, ap (cost_of s) head)
+
+  first_once : (xs ys xb yb : List Signs) (p q : Signs) → xs ++ p ∷ xb ≡ ys ++ q ∷ yb → Dearer p xs → NoCheaper p xb → Dearer q ys → NoCheaper q yb → p ≡ q
+  first_once [] [] xb yb p q same dp np dq nq = cc same
+  first_once [] (y ∷ ys) xb yb p q same dp np dq nq = absurd (not_before p q y xb ys yb same np dq.0)
+  first_once (x ∷ xs) [] xb yb p q same dp np dq nq = absurd (not_before q p x yb xs xb (sym same) nq dp.0)
+  first_once (x ∷ xs) (y ∷ ys) xb yb p q same dp np dq nq = first_once xs ys xb yb p q (cc same) dp.1 np dq.1 nq
+
+  one_cheapest : (ps : List Signs) (p q : Signs) → IsFirstCheapest s ps p → IsFirstCheapest s ps q → p ≡ q
+  one_cheapest ps p q a b =
+      first_once a.before b.before a.after b.after p q (sym a.is ∙ b.is)
+      (recursion_from_All _ a.before a.dearer) (recursion_from_All _ a.after a.no_cheaper) (recursion_from_All _ b.before b.dearer) (recursion_from_All _ b.after b.no_cheaper)
+
+  pub one_chosen : (start p q : Signs) (before after : List Advised) → IsChosen s start before after p → IsChosen s start before after q → p ≡ q
+  one_chosen start p q before after a b =
+      a.settling ∙ ap (settling s) (one_cheapest (start ∷ candidates (new_entries before after)) a.cheapest b.cheapest a.first b.first) ∙ sym b.settling

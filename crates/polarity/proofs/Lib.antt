@@ -1,5 +1,2 @@
 pub mod Asked
-pub mod Costs
-pub mod OneChoice
 pub mod Rounds
-pub mod Seams

@@ -1,7 +1,6 @@
 use Rattle.std.proofs.Common.{◌+◌, arith, ◌∙◌, sym}
 use Rattle.polarity.specs.Search.{Stands, advised}
-use Rattle.polarity.proofs.Asked.{asked_more, stands_still}
-use Rattle.polarity.proofs.Seams.{seam, AllZip-pass, AllZip-whole, ordered_stopped, ordered_whole}
+use Rattle.polarity.proofs.Asked.{asked_more, stands_still, seam, AllZip-pass, AllZip-whole, ordered_stopped, ordered_whole}
 use Rattle.polarity.proofs.asking.ask_each.Goals as goal
 
 pub returns-in_err-best-clause-stands : goal.returns-in_err-best-clause-stands

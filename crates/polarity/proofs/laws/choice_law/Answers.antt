@@ -1,4 +1,4 @@
-use Rattle.polarity.proofs.OneChoice.{one_chosen}
+use Rattle.polarity.proofs.Asked.{one_chosen}
 use Rattle.polarity.proofs.laws.choice_law.Goals as goal
 
 pub returns : goal.returns

@@ -1,4 +1,4 @@
-use Rattle.polarity.proofs.Costs.{cost-is}
+use Rattle.polarity.proofs.Rounds.{cost-is}
 use Rattle.polarity.proofs.laws.cost_law.Goals as goal
 
 pub returns : goal.returns

@@ -1,7 +1,7 @@
 use Rattle.std.proofs.Common.{◌++◌, ◌∙◌, ap, append-nil, arith, map, sym}
 use Rattle.ae_base.specs.Mask.{either}
 use Rattle.std.proofs.lemmas.Result.{on_ok_weaker}
-use Rattle.davio_dd.proofs.Walks.{pushed-node, terms-none, pushed-one}
+use Rattle.davio_dd.proofs.Terms.{pushed-node, terms-none, pushed-one}
 use Rattle.davio_dd.proofs.diagram.Davio.+push_terms.Goals as goal
 
 pub with-requires : goal.with-requires

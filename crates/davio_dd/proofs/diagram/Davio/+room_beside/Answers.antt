@@ -1,5 +1,5 @@
 use Rattle.std.proofs.Common.{ap, arith, length}
-use Rattle.davio_dd.proofs.Walks.{length-read, terms-none, room-node, room-one}
+use Rattle.davio_dd.proofs.Terms.{length-read, terms-none, room-node, room-one}
 use Rattle.davio_dd.proofs.diagram.Davio.+room_beside.Goals as goal
 
 pub returns-in_err-left-in-Some : goal.returns-in_err-left-in-Some

@@ -2,8 +2,7 @@ use Rattle.std.proofs.Common.{◌≡◌, subst, ap₂, ◌∙◌, ◌++◌, List
 use Rattle.std.specs.List.Sorted.{IsPermutation}
 use Rattle.ae_base.specs.Mask.{Set}
 use Rattle.davio_dd.specs.Diagram.{place_terms}
-use Rattle.davio_dd.proofs.Terms.{sorted-in_order, terms-once}
-use Rattle.davio_dd.proofs.Walks.{map-empty}
+use Rattle.davio_dd.proofs.Terms.{sorted-in_order, terms-once, map-empty}
 use Rattle.davio_dd.proofs.diagram.Davio.terms.Goals as goal
 
 pub returns : goal.returns
