@@ -2,7 +2,7 @@
 use Rattle.std.proofs.Common.{◌≡◌, ◌<◌, ◌≤◌, ◌+◌, ℕ, suc, Bool, true, false, not, List, [], ◌∷◌, ◌++◌, length, take, get_or, cond, inl, inr, refl, sym, ap, ◌∙◌, subst, arith}
 use Rattle.std.specs.Prelude.{◌↔◌, Contains, IsTrue, None, Option, Some, filter, is_none, slice_get}
 use Rattle.std.specs.Option.{is_some}
-use Rattle.std.proofs.lemmas.List.{append-nil, length-append, map-append, take_all}
+use Rattle.std.proofs.lemmas.List.{append-nil, length-append, length-map, map-append, take_all}
 use Rattle.std.proofs.lemmas.List.Elements.{Contains-push_cases, filter_more}
 use Rattle.std.proofs.lemmas.Bool.{false≢true}
 use Rattle.std.proofs.lemmas.Option.{same_Some, slice_get-get_or}
@@ -27,14 +27,11 @@ use Rattle.ae_base.specs.declared.step.Step.{Step}
 
 -- ---- words
 
-trees_one : (a b : List Step) → Tree a ≡ Tree b → a ≡ b
-trees_one a b e = cc e
-
 -- what is shown is the word
 pub evidence_is : (n : Network) (fault : Fault) (word : List Step) → (WordHolds n fault word → IsEvidence n fault (Tree word)) × (IsEvidence n fault (Tree word) → WordHolds n fault word)
 evidence_is n fault word = (
   λ holds. record { word = word; is_shown = refl; holds = holds },
-  λ e. subst (WordHolds n fault) (sym (trees_one word e.word e.is_shown)) e.holds,
+  λ e. subst (WordHolds n fault) (sym (cc e.is_shown)) e.holds,
 )
 
 -- a line of the same name and value is a proof where it shows evidence, and any other is none
@@ -52,17 +49,11 @@ module _ (n : Network) (fault : Fault) (name : NamedFault) (is : name ≡ named 
 
 -- ---- lines
 
-pub same_value : (a b : Bool) → beq a b ≡ true → a ≡ b
-same_value true true e = refl
-same_value false false e = refl
-same_value true false e = absurd (false≢true e)
-same_value false true e = absurd (false≢true e)
-
-pub value_same : (a b : Bool) → a ≡ b → beq a b ≡ true
-value_same true true e = refl
-value_same false false e = refl
-value_same true false e = absurd (false≢true (sym e))
-value_same false true e = absurd (false≢true e)
+pub same_value : (a b : Bool) → (beq a b ≡ true → a ≡ b) × (a ≡ b → beq a b ≡ true)
+same_value true true = (λ e. refl, λ e. refl)
+same_value false false = (λ e. refl, λ e. refl)
+same_value true false = (λ e. absurd cc, λ e. absurd cc)
+same_value false true = (λ e. absurd cc, λ e. absurd cc)
 
 -- none of the lines with these numbers is a proof
 abbrev pub NoneProves : Network → Fault → List Idle → List ℕ → Type 0
@@ -88,12 +79,6 @@ module _ (n : Network) (fault : Fault) (lines : List Idle) where
       before i line (subst (λ t. Contains t i) (sym (take_all k numbers end)) (have.all i line at same)) at proof
 
 -- ---- parts
-
-pub none_is : (o : Option ℕ) (r : Bool) → is_some o ≡ not r → is_none o ≡ r
-none_is None true e = refl
-none_is None false e = absurd (false≢true e)
-none_is (Some x) true e = absurd (false≢true (sym e))
-none_is (Some x) false e = refl
 
 parted_one : {X : Type 0} (P : X → Type 0) (xs ones others : List X) (x : X) → P x → AreParted P xs ones others → AreParted P (xs ++ x ∷ []) (ones ++ x ∷ []) others
 parted_one P xs ones others x holds none = one holds none
@@ -142,8 +127,8 @@ module _ (n : Network) (lines : List Idle) (points : List Set) (list : List Faul
       filter_more p list i d lt ∙ ap (λ b. filter p (take i list) ++ cond b (fault ∷ []) []) (ap not detected) ∙ append-nil (filter p (take i list)) in
       record { proved = so.proved; unproved = so.unproved; parted = subst (λ xs. AreParted (IsProved n lines) xs so.proved so.unproved) (sym same) so.parted; count = so.count; names = so.names }
 
--- so far no more are proved than there are faults
-pub few_proved : (n : Network) (lines : List Idle) (points : List Set) (list : List Fault) (parts : Parts) → ArePartedSoFar n lines points list parts → parts.proved ≤ length list
+-- so far no more are proved or left than there are faults
+pub few_proved : (n : Network) (lines : List Idle) (points : List Set) (list : List Fault) (parts : Parts) → ArePartedSoFar n lines points list parts → parts.proved + length parts.unproved ≤ length list
 few_proved n lines points list parts so =
     let p : Fault → Bool = λ fault. not (is_detected n points fault) in
-    omega (arith, so.count, parted_few (IsProved n lines) (filter p list) so.proved so.unproved so.parted, length_filter_le p list)
+    omega (arith, so.count, ap length so.names, length-map so.unproved (named n), parted_few (IsProved n lines) (filter p list) so.proved so.unproved so.parted, length_filter_le p list)

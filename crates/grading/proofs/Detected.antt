@@ -1,8 +1,9 @@
 -- What a fault simulation answers of the faults of a network, and which responses are wrong.
 use Rattle.std.proofs.Common.{◌≡◌, ◌<◌, ℕ, zero, suc, Bool, true, false, not, Option, Some, None, List, [], ◌∷◌, length, map, get_or, inl, inr, refl, sym, ap, ◌∙◌, subst, arith, eqb}
-use Rattle.std.specs.Prelude.{◌↔◌, Contains, is_none}
+use Rattle.std.specs.Prelude.{◌↔◌, Contains}
 use Rattle.std.specs.List.{AllZip}
-use Rattle.std.proofs.lemmas.Bool.{cases_Bool, eq-eqb, false≢true}
+use Rattle.std.specs.Option.{is_some}
+use Rattle.std.proofs.lemmas.Bool.{eq-eqb, false_from_ne_true, false≢true}
 use Rattle.std.proofs.lemmas.Bool.Decides.{eqb_tells}
 use Rattle.std.proofs.lemmas.List.{get_or-map, get_or_default, length-map}
 use Rattle.std.proofs.lemmas.List.Elements.{Contains-get_or}
@@ -16,20 +17,12 @@ use Rattle.fault_sim.specs.Answers.{IsFirstTelling}
 use Rattle.grading.specs.Counts.{differs_at, is_detected, is_wrong}
 use Rattle.vec_text.specs.declared.file.Vector.{Vector}
 
--- ---- lists
-
 -- two lists place by place
-pub zip_length : {A B : Type 0} (R : A → B → Type 0) (xs : List A) (ys : List B) → AllZip R xs ys → length ys ≡ length xs
-zip_length R [] [] h = refl
-zip_length {A = A} {B = B} R [] (b ∷ ys) h = elim h [ ]
-zip_length {A = A} {B = B} R (a ∷ xs) [] h = elim h [ ]
-zip_length R (a ∷ xs) (b ∷ ys) (r, h) = ap suc (zip_length R xs ys h)
-
 pub zip_at : {A B : Type 0} (R : A → B → Type 0) (xs : List A) (ys : List B) (i : ℕ) (d : A) (e : B) → AllZip R xs ys → i < length xs → R (get_or xs i d) (get_or ys i e)
-zip_at R [] ys i d e h lt = absurd (omega (arith, lt))
-zip_at {A = A} {B = B} R (a ∷ xs) [] i d e h lt = elim h [ ]
 zip_at R (a ∷ xs) (b ∷ ys) zero d e (r, h) lt = r
 zip_at R (a ∷ xs) (b ∷ ys) (suc i) d e (r, h) lt = zip_at R xs ys i d e h (omega (arith, lt))
+zip_at {A = A} {B = B} R (a ∷ xs) [] i d e h lt = elim h [ ]
+zip_at R [] ys i d e h lt = absurd (omega (arith, lt))
 
 -- ---- a fault that the simulation finds no point for
 
@@ -53,18 +46,13 @@ module _ (n : Network) (detects : (fault : Fault) (x : Set) → Detects n fault 
         list_any_at (differs_at n fault) points there.0 x there.1 (ap (differs_at n fault) there.2 ∙ differs x ((detects fault x).0 found)),
   )
 
-  pub missed_is : (found : Option ℕ) → IsFirstTelling n points fault found → is_none found ≡ not (is_detected n points fault)
+  pub missed_is : (found : Option ℕ) → IsFirstTelling n points fault found → is_some found ≡ is_detected n points fault
   missed_is None missed =
-      elim (cases_Bool (is_detected n points fault)) [
-        | inl holds ↦
-            let at = Any-from_list_any (differs_at n fault) points holds in
-            let there : get_or points at.0 0 ≡ at.1 = get_or_default points at.0 0 at.1 at.2 ∙ at.3 in
-            absurd (missed at.0 at.2 ((detects fault (get_or points at.0 0)).1 (apart (get_or points at.0 0) (ap (differs_at n fault) there ∙ at.4))))
-        | inr fails ↦ sym (ap not fails)
-      ]
-  missed_is (Some i) first =
-      let test = differs (get_or points i 0) ((detects fault (get_or points i 0)).0 first.detects) in
-      sym (ap not (list_any_at (differs_at n fault) points i 0 first.is_place test))
+      sym (false_from_ne_true _ (λ holds.
+        let at = Any-from_list_any (differs_at n fault) points holds in
+        let there : get_or points at.0 0 ≡ at.1 = get_or_default points at.0 0 at.1 at.2 ∙ at.3 in
+        missed at.0 at.2 ((detects fault (get_or points at.0 0)).1 (apart (get_or points at.0 0) (rw there at.4)))))
+  missed_is (Some i) first = sym (list_any_at (differs_at n fault) points i 0 first.is_place (differs (get_or points i 0) ((detects fault (get_or points i 0)).0 first.detects)))
 
 -- ---- responses
 

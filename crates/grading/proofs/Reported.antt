@@ -41,13 +41,6 @@ others_are P xs ones others no_parts = none
 others_are P xs ones others (one h rest) = left (λ never. never h) (others_are P _ _ _ rest)
 others_are P xs ones others (other h rest) = taken h (others_are P _ _ _ rest)
 
--- what was parted is what a file and a network have
-pub so_far : (n : Network) (file : VectorFile) (parts : Parts) {lines looked : List Idle} {points : List Set} {list : List Fault} → lines ≡ looked → points ≡ points_of file → list ≡ fault_list n
-    → ArePartedSoFar n lines points list parts → ArePartedSoFar n looked (points_of file) (fault_list n) parts
-so_far n file parts {lines} {looked} {points} {list} l p f so =
-    subst (λ fs. ArePartedSoFar n looked (points_of file) fs parts) f
-    (subst (λ ps. ArePartedSoFar n looked ps list parts) p (subst (λ ls. ArePartedSoFar n ls points list parts) l so))
-
 -- ---- responses
 
 pub right_is : (n : Network) (v : Vector) → ((x : Set) → Shows n None x (out n None x)) → is_wrong n v ≡ false → Shows n None v.point v.outs
@@ -57,9 +50,6 @@ not_right : (n : Network) (v : Vector) → ((x ys : Set) → Shows n None x ys �
 not_right n v only wrong shows = false≢true (sym ((wrong_is n v).1 (only v.point v.outs shows)) ∙ wrong)
 
 -- ---- the report
-
-abbrev report_with : (vectors wrong faults told proved : ℕ) (rest : List NamedFault) → GradeReport
-report_with vectors wrong faults told proved rest = record { vectors = vectors; wrong = wrong; faults = faults; told = told; proved = proved; left = rest }
 
 module _ (mode : Mode) (n : Network) (file : VectorFile) (parts : Parts) (so : ArePartedSoFar n (looked_at mode file) (points_of file) (fault_list n) parts)
     (detects : (fault : Fault) (x : Set) → Detects n fault x ↔ Differs n fault x) where
@@ -97,9 +87,6 @@ module _ (mode : Mode) (n : Network) (file : VectorFile) (parts : Parts) (so : A
       let rest = selected_all (IsProved n (looked_at mode file)) missed so.proved so.unproved are_proved are_left in
       omega (arith, all, rest, so.count, ap length so.names, length-map so.unproved (named n))
 
-  pub few : parts.proved + length parts.unproved ≤ length (fault_list n)
-  few = omega (arith, sizes)
-
   pub is_report : ((x : Set) → Shows n None x (out n None x)) → ((x ys : Set) → Shows n None x ys → ys ≡ out n None x)
       → (report : GradeReport) → report.vectors ≡ length file.vectors → report.wrong ≡ wrong_count n file.vectors → report.faults ≡ length (fault_list n)
       → report.told ≡ length (fault_list n) - parts.proved - length parts.unproved → report.proved ≡ parts.proved → report.left ≡ parts.unproved → IsReport mode n file report
@@ -119,11 +106,5 @@ module _ (mode : Mode) (n : Network) (file : VectorFile) (parts : Parts) (so : A
         are_proved = are_proved;
         left = so.unproved;
         are_left = are_left;
-        is =
-            ap (λ k. report_with k report.wrong report.faults report.told report.proved report.left) vectors
-            ∙ ap (λ k. report_with (length file.vectors) k report.faults report.told report.proved report.left) count
-            ∙ ap (λ k. report_with (length file.vectors) (length wrongs) k report.told report.proved report.left) faults
-            ∙ ap (λ k. report_with (length file.vectors) (length wrongs) (length (fault_list n)) k report.proved report.left) all
-            ∙ ap (λ k. report_with (length file.vectors) (length wrongs) (length (fault_list n)) (length detected) k report.left) (proved ∙ so.count)
-            ∙ ap (λ k. report_with (length file.vectors) (length wrongs) (length (fault_list n)) (length detected) (length so.proved) k) (rest ∙ so.names);
+        is = rw (sym vectors, sym count, sym faults, sym all, sym (proved ∙ so.count), sym (rest ∙ so.names)) (λ i. report);
       }

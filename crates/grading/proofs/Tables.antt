@@ -12,27 +12,21 @@ use Rattle.vec_text.specs.declared.file.Idle.{Idle}
 -- ---- the numbers while they are put under names
 
 module _ (own : List ℕ) (number : ℕ) (old new : Numbers) (added : IsAdded own number old new) where
-  one_longer : (name : List ℕ) → bytes_eq own name ≡ true → numbers_of new name ≡ numbers_of old name ++ number ∷ []
-  one_longer name same = added name ∙ cond-true (bytes_eq own name) (numbers_of old name ++ number ∷ []) (numbers_of old name) same
-
-  unchanged : (name : List ℕ) → bytes_eq own name ≡ false → numbers_of new name ≡ numbers_of old name
-  unchanged name other = added name ∙ cond-false (bytes_eq own name) (numbers_of old name ++ number ∷ []) (numbers_of old name) other
-
   own_added : Contains (numbers_of new own) number
-  own_added = subst (λ l. Contains l number) (sym (one_longer own ((bytes_eq-Decides own own).1 refl))) (Contains-push (numbers_of old own) number)
+  own_added = rw (added own ∙ cond-true _ _ _ ((bytes_eq-Decides own own).1 refl)) (Contains-push (numbers_of old own) number)
 
   kept : (name : List ℕ) (i : ℕ) → Contains (numbers_of old name) i → Contains (numbers_of new name) i
   kept name i there =
       elim (cases_Bool (bytes_eq own name)) [
-        | inl same ↦ subst (λ l. Contains l i) (sym (one_longer name same)) (Contains-append_left (numbers_of old name) (number ∷ []) i there)
-        | inr other ↦ subst (λ l. Contains l i) (sym (unchanged name other)) there
+        | inl same ↦ rw (added name ∙ cond-true _ _ _ same) (Contains-append_left (numbers_of old name) (number ∷ []) i there)
+        | inr other ↦ rw (added name ∙ cond-false _ _ _ other) there
       ]
 
   kept_or_added : (name : List ℕ) (i : ℕ) → Contains (numbers_of new name) i → Contains (numbers_of old name) i ⊎ (number ≡ i)
   kept_or_added name i there =
       elim (cases_Bool (bytes_eq own name)) [
-        | inl same ↦ Contains-push_cases (numbers_of old name) number i (subst (λ l. Contains l i) (one_longer name same) there)
-        | inr other ↦ inl (subst (λ l. Contains l i) (unchanged name other) there)
+        | inl same ↦ Contains-push_cases (numbers_of old name) number i (rw (added name ∙ cond-true _ _ _ same) at there)
+        | inr other ↦ inl (rw (added name ∙ cond-false _ _ _ other) at there)
       ]
 
 -- one more line under the name in its place

@@ -4,28 +4,22 @@ use Rattle.grading.proofs.Paired.{not_other}
 use Rattle.grading.proofs.Sound.{all_graded, all_right, all_told, none_proved, one_graded}
 use Rattle.grading.proofs.laws.grade_law.Goals as goal
 
-pub returns-clause-sound : goal.returns-clause-sound
-returns-clause-sound c net_bytes vec_bytes report checked right left =
-    let n = checked.net in
-    let valid = c.said_law.ensures.valid Written net_bytes n checked.pair.say.net_says in
-    record {
-      net = n;
-      file = checked.file;
-      pair = checked.pair;
-      valid = valid;
-      responses = all_right n checked.file report checked.is (λ x. c.one_run.ensures.shows n None x valid) (λ v. c.one_run.ensures.only n None v.point v.outs valid) right;
-      complete = all_told n checked.file report checked.is (λ fault. c.fault_laws.ensures.places n fault valid) (λ fault x. c.detects_law.ensures n fault x valid)
-          (λ fault word holds. c.evidence_law.ensures.sound n fault word valid holds) left;
-    }
-
-pub returns-clause-all : goal.returns-clause-all
-returns-clause-all c = all_graded
-
-pub returns-clause-none_proved : goal.returns-clause-none_proved
-returns-clause-none_proved c = none_proved
-
-pub returns-clause-one : goal.returns-clause-one
-returns-clause-one c = one_graded
-
-pub returns-clause-names : goal.returns-clause-names
-returns-clause-names c net_bytes vec_bytes pair = not_other net_bytes vec_bytes pair.net pair.file pair.pair
+pub returns : goal.returns
+returns c = record {
+  sound = λ net_bytes vec_bytes report checked right left.
+      let n = checked.net in
+      let valid = c.said_law.ensures.valid Written net_bytes n checked.pair.say.net_says in
+      record {
+        net = n;
+        file = checked.file;
+        pair = checked.pair;
+        valid = valid;
+        responses = all_right n checked.file report checked.is (λ x. c.one_run.ensures.shows n None x valid) (λ v. c.one_run.ensures.only n None v.point v.outs valid) right;
+        complete = all_told n checked.file report checked.is (λ fault. c.fault_laws.ensures.places n fault valid) (λ fault x. c.detects_law.ensures n fault x valid)
+            (λ fault word holds. c.evidence_law.ensures.sound n fault word valid holds) left;
+      };
+  all = all_graded;
+  none_proved = none_proved;
+  one = one_graded;
+  names = λ net_bytes vec_bytes pair. not_other net_bytes vec_bytes pair.net pair.file pair.pair;
+}
