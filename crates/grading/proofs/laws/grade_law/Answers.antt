@@ -1,7 +1,7 @@
 use Rattle.std.specs.Prelude.{None}
 use Rattle.blif_read.specs.declared.fault.NetLimits.TheVariants.{Written}
 use Rattle.grading.proofs.Paired.{not_other}
-use Rattle.grading.proofs.Sound.{all_graded, all_right, all_told, none_proved, one_graded}
+use Rattle.grading.proofs.Reported.{all_graded, all_right, all_told, none_proved, one_graded}
 use Rattle.grading.proofs.laws.grade_law.Goals as goal
 
 pub returns : goal.returns
