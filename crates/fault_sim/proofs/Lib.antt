@@ -1,7 +1,9 @@
+pub mod Beginning
 pub mod Cones
 pub mod MarkWords
 pub mod Reading
 pub mod RowLanes
 pub mod Searches
+pub mod Holding
 pub mod Simulated
 pub mod WordLanes

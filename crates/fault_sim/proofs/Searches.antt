@@ -10,6 +10,7 @@ use Rattle.ae_net.specs.Detects.{Detects}
 use Rattle.ae_net.specs.Network.{Network}
 use Rattle.ae_net.specs.Out.{Differs}
 use Rattle.fault_sim.specs.Answers.{IsFirstTelling}
+use Rattle.fault_sim.specs.declared.words.TheConstants.{LANES}
 use Rattle.fault_sim.specs.Lanes.{AreFirstBelow, AreNone, IsFirstBelow, IsFirstLane, IsPass, Tells}
 
 some_is : {X : Type 0} (x y : X) → Some x ≡ Some y → x ≡ y
@@ -20,7 +21,7 @@ some_is x y e = cc
 pub found-stays : (n : Network) (points : List Set) (b c : ℕ) (fault : Fault) (i : ℕ) → b ≤ c → IsFirstBelow n points b fault (Some i) → IsFirstBelow n points c fault (Some i)
 found-stays n points b c fault i more first = (omega (arith, more, first.0), first.1, first.2)
 
-pub first-found : (n : Network) (points : List Set) (base count : ℕ) (fault : Fault) (good : List ℕ) (told : ℕ) (lane : Option ℕ) → count ≤ 64 → Tells n fault good told → IsFirstLane told count lane → IsPass n points base count good → IsFirstBelow n points base fault None
+pub first-found : (n : Network) (points : List Set) (base count : ℕ) (fault : Fault) (good : List ℕ) (told : ℕ) (lane : Option ℕ) → count ≤ LANES → Tells n (λ l. Some fault) good told → IsFirstLane told count lane → IsPass n points base count good → IsFirstBelow n points base fault None
     → IsFirstBelow n points (base + count) fault (option_map (λ l. base + l) lane)
 first-found n points base count fault good told lane few tells first pass before = by_lane lane first
   where

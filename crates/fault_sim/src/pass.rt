@@ -4,7 +4,7 @@ ghost use Rattle.ae_base.specs.Mask.{Set, has};
 ghost use Rattle.ae_base.specs.declared.limits.TheConstants.{PINS};
 ghost use Rattle.ae_net.specs.Network.{signals};
 ghost use Rattle.fault_sim.specs.declared.words.TheConstants.{LANES};
-ghost use Rattle.fault_sim.specs.Lanes.{IsGood};
+ghost use Rattle.fault_sim.specs.Lanes.{IsAlone, IsGood};
 
 use crate::table::gate_word;
 use crate::words::{Word, full, with_lane};
@@ -61,5 +61,19 @@ pub fn write_good(net: &Net, points: &[Point], good: &mut [Word], seen: &mut [Wo
     ensures seen { length seen.new ≡ length seen.old }
 {
     write_inputs(net, points, good);
+    write_gates(net, good, seen);
+}
+
+/// Writes the words of all signals without a fault at a point in all lanes.
+pub fn write_good_at(net: &Net, point: &Point, good: &mut [Word], seen: &mut [Word])
+    requires room { signals net.now ≡ length good.old }
+    requires seen { PINS ≤ length seen.old }
+    ensures good { IsAlone net.now point.now good.new }
+    ensures len { length good.new ≡ length good.old }
+    ensures seen { length seen.new ≡ length seen.old }
+{
+    for j in 0..net.inputs().len() {
+        good[j] = full(point.has(j as u32));
+    }
     write_gates(net, good, seen);
 }

@@ -12,7 +12,8 @@ ghost use Rattle.fault_sim.specs.Answers.{IsFirstTelling};
 ghost use Rattle.fault_sim.specs.Lanes.{IsPass};
 
 use crate::pass::write_good;
-use crate::search::{bench_for, next_points, nothing_found, try_points};
+use crate::bench::bench_for;
+use crate::search::{next_points, nothing_found, try_points};
 use crate::words::{Word, full, has_lane};
 use ae_base::{Mask, Memory, PINS, Point};
 use ae_net::{Fault, Net, Sig, one_run, valid_law};
@@ -117,6 +118,6 @@ pub fn first_telling(
 {
     let mut bench = bench_for(alloc, net)?;
     let mut found = nothing_found(alloc, list.len())?;
-    try_points(net, points, list, &mut bench, found.as_mut_slice());
+    try_points(net, points, list, &mut bench, found.as_mut_slice())?;
     Ok(found)
 }

@@ -1,7 +1,8 @@
 use Rattle.std.proofs.Common.{◌≡◌, [], refl, ◌∙◌, arith}
 use Rattle.std.proofs.lemmas.List.{get_or_default}
 use Rattle.fault_sim.specs.Spread.{row}
-use Rattle.fault_sim.proofs.Cones.{refilled, written}
+use Rattle.fault_sim.proofs.Cones.{written}
+use Rattle.fault_sim.proofs.Holding.{refilled}
 use Rattle.fault_sim.proofs.cone.put.Goals as goal
 
 pub returns-then-word-good-clause-put : goal.returns-then-word-good-clause-put

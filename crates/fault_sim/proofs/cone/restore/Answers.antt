@@ -2,7 +2,8 @@ use Rattle.std.proofs.Common.{◌<◌, length, ap, sym, subst, ◌∙◌, arith}
 use Rattle.std.proofs.lemmas.Grind.{same_number_lists}
 use Rattle.std.proofs.lemmas.List.{length-set}
 use Rattle.fault_sim.specs.Marks.{IsFirstTaken, is_marked}
-use Rattle.fault_sim.proofs.Cones.{refilled, restored-from, restored-only, restored-word}
+use Rattle.fault_sim.proofs.Holding.{refilled}
+use Rattle.fault_sim.proofs.Cones.{restored-from, restored-only, restored-word}
 use Rattle.fault_sim.proofs.cone.restore.Goals as goal
 
 pub signals-preserved : goal.signals-preserved
