@@ -88,13 +88,13 @@ pub begun-all : (n : Network) (held : Held) (good : List ℕ) (cone : Cone) (m s
 begun-all n held good cone m start valid is all marks within begun =
     let free = λ (k : ℕ) (lt : k < length n.gates) (none : is_marked cone.marked.items k ≡ false). free-site n held k is lt (not-held k lt none) in record {
       faulty = calm-to n (fault_in held) good cone.words.items 0 start valid (omega arith) within
-        (λ j gate there from to. let none = unmarked j to in (begun.quiet j gate there none, free j (omega (arith, to, within)) none))
-        (λ s from. begun.rest s (omega (arith, from)))
-        (λ l x w v lt w_run v_run w_lane s h.
-        let input : s < length n.inputs = omega (arith, h) in
-        begun.inputs s input (omega (arith, (is.last s (omega (arith, input))).within, all)) l lt
-        ∙ ap (seen (fault_in held l) (Stem s)) (w_lane s (omega (arith, input)) ∙ w_run.inputs s input)
-        ∙ sym (v_run.inputs s input));
+          (λ j gate there from to. let none = unmarked j to in (begun.quiet j gate there none, free j (omega (arith, to, within)) none))
+          (λ s from. begun.rest s (omega (arith, from)))
+          (λ l x w v lt w_run v_run w_lane s h.
+          let input : s < length n.inputs = omega (arith, h) in
+          begun.inputs s input (omega (arith, (is.last s (omega (arith, input))).within, all)) l lt
+          ∙ ap (seen (fault_in held l) (Stem s)) (w_lane s (omega (arith, input)) ∙ w_run.inputs s input)
+          ∙ sym (v_run.inputs s input));
       rest = λ s from. begun.rest s (omega (arith, from));
       quiet = λ k gate there from none. (begun.quiet k gate there none, free k (slice_get_within n.gates k gate there) none);
       changed = begun.changed;

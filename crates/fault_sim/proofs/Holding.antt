@@ -103,7 +103,7 @@ held-more n held after fault is more few faults before count others new =
             let at = site-new n held.faults.items fault e last in
             let within_site : site n fault.place < sites n = subst (λ s. s < sites n) at (subst (λ fs. site_at n fs e < sites n) faults within) in
             let b : slice_index after.before.items e ≡ slice_index held.last.items (site n fault.place) =
-              (let zero : e ≡ length held.before.items + 0 = omega (arith, last, is.before) in ap (λ bs. slice_index bs e) before ∙ ap (slice_index (held.before.items ++ _ ∷ [])) zero ∙ get_or-append-add held.before.items (_ ∷ []) 0 0) in
+            (let zero : e ≡ length held.before.items + 0 = omega (arith, last, is.before) in ap (λ bs. slice_index bs e) before ∙ ap (slice_index (held.before.items ++ _ ∷ [])) zero ∙ get_or-append-add held.before.items (_ ∷ []) 0 0) in
             subst (λ s. IsLast n (held.faults.items ++ fault ∷ []) s e (slice_index after.before.items e)) (sym at)
             (subst (λ b. IsLast n (held.faults.items ++ fault ∷ []) (site n fault.place) e b) (sym b)
             (subst (λ k. IsLast n (held.faults.items ++ fault ∷ []) (site n fault.place) k (slice_index held.last.items (site n fault.place))) (sym last)

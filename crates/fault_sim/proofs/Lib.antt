@@ -6,4 +6,5 @@ pub mod RowLanes
 pub mod Searches
 pub mod Holding
 pub mod Simulated
+pub mod Taking
 pub mod WordLanes

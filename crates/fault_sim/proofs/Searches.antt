@@ -13,7 +13,7 @@ use Rattle.fault_sim.specs.Answers.{IsFirstTelling}
 use Rattle.fault_sim.specs.declared.words.TheConstants.{LANES}
 use Rattle.fault_sim.specs.Lanes.{AreFirstBelow, AreNone, IsFirstBelow, IsFirstLane, IsPass, Tells}
 
-some_is : {X : Type 0} (x y : X) → Some x ≡ Some y → x ≡ y
+pub some_is : {X : Type 0} (x y : X) → Some x ≡ Some y → x ≡ y
 some_is x y e = cc
 
 -- ---- one fault in one pass
@@ -46,7 +46,7 @@ slice_get-set_same [] i y z h = absurd (let s : ⊥ = cc in s)
 slice_get-set_same (x ∷ xs) zero y z h = some_is y z h
 slice_get-set_same (x ∷ xs) (suc i) y z h = slice_get-set_same xs i y z h
 
-slice_get-set_other : {X : Type 0} (xs : List X) (i j : ℕ) (y : X) → j ≢ i → slice_get (set xs i y) j ≡ slice_get xs j
+pub slice_get-set_other : {X : Type 0} (xs : List X) (i j : ℕ) (y : X) → j ≢ i → slice_get (set xs i y) j ≡ slice_get xs j
 slice_get-set_other [] i j y ne = refl
 slice_get-set_other (x ∷ xs) zero zero y ne = absurd (ne refl)
 slice_get-set_other (x ∷ xs) zero (suc j) y ne = refl

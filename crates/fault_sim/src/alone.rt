@@ -119,23 +119,25 @@ fn try_point(
     Ok(())
 }
 
-/// Tries all faults of the list on these points, one after another.
+/// Tries all faults of the list on the first `count` points, one after another.
 pub fn try_alone(
     net: &Net,
     points: &[Point],
+    count: usize,
     list: &[Fault],
     bench: &mut Bench,
     found: &mut [Option<u32>],
 ) -> Result<(), Memory>
     requires few { length points.now < 2 ^ 32 }
+    requires count { count ≤ length points.now }
     requires len { length found.old ≡ length list.now }
     requires bench { IsBench net.now bench.old }
     requires all { bench.old.held.all ≡ false }
     ensures bench { OnOk result (IsBench net.now bench.new) }
     ensures len { OnOk result (length found.new ≡ length found.old) }
-    ensures first { OnOk result (AreFirstBelow net.now points.now 0 list.now found.old 0 (length list.now) → AreFirstBelow net.now points.now (length points.now) list.now found.new 0 (length list.now)) }
+    ensures first { OnOk result (AreFirstBelow net.now points.now 0 list.now found.old 0 (length list.now) → AreFirstBelow net.now points.now count list.now found.new 0 (length list.now)) }
 {
-    for p in 0..points.len() {
+    for p in 0..count {
         begin_point(net, &points[p], bench);
         try_point(net, p as u32, list, bench, found)?;
     }

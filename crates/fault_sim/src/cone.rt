@@ -9,8 +9,8 @@ ghost use Rattle.fault_sim.specs.Marks.{IsUnmarked, is_marked};
 ghost use Rattle.fault_sim.specs.Sites.{IsHeld, fault_in};
 ghost use Rattle.fault_sim.specs.Spread.{AreChanged, AreMarks, AreReaders, IsAsLong, IsAtRest, IsBegun, IsCone, IsPut, IsSpread, row};
 
-use crate::marks::{mark, mark_all, take_first};
 use crate::held::{Held, shown, site_of};
+use crate::marks::{mark, mark_all, take_first};
 use crate::table::{gate_word, held_word};
 use crate::words::{Word, apart, either, full};
 use ae_base::{Memory, PINS};
@@ -89,14 +89,7 @@ fn visited_word(net: &Net, i: usize, held: &Held, words: &[Word], seen: &mut [Wo
 }
 
 /// Visits the gate in place `i`.
-fn visit(
-    net: &Net,
-    i: usize,
-    held: &Held,
-    good: &[Word],
-    readers: &[Pins],
-    cone: &mut Cone,
-)
+fn visit(net: &Net, i: usize, held: &Held, good: &[Word], readers: &[Pins], cone: &mut Cone)
     requires place { i < length net.now.gates }
     requires good { length good.now ≡ signals net.now }
     requires readers { AreReaders net.now readers.now }
@@ -118,14 +111,7 @@ fn visit(
 }
 
 /// Visits all marked gates, the first of which is not before place `start`, and those that they mark.
-fn spread(
-    net: &Net,
-    start: usize,
-    held: &Held,
-    good: &[Word],
-    readers: &[Pins],
-    cone: &mut Cone,
-)
+fn spread(net: &Net, start: usize, held: &Held, good: &[Word], readers: &[Pins], cone: &mut Cone)
     requires good { length good.now ≡ signals net.now }
     requires readers { AreReaders net.now readers.now }
     requires cone { IsCone net.now cone.old }
@@ -147,14 +133,7 @@ fn spread(
 }
 
 /// Writes the word of an input with the faults of the pass.
-fn hold_input(
-    net: &Net,
-    s: usize,
-    held: &Held,
-    good: &[Word],
-    readers: &[Pins],
-    cone: &mut Cone,
-)
+fn hold_input(net: &Net, s: usize, held: &Held, good: &[Word], readers: &[Pins], cone: &mut Cone)
     requires input { s < length net.now.inputs }
     requires good { length good.now ≡ signals net.now }
     requires readers { AreReaders net.now readers.now }

@@ -56,11 +56,13 @@ fn try_fault(
     ensures all { OnOk result (bench.new.held.all ≡ true) }
     ensures first { IfOk result (λ first. (points : List Set) → IsPass net.now points base count bench.old.good.items → IsFirstBelow net.now points base fault found → IsFirstBelow net.now points (base + count) fault first) }
 {
-    if found.is_some() {
-        return Ok(found);
+    match found {
+        Some(i) => Ok(Some(i)),
+        None => {
+            let told = told_by(net, fault, bench)?;
+            Ok(place_of(base, first_lane(told, count)))
+        }
     }
-    let told = told_by(net, fault, bench)?;
-    Ok(place_of(base, first_lane(told, count)))
 }
 
 /// Tries each fault of the list for which nothing is found.
@@ -155,7 +157,8 @@ pub fn try_points(
     detects_law();
     valid_law(net);
     let alone = points_alone(points.len(), list.len());
-    try_alone(net, &points[..alone], list, bench, found)?;
+    try_alone(net, points, alone, list, bench, found)?;
     use_all_lanes(net, bench);
-    try_passes(net, points, alone, list, bench, found)
+    try_passes(net, points, alone, list, bench, found)?;
+    Ok(())
 }

@@ -11,8 +11,8 @@ ghost use Rattle.fault_sim.specs.declared.words.TheConstants.{LANES};
 ghost use Rattle.fault_sim.specs.Answers.{IsFirstTelling};
 ghost use Rattle.fault_sim.specs.Lanes.{IsPass};
 
-use crate::pass::write_good;
 use crate::bench::bench_for;
+use crate::pass::write_good;
 use crate::search::{next_points, nothing_found, try_points};
 use crate::words::{Word, full, has_lane};
 use ae_base::{Mask, Memory, PINS, Point};

@@ -101,14 +101,7 @@ pub fn gate_word(net: &Net, i: usize, words: &[Word], seen: &mut [Word]) -> Word
 }
 
 /// Writes what the pins of the gate in place `i` see with the faults of the pass.
-fn show_pins(
-    net: &Net,
-    i: u32,
-    pins: &[Sig],
-    held: &Held,
-    words: &[Word],
-    seen: &mut [Word],
-)
+fn show_pins(net: &Net, i: u32, pins: &[Sig], held: &Held, words: &[Word], seen: &mut [Word])
     requires place { i < length net.now.gates }
     requires earlier { All (λ pin. pin < length words.now) pins.now }
     requires few { length pins.now ≤ PINS }

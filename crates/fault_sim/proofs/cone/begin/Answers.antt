@@ -1,4 +1,5 @@
-use Rattle.std.proofs.Common.{ap, arith, length}
+use Rattle.std.proofs.Common.{◌≤◌, ap, arith, length}
+use Rattle.std.proofs.Math.Nat.{min-le_left, min-le_right}
 use Rattle.fault_sim.proofs.Beginning.{begun-all, begun-at_rest, marks-down}
 use Rattle.fault_sim.proofs.Cones.{rest-marks}
 use Rattle.fault_sim.proofs.cone.begin.Goals as goal
@@ -13,8 +14,8 @@ loop-e-init c = record {
 
 pub loop-e-preserved : goal.loop-e-preserved
 loop-e-preserved c =
-    let less : c.min-start.result ≤ c.loop-e.start = omega (arith, c.min-start.ensures, min-left c.loop-e.start c.begin_one-at.result) in
-    let most : c.min-start.result ≤ c.begin_one-at.result = omega (arith, c.min-start.ensures, min-right c.loop-e.start c.begin_one-at.result) in record {
+    let less : c.min-start.result ≤ c.loop-e.start = omega (arith, c.min-start.ensures, min-le_left c.loop-e.start c.begin_one-at.result) in
+    let most : c.min-start.result ≤ c.begin_one-at.result = omega (arith, c.min-start.ensures, min-le_right c.loop-e.start c.begin_one-at.result) in record {
       cone = c.begin_one-at.ensures.cone;
       marks = c.begin_one-at.ensures.marks c.min-start.result most (marks-down c.args.net.now c.loop-e.cone c.loop-e.start c.min-start.result less c.loop-e.invariant.marks);
       within = omega (arith, less, c.loop-e.invariant.within);

@@ -52,7 +52,7 @@ returns-clause-begun c begun =
     let at : c.site_of-s.result ≡ site_at n faults c.args.e = c.site_of-s.ensures ∙ ap (λ f. site n f.place) (c.index.ensures ∙ get_or_default faults c.args.e c.index.result.now none_fault c.requires.place) in
     begun-on n c.args.held.now c.args.good.now cone _ c.args.e c.requires.held refl refl
     (λ k set. ap (λ marks. is_marked marks k) after ∙ c.mark.ensures.marked k ∙ ap (λ b. eqb k i || b) (ap (λ marks. is_marked marks k) c.as_mut_slice.ensures.value ∙ set) ∙ or-true (eqb k i))
-    (λ k within none same. false≢true (sym none ∙ ap (λ marks. is_marked marks k) after ∙ c.mark.ensures.marked k ∙ ap (λ b. b || is_marked c.as_mut_slice.result.now k) (eq-eqb k i (omega (arith, same, at, ap length c.inputs-first.ensures.inputs)))))
+    (λ k within none same. let none : is_marked _ k ≡ false = none in false≢true (sym none ∙ ap (λ marks. is_marked marks k) after ∙ c.mark.ensures.marked k ∙ ap (λ b. b || is_marked c.as_mut_slice.result.now k) (eq-eqb k i (omega (arith, same, at, ap length c.inputs-first.ensures.inputs)))))
     (λ below last. omega (arith, below, at, c.if-s-first.false, ap length c.inputs-first.ensures.inputs))
     begun
   where

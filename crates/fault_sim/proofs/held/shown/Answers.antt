@@ -29,9 +29,9 @@ loop-end-preserved c =
     let chain : IsLast n faults (site n c.args.at) e c.index-in-loop-end-2.result.now = subst (IsLast n faults (site n c.args.at) e) (sym (c.index-in-loop-end-2.ensures ∙ get_or_default c.args.held.now.before.items e c.index-in-loop-end-2.result.now 0 (omega (arith, within, c.requires.held.before)))) (subst (λ s. IsLast n faults s e (slice_index c.args.held.now.before.items e)) here (c.requires.held.earlier e within (subst (λ s. s < sites n) (sym here) c.requires.place))) in
     let fault = c.index-in-loop-end.ensures ∙ get_or_default faults e c.index-in-loop-end.result.now none_fault within in
     let step = λ (l : ℕ) (lt : l < LANES). seen-one n faults c.args.at e (entry c.args.held.now.all l) c.index-in-loop-end-2.result.now (has c.lanes_of.result l) (has c.args.word l) (has c.loop-end.word l) (has c.held_at-word.result l) within chain (c.lanes_of.ensures l lt)
-      (λ from. c.loop-end.invariant.done l lt (omega (arith, from, one)))
-      (λ before. c.loop-end.invariant.left l lt (omega (arith, before, one)))
-      (subst (λ f. has c.held_at-word.result l ≡ cond (has c.lanes_of.result l) (seen (Some f) c.args.at (has c.loop-end.word l)) (has c.loop-end.word l)) fault (c.held_at-word.ensures l lt)) in
+    (λ from. c.loop-end.invariant.done l lt (omega (arith, from, one)))
+    (λ before. c.loop-end.invariant.left l lt (omega (arith, before, one)))
+    (subst (λ f. has c.held_at-word.result l ≡ cond (has c.lanes_of.result l) (seen (Some f) c.args.at (has c.loop-end.word l)) (has c.loop-end.word l)) fault (c.held_at-word.ensures l lt)) in
     record {
       within = omega (arith, chain.within, within);
       at = chain.at;

@@ -17,7 +17,7 @@ returns-clause-value c l x v lt run lane =
     let at : length c.inputs.result.now + i ≡ length n.inputs + i = ap (λ inputs. length inputs + i) c.inputs.ensures.inputs in
     let pins : c.as_slice.result.now ≡ (gate_at n i).pins = c.as_slice.ensures ∙ ap (λ gate. gate.pins) c.gate-gate.ensures.gate in
     let pin : (k l : ℕ) → k < length (gate_at n i).pins → l < LANES → has (slice_index c.show_pins.new.seen k) l ≡ seen (fault_in c.args.held.now l) (Pin i k) (has (slice_index c.args.words.now (slice_index (gate_at n i).pins k)) l) =
-      subst (λ pins. (k l : ℕ) → k < length pins → l < LANES → has (slice_index c.show_pins.new.seen k) l ≡ seen (fault_in c.args.held.now l) (Pin i k) (has (slice_index c.args.words.now (slice_index pins k)) l)) pins c.show_pins.ensures.pins in
+    subst (λ pins. (k l : ℕ) → k < length pins → l < LANES → has (slice_index c.show_pins.new.seen k) l ≡ seen (fault_in c.args.held.now l) (Pin i k) (has (slice_index c.args.words.now (slice_index pins k)) l)) pins c.show_pins.ensures.pins in
     held-lane n (fault_in c.args.held.now l) x v i (gate_at n i) l c.args.words.now c.show_pins.new.seen (has c.shown.result l) c.inputs.ensures.valid (there_at n i c.requires.place) run (λ k within. pin k l within lt) lane
     (c.shown.ensures l lt
     ∙ ap (λ b. seen (fault_in c.args.held.now l) (Stem (length c.inputs.result.now + i)) b) (c.table_word.ensures l lt ∙ ap (λ gate. table gate (where_below (length gate.pins) (sees c.show_pins.new.seen l))) c.gate-gate.ensures.gate)
