@@ -1,19 +1,19 @@
 -- The number of cubes of all outputs.
-use Rattle.std.proofs.Common.{◌≡◌, ◌≤◌, List, [], ◌∷◌, length, refl, arith, ℕ, zero, suc, ◌+◌, ◌-◌, ◌*◌, ◌<◌, Bool, true, ◌&&◌, ◌||◌, ◌++◌, get_or, sym, ap, ap₂, ◌∙◌, subst, length-append, cond, inl, inr, append-nil}
+use Rattle.std.proofs.Common.{◌≡◌, ◌≤◌, List, [], ◌∷◌, length, refl, arith, ℕ, zero, suc, ◌+◌, ◌-◌, ◌*◌, ◌<◌, Bool, true, ◌&&◌, ◌||◌, ◌++◌, get_or, sym, ap, ap₂, ◌∙◌, subst, length-append, cond, inl, inr, append-nil, map, append_assoc}
 use Rattle.std.specs.Prelude.{sum_by, Some, None, All, slice_get, slice_index, filter}
 use Rattle.std.specs.List.{AllZip, AllByRecursion, range_with_len}
 use Rattle.std.proofs.lemmas.List.Sums.{sum_by-cons}
 use Rattle.std.proofs.lemmas.Bool.{lt-ltb, cases_Bool}
-use Rattle.std.proofs.lemmas.List.{length-map, get_or-append-add, get_or-map, ext_get_or}
+use Rattle.std.proofs.lemmas.List.{length-map, get_or-append-add, get_or-map, ext_get_or, map-id}
 use Rattle.std.proofs.lemmas.List.Elements.{All-from_recursion, recursion_from_All, filter-append}
-use Rattle.std.proofs.lemmas.List.FromFn.{length-range_with_len}
+use Rattle.std.proofs.lemmas.List.FromFn.{length-range_with_len, filter_of_map_range_with_len_more}
 use Rattle.std.proofs.lemmas.Option.{slice_get_within, slice_get-get_or}
 use Rattle.ae_base.specs.Cube.{Product, IsOver, distance}
 use Rattle.ae_base.specs.Mask.{Set, has, xor}
 use Rattle.ae_base.specs.Name.{is_name}
 use Rattle.ae_base.specs.declared.limits.TheConstants.{FACTORED_CUBES, SOURCE_NAME_BYTES, SOURCE_LINES}
 use Rattle.ae_base.proofs.Distinct.{Distinct, Distinct-from_AllPairs, AllPairs-from_Distinct, each_front, each_weaker}
-use Rattle.ae_base.proofs.Elements.{length_filter_le, range_below}
+use Rattle.ae_base.proofs.Elements.{length_filter_le, range_below, All-get}
 use Rattle.ae_base.proofs.Members.{len-none}
 use Rattle.ae_base.proofs.Sets.{has-either, has-xor, has-where_below}
 use Rattle.ae_base.proofs.Truth.{differ-same}
@@ -47,6 +47,7 @@ use Rattle.factor.proofs.Sizes.{all_exors, output_some}
 use Rattle.factor.proofs.Valid.{length-named, gate_names, first_gate, AreGates-inverters, AreGates-outputs, length-outputs, ports_within, ports_apart, length-ends, ready_all, within_all}
 use Rattle.factor.specs.declared.outputs.Plan.{Plan}
 use Rattle.factor.specs.Seen.{seen, IsWithin}
+use Rattle.std.proofs.lemmas.Slice.Zip.{AllZip-long}
 
 pub same_count : {A B : Type 0} (tss : List (List A)) (css : List (List B)) → AllZip (λ (ts : List A) (cs : List B). length cs ≡ length ts) tss css → sum_by (λ (cs : List B). length cs) css ≡ sum_by (λ (ts : List A). length ts) tss
 same_count [] [] h = refl
@@ -76,10 +77,7 @@ settled_distinct cs settled =
 -- ---- sizes
 
 pub length_sums : (css : List (List Product)) (sums : List Summands) → AreSums css sums → length sums ≡ length css
-length_sums [] [] are = refl
-length_sums [] (s ∷ ss) are = absurd are
-length_sums (cs ∷ css) [] are = absurd are
-length_sums (cs ∷ css) (s ∷ ss) (is, are) = ap suc (length_sums css ss are)
+length_sums css sums are = AllZip-long IsSum css sums are
 
 most_bound : (css : List (List Product)) (sums : List Summands) → AreSums css sums → AllByRecursion Distinct css → most_gates sums ≤ 6 * sum_by length css + length css
 most_bound [] [] are distinct = omega arith
@@ -157,11 +155,6 @@ sum_at (ds ∷ dss) [] are o cs there = absurd are
 sum_at (ds ∷ dss) (s ∷ ss) (is, are) zero cs there = let e : ds ≡ cs = cc in record { sum = s; there = refl; is = subst (λ c. IsSum c s) e is }
 sum_at (ds ∷ dss) (s ∷ ss) (is, are) (suc o) cs there = let r = sum_at dss ss are o cs there in record { sum = r.sum; there = r.there; is = r.is }
 
-all_at : (P : List Product → Type 0) (css : List (List Product)) → AllByRecursion P css → (o : ℕ) (cs : List Product) → slice_get css o ≡ Some cs → P cs
-all_at P [] h o cs there = cc
-all_at P (ds ∷ dss) (h, hs) zero cs there = let e : ds ≡ cs = cc in subst P e h
-all_at P (ds ∷ dss) (h, hs) (suc o) cs there = all_at P dss hs o cs there
-
 port_value : (names : Names) (e : Cubes) (sums : List Summands) → CanBuild names e → AreSums e.outs sums → (x : Set) (v : List Bool) → IsRun (network_of (lead names) names (wires e) sums) None x v → (o : ℕ) (cs : List Product) → slice_get e.outs o ≡ Some cs
     → value_of v (slice_index (ends (wires e) (first_gate (wires e)) sums) o) ≡ esop_value cs x
 unfolding network_of
@@ -177,7 +170,7 @@ port_value names e sums can are x v is o cs there =
     let show = literals_show k w v x (λ j l. is.inputs j (omega (arith, l, inputs))) both.0 in
     let at = sum_at e.outs sums are o cs there in
     port_shows k w v x (length w.turned) 0 sums names.outputs (subst (λ p. EachAt (FitsGate None v e.n) p outs) z both.1) (length_sums e.outs sums are ∙ can.fits.outputs) show (ready_all e e.outs sums are (over_all e can.cubes) (λ q m. m)) o at.sum at.there
-    ∙ sum_means cs at.sum at.is (all_at Distinct e.outs (distinct_all e can.settled) o cs there) x
+    ∙ sum_means cs at.sum at.is (All-get Distinct e.outs o cs (All-from_recursion Distinct e.outs (distinct_all e can.settled)) there) x
     ∙ value-esop cs x
 
 at_ports : (names : Names) (e : Cubes) (sums : List Summands) → CanBuild names e → AreSums e.outs sums → (x : Set) (v : List Bool) → IsRun (network_of (lead names) names (wires e) sums) None x v → AreValues e x (ports_of (network_of (lead names) names (wires e) sums) None v)
@@ -210,47 +203,29 @@ named_end k c out (cell ∷ next ∷ cells) more d l =
     let z : length (cell ∷ next ∷ cells) - 1 ≡ suc (length (next ∷ cells) - 1) = omega arith in
     rw z (named_end k (suc c) out (next ∷ cells) more d (omega arith))
 
--- the gate that port o shows, the outputs' gates being from signal s on
-port_of : (k : ℕ) (w : Wires) (s c : ℕ) (sums : List Summands) (outs : List (List ℕ)) → length sums ≡ length outs → (o : ℕ) (name : List ℕ) → slice_get outs o ≡ Some name → (d : Gate)
-    → (s ≤ slice_index (ends w s sums) o) × ((get_or (output_gates k w s c sums outs) (slice_index (ends w s sums) o - s) d).out ≡ name)
-port_of k w s c sums [] same o name there d = cc
-port_of k w s c [] (out ∷ outs) same o name there d = absurd (omega (arith, same))
-port_of k w s c (sum ∷ sums) (out ∷ outs) same zero name there d =
+-- the names of the ports, the outputs' gates standing after others
+names_at : (k : ℕ) (w : Wires) (m : ℕ) (start : List Gate) (c : ℕ) (sums : List Summands) (outs : List (List ℕ)) (d : Gate) → length sums ≡ length outs
+    → map (λ s. (get_or (start ++ output_gates k w (m + length start) c sums outs) (s - m) d).out) (ends w (m + length start) sums) ≡ outs
+names_at k w m start c [] [] d same = refl
+names_at k w m start c [] (out ∷ outs) d same = absurd (omega (arith, same))
+names_at k w m start c (sum ∷ sums) [] d same = absurd (omega (arith, same))
+names_at k w m start c (sum ∷ sums) (out ∷ outs) d same =
+    let s : ℕ = m + length start in
     let cells = output_cells w s sum in
-    let z : s + (length cells - 1) - s ≡ length cells - 1 = omega arith in
-    let e0 : out ≡ name = cc in
-    (omega arith, rw z (named_end k c out cells _ d (output_some w s sum) ∙ e0))
-port_of k w s c (sum ∷ sums) (out ∷ outs) same (suc o) name there d =
-    let cells = output_cells w s sum in
-    let later = port_of k w (s + length cells) (c + (length cells - 1)) sums outs (omega (arith, same)) o name there d in
-    let p : ℕ = slice_index (ends w (s + length cells) sums) o in
-    let z : p - s ≡ length (named k c out cells) + (p - (s + length cells)) = omega (arith, later.0, length-named k c out cells) in
-    (omega (arith, later.0), rw (z, get_or-append-add (named k c out cells) _ (p - (s + length cells)) d) later.1)
-
-port_at : (names : Names) (e : Cubes) (sums : List Summands) → Fits names e → AreSums e.outs sums → (o : ℕ) (name : List ℕ) → slice_get names.outputs o ≡ Some name
-    → (gate_at (network_of (lead names) names (wires e) sums) (slice_index (ends (wires e) (first_gate (wires e)) sums) o - length names.inputs)).out ≡ name
-unfolding network_of
-port_at names e sums fits are o name there =
-    let k : ℕ = lead names in
-    let w : Wires = wires e in
-    let s : ℕ = first_gate w in
-    let d : Gate = record { out = []; pins = []; rows = []; on = true } in
-    let outs : List Gate = output_gates k w s 0 sums names.outputs in
-    let found = port_of k w s 0 sums names.outputs (length_sums e.outs sums are ∙ fits.outputs) o name there d in
-    let p : ℕ = slice_index (ends w s sums) o in
-    let z : p - length names.inputs ≡ length (inverters k w.turned) + (p - s) = omega (arith, found.0, fits.inputs, length-inverters k w.turned) in
-    ap (λ m. (get_or (inverters k w.turned ++ outs) m d).out) z ∙ ap (λ (g : Gate). g.out) (get_or-append-add (inverters k w.turned) outs (p - s) d) ∙ found.1
+    let gs : List Gate = named k c out cells in
+    let more : List Gate = output_gates k w (s + length cells) (c + (length cells - 1)) sums outs in
+    let z : s + (length cells - 1) - m ≡ length start + (length cells - 1) = omega arith in
+    let y : m + length (start ++ gs) ≡ s + length cells = omega (arith, length-append start gs, length-named k c out cells) in
+    ap₂ (λ (name : List ℕ) names. name ∷ names) (rw (z, get_or-append-add start (gs ++ more) (length cells - 1) d) (named_end k c out cells more d (output_some w s sum)))
+    (subst (λ (all : List Gate). map (λ s. (get_or all (s - m) d).out) (ends w (s + length cells) sums) ≡ outs) (append_assoc start gs more)
+    (subst (λ p. map (λ s. (get_or ((start ++ gs) ++ output_gates k w p (c + (length cells - 1)) sums outs) (s - m) d).out) (ends w p sums) ≡ outs) y (names_at k w m (start ++ gs) (c + (length cells - 1)) sums outs d (omega (arith, same)))))
 
 pub port_names_are : (names : Names) (e : Cubes) (sums : List Summands) → Fits names e → AreSums e.outs sums → port_names (network_of (lead names) names (wires e) sums) ≡ names.outputs
 unfolding network_of
 port_names_are names e sums fits are =
-    let n : Network = network_of (lead names) names (wires e) sums in
-    let ps : List ℕ = ends (wires e) (first_gate (wires e)) sums in
-    let ports : length ps ≡ length names.outputs = length-ends (wires e) (first_gate (wires e)) sums ∙ length_sums e.outs sums are ∙ fits.outputs in
-    ext_get_or [] (port_names n) names.outputs (length-map ps _ ∙ ports) (λ o l.
-    let here : o < length names.outputs = omega (arith, l, length-map ps (λ s. (gate_at n (s - length names.inputs)).out), ports) in
-    get_or-map (λ s. (gate_at n (s - length names.inputs)).out) ps o 0 [] (omega (arith, here, ports))
-    ∙ port_at names e sums fits are o (get_or names.outputs o []) (slice_get-get_or names.outputs o [] here))
+    let k : ℕ = lead names in
+    let turned : List ℕ = (wires e).turned in
+    rw (sym fits.inputs, sym (length-inverters k turned)) (names_at k (wires e) e.n (inverters k turned) 0 sums names.outputs _ (length_sums e.outs sums are ∙ fits.outputs))
 
 pub named_net : (names : Names) (e : Cubes) (sums : List Summands) → Fits names e → AreSums e.outs sums → HasNames names (network_of (lead names) names (wires e) sums)
 unfolding network_of
@@ -276,22 +251,10 @@ value_of_sum cs s x settled is = sum_means cs s is (settled_distinct cs settled)
 
 -- ---- the inputs that have an inverter
 
-range_push : (a n : ℕ) → range_with_len a (n + 1) ≡ range_with_len a n ++ (a + n) ∷ []
-range_push a zero = let z : a + 0 ≡ a = omega arith in rw z refl
-range_push a (suc n) =
-    let z : suc n + 1 ≡ suc (n + 1) = omega arith in
-    let y : a + 1 + n ≡ a + suc n = omega arith in
-    rw z (ap (λ (xs : List ℕ). a ∷ xs) (range_push (a + 1) n ∙ ap (λ m. range_with_len (a + 1) n ++ m ∷ []) y))
-
 pub one_more_turned : (p : ℕ → Bool) (n : ℕ) → filter p (range_with_len 0 (n + 1)) ≡ cond (p n) (filter p (range_with_len 0 n) ++ n ∷ []) (filter p (range_with_len 0 n))
 one_more_turned p n =
-    ap (filter p) (range_push 0 n) ∙ filter-append p (range_with_len 0 n) ((0 + n) ∷ []) ∙ by (0 + n) (omega arith)
-  where
-    by : (m : ℕ) → m ≡ n → filter p (range_with_len 0 n) ++ filter p (m ∷ []) ≡ cond (p n) (filter p (range_with_len 0 n) ++ n ∷ []) (filter p (range_with_len 0 n))
-    by m e = elim (cases_Bool (p n)) [
-      | inl k ↦ rw (e, k) refl
-      | inr k ↦ rw (e, k) (append-nil _)
-    ]
+    let more : filter p (range_with_len 0 (n + 1)) ≡ filter p (range_with_len 0 n) ++ cond (p n) (n ∷ []) [] = simp map-id at (filter_of_map_range_with_len_more p (λ j. j) 0 n n (omega arith)) in
+    more ∙ elim (cases_Bool (p n)) [ inl k ↦ rw k refl | inr k ↦ rw k (append-nil _) ]
 
 -- ---- sums
 

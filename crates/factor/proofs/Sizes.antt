@@ -134,21 +134,16 @@ output_some w k s = elim (cases_Bool (eqb (length (sum_part w k s).cells) 0)) [ 
 after_part : (first : ℕ) (old part now : List Cell) → now ≡ old ++ part → first + length now ≡ first + length old + length part
 after_part first old part now e = omega (arith, ap length e, length-append old part)
 
-pub literals_cells : (w : Wires) (first : ℕ) (ls : Product) (rest : Summands) (old now : List Cell) → now ≡ old ++ (literals_part w (first + length old) ls).cells
-    → now ++ (parts w (first + length now) rest).cells ≡ old ++ (parts w (first + length old) (literals ls rest)).cells
-literals_cells w first ls rest old now e =
-    let k = first + length old in
-    let part = literals_part w k ls in
-    rw (after_part first old part.cells now e, parts-literals w k ls rest) (ap (λ (cs : List Cell). cs ++ (parts w (k + length part.cells) rest).cells) e ∙ append_assoc old part.cells (parts w (k + length part.cells) rest).cells)
+-- the part of a first summand is there, and the gates of the others follow
+pub part_cells : (w : Wires) (first : ℕ) (ls : Product) (part : Part) (s rest : Summands) (old now : List Cell) → parts w (first + length old) s ≡ before ls part (parts w (first + length old + length part.cells) rest) → now ≡ old ++ part.cells
+    → now ++ (parts w (first + length now) rest).cells ≡ old ++ (parts w (first + length old) s).cells
+part_cells w first ls part s rest old now is e =
+    rw (after_part first old part.cells now e, is, e) (append_assoc old part.cells (parts w (first + length old + length part.cells) rest).cells)
 
-pub literals_factors : (w : Wires) (first : ℕ) (ls : Product) (rest : Summands) (old now : List Cell) (before joined : List Factor) (s : ℕ) → now ≡ old ++ (literals_part w (first + length old) ls).cells → s ≡ (literals_part w (first + length old) ls).signal
-    → joined ≡ before ++ record { literals = ls; signal = s } ∷ []
-    → joined ++ (parts w (first + length now) rest).factors ≡ before ++ (parts w (first + length old) (literals ls rest)).factors
-literals_factors w first ls rest old now before joined s e signal j =
-    let k = first + length old in
-    let part = literals_part w k ls in
-    let more = (parts w (k + length part.cells) rest).factors in
-    rw (after_part first old part.cells now e, parts-literals w k ls rest) (ap (λ (fs : List Factor). fs ++ more) (j ∙ ap (λ t. before ++ record { literals = ls; signal = t } ∷ []) signal) ∙ append_assoc before (record { literals = ls; signal = part.signal } ∷ []) more)
+pub part_factors : (w : Wires) (first : ℕ) (ls : Product) (part : Part) (s rest : Summands) (old now : List Cell) (earlier joined : List Factor) (line : ℕ) → parts w (first + length old) s ≡ before ls part (parts w (first + length old + length part.cells) rest)
+    → now ≡ old ++ part.cells → line ≡ part.signal → joined ≡ earlier ++ record { literals = ls; signal = line } ∷ [] → joined ++ (parts w (first + length now) rest).factors ≡ earlier ++ (parts w (first + length old) s).factors
+part_factors w first ls part s rest old now earlier joined line is e signal j =
+    rw (after_part first old part.cells now e, is, j, signal) (append_assoc earlier (record { literals = ls; signal = part.signal } ∷ []) (parts w (first + length old + length part.cells) rest).factors)
 
 -- after the gates of the inner sum and the AND gate
 pub factored_cells : (w : Wires) (first : ℕ) (ls : Product) (inner rest : Summands) (old half now : List Cell) (line : ℕ) → half ≡ old ++ (sum_part w (first + length old) inner).cells → line ≡ (sum_part w (first + length old) inner).signal
@@ -161,22 +156,6 @@ factored_cells w first ls inner rest old half now line e l a =
 
 pub factored_signal : (w : Wires) (first : ℕ) (ls : Product) (inner : Summands) (old half : List Cell) (s : ℕ) → half ≡ old ++ (sum_part w (first + length old) inner).cells → s ≡ first + length half → s ≡ (factored_part w (first + length old) ls inner).signal
 factored_signal w first ls inner old half s e signal = omega (arith, signal, after_part first old (sum_part w (first + length old) inner).cells half e)
-
-pub more_cells : (w : Wires) (first : ℕ) (ls : Product) (inner rest : Summands) (old now : List Cell) → now ≡ old ++ (factored_part w (first + length old) ls inner).cells
-    → now ++ (parts w (first + length now) rest).cells ≡ old ++ (parts w (first + length old) (factored ls inner rest)).cells
-more_cells w first ls inner rest old now e =
-    let k = first + length old in
-    let part = factored_part w k ls inner in
-    rw (after_part first old part.cells now e, parts-factored w k ls inner rest) (ap (λ (cs : List Cell). cs ++ (parts w (k + length part.cells) rest).cells) e ∙ append_assoc old part.cells (parts w (k + length part.cells) rest).cells)
-
-pub more_factors : (w : Wires) (first : ℕ) (ls : Product) (inner rest : Summands) (old now : List Cell) (before joined : List Factor) (s : ℕ) → now ≡ old ++ (factored_part w (first + length old) ls inner).cells → s ≡ (factored_part w (first + length old) ls inner).signal
-    → joined ≡ before ++ record { literals = ls; signal = s } ∷ []
-    → joined ++ (parts w (first + length now) rest).factors ≡ before ++ (parts w (first + length old) (factored ls inner rest)).factors
-more_factors w first ls inner rest old now before joined s e signal j =
-    let k = first + length old in
-    let part = factored_part w k ls inner in
-    let more = (parts w (k + length part.cells) rest).factors in
-    rw (after_part first old part.cells now e, parts-factored w k ls inner rest) (ap (λ (fs : List Factor). fs ++ more) (j ∙ ap (λ t. before ++ record { literals = ls; signal = t } ∷ []) signal) ∙ append_assoc before (record { literals = ls; signal = part.signal } ∷ []) more)
 
 -- the gates that close a sum after those of its summands
 pub sum_cells : (w : Wires) (first : ℕ) (s : Summands) (old now : List Cell) → now ≡ old ++ (parts w (first + length old) s).cells

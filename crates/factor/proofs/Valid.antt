@@ -2,7 +2,7 @@
 use Rattle.std.proofs.Common.{◌≡◌, ◌≢◌, ℕ, ◌<◌, Bool, true, false, inl, inr, List, [], ◌∷◌, refl, sym, ap, ◌∙◌, arith, eqb, zero, suc, ◌+◌, ◌*◌, ◌-◌, ◌≤◌, ◌^◌, cond, ◌++◌, length, map, get_or, drop, ap₂, subst, eq-eqb, ne_eqb, length-append, length-drop, drop-cons, append_assoc, append-nil}
 use Rattle.std.specs.Prelude.{All, codes, filter, sum, slice_index}
 use Rattle.std.specs.List.{list_any, AllByRecursion, range_with_len, position_or_len}
-use Rattle.std.proofs.lemmas.Bool.{cases_Bool, false≢true, or_cases, or_left, or_right, cases_eq, lt-ltb}
+use Rattle.std.proofs.lemmas.Bool.{cases_Bool, false≢true, or_cases, or_left, or_right, cases_eq, lt-ltb, false_from_ne_true}
 use Rattle.std.proofs.lemmas.List.Elements.{recursion_from_All, All-from_recursion}
 use Rattle.ae_base.specs.Mask.{has, either, first, inside, members}
 use Rattle.ae_base.specs.Cube.{Product, IsOver, IsProduct, whole}
@@ -19,7 +19,7 @@ use Rattle.factor.specs.Sums.IsSum.{flat, taken}
 use Rattle.factor.proofs.Taken.{some_stands, joined_by, lit, stands-with, stands-one, same_is, each_literal, kept}
 use Rattle.factor.proofs.Meaning.{over_held, over_others, each_avoids, none_stands, each_product, stands_below}
 use Rattle.std.specs.Fmt.{decimal}
-use Rattle.std.proofs.lemmas.List.{length-map, map-append}
+use Rattle.std.proofs.lemmas.List.{length-map, map-append, drop_more}
 use Rattle.std.proofs.lemmas.List.Sums.{sum_by-cons}
 use Rattle.ae_base.specs.declared.limits.TheConstants.{SOURCE_LINES, PINS, SOURCE_NAME_BYTES}
 use Rattle.ae_base.proofs.Distinct.{each-append, each_weaker, AllPairs-from_Distinct, Distinct-filter, Distinct-range, Distinct, each-map}
@@ -51,25 +51,20 @@ EachFactor P (literals ls rest) = P ls × EachFactor P rest
 EachFactor P (factored ls inner rest) = P ls × EachFactor P inner × EachFactor P rest
 
 is_product_with : (t : Literal) (c : Product) → IsProduct c → ((u : Literal) → stands u c ≡ true → u.input ≢ t.input) → IsProduct (with_literal t c)
-is_product_with t c product free j m = elim (cases_Bool (stands (lit j false) (with_literal t c))) [
-  | inl k ↦ elim (or_cases _ _ (sym (stands-with (lit j true) t c) ∙ m)) [
-    | inl a ↦ elim (or_cases _ _ (sym (stands-with (lit j false) t c) ∙ k)) [
-      | inl b ↦ absurd (false≢true (ap (λ (u : Literal). u.plain) (same_is (lit j false) t b ∙ sym (same_is (lit j true) t a))))
-      | inr b ↦ absurd (free (lit j false) b (ap (λ (u : Literal). u.input) (same_is (lit j true) t a)))
-    ]
-    | inr a ↦ elim (or_cases _ _ (sym (stands-with (lit j false) t c) ∙ k)) [
-      | inl b ↦ absurd (free (lit j true) a (ap (λ (u : Literal). u.input) (same_is (lit j false) t b)))
-      | inr b ↦ absurd (false≢true (sym (product j a) ∙ b))
-    ]
-  ]
-  | inr k ↦ k
-]
+is_product_with t c product free j m =
+    false_from_ne_true (stands (lit j false) (with_literal t c)) (λ k. elim (or_cases _ _ (sym (stands-with (lit j true) t c) ∙ m)) [
+      | inl a ↦ elim (or_cases _ _ (sym (stands-with (lit j false) t c) ∙ k)) [
+        | inl b ↦ false≢true (ap (λ (u : Literal). u.plain) (same_is (lit j false) t b ∙ sym (same_is (lit j true) t a)))
+        | inr b ↦ free (lit j false) b (ap (λ (u : Literal). u.input) (same_is (lit j true) t a))
+      ]
+      | inr a ↦ elim (or_cases _ _ (sym (stands-with (lit j false) t c) ∙ k)) [
+        | inl b ↦ free (lit j true) a (ap (λ (u : Literal). u.input) (same_is (lit j false) t b))
+        | inr b ↦ false≢true (sym (product j a) ∙ b)
+      ]
+    ])
 
 product_one : (t : Literal) → IsProduct (with_literal t whole)
-product_one t j m = elim (cases_Bool (stands (lit j false) (with_literal t whole))) [
-  | inl k ↦ absurd (false≢true (ap (λ (u : Literal). u.plain) (stands-one (lit j false) t k ∙ sym (stands-one (lit j true) t m))))
-  | inr k ↦ k
-]
+product_one t j m = false_from_ne_true (stands (lit j false) (with_literal t whole)) (λ k. false≢true (ap (λ (u : Literal). u.plain) (stands-one (lit j false) t k ∙ sym (stands-one (lit j true) t m))))
 
 plain_products : (cs : List Product) (b : Bool) → AllByRecursion IsProduct cs → EachFactor IsProduct (plain_sum (kept cs) b)
 plain_products [] b h = tt
@@ -143,28 +138,24 @@ named_first : (k c : ℕ) (out : List ℕ) (x : Cell) (xs : List Cell) → named
 named_first k c out x [] = refl
 named_first k c out x (y ∷ ys) = rw (ne_eqb (suc (length ys)) 0 (λ e. absurd (omega (arith, e)))) refl
 
-last_same : (i n : ℕ) → i < n → eqb (n - suc i) 0 ≡ eqb (i + 1) n
+last_same : (i n : ℕ) → i < n → eqb (n - (i + 1)) 0 ≡ eqb (i + 1) n
 last_same i n l = elim (cases_eq (i + 1) n) [
-  | inl e ↦ eq-eqb (n - suc i) 0 (omega (arith, e)) ∙ sym (eq-eqb (i + 1) n e)
-  | inr other ↦ ne_eqb (n - suc i) 0 (λ z. other (omega (arith, l, z))) ∙ sym (ne_eqb (i + 1) n other)
+  | inl e ↦ eq-eqb (n - (i + 1)) 0 (omega (arith, e)) ∙ sym (eq-eqb (i + 1) n e)
+  | inr other ↦ ne_eqb (n - (i + 1)) 0 (λ z. other (omega (arith, l, z))) ∙ sym (ne_eqb (i + 1) n other)
 ]
 
 -- one more gate is named
+-- an element that was read, and those after it
+pub at_item : {X : Type 0} (xs : List X) (i : ℕ) (item : X) → i < length xs → item ≡ get_or xs i item → drop i xs ≡ item ∷ drop (i + 1) xs
+at_item xs i item l is = drop_more xs i item l ∙ ap (λ x. x ∷ drop (i + 1) xs) (sym is)
+
 pub named_more : (k c i : ℕ) (out name : List ℕ) (xs : List Cell) (x : Cell) (start now : List Gate) → i < length xs → x ≡ get_or xs i x → name ≡ name_of_cell k (c + i) out (eqb (i + 1) (length xs))
     → start ++ named k (c + i) out (drop i xs) ≡ now → (start ++ gate_of name x ∷ []) ++ named k (c + (i + 1)) out (drop (i + 1) xs) ≡ now
 named_more k c i out name xs x start now l here name_is e =
-    let z : i + 1 ≡ suc i = omega arith in
     let s : c + (i + 1) ≡ suc (c + i) = omega arith in
-    let len : length (drop (suc i) xs) ≡ length xs - suc i = length-drop (suc i) xs in
-    let first : named k (c + i) out (drop i xs) ≡ gate_of name x ∷ named k (suc (c + i)) out (drop (suc i) xs) =
-    ap (named k (c + i) out) (drop-cons xs i x l)
-    ∙ named_first k (c + i) out (get_or xs i x) (drop (suc i) xs)
-    ∙ ap₂ (λ (n : List ℕ) (y : Cell). gate_of n y ∷ named k (suc (c + i)) out (drop (suc i) xs)) (ap (name_of_cell k (c + i) out) (ap (λ n. eqb n 0) len ∙ last_same i (length xs) l) ∙ sym name_is) (sym here) in
-    let more : List Gate = named k (suc (c + i)) out (drop (suc i) xs) in
-    ap₂ (λ p q. (start ++ gate_of name x ∷ []) ++ named k p out (drop q xs)) s z
-    ∙ append_assoc start (gate_of name x ∷ []) more
-    ∙ ap (λ (gs : List Gate). start ++ gs) (sym first)
-    ∙ e
+    let len : length (drop (i + 1) xs) ≡ length xs - (i + 1) = length-drop (i + 1) xs in
+    let last : eqb (length (drop (i + 1) xs)) 0 ≡ eqb (i + 1) (length xs) = ap (λ n. eqb n 0) len ∙ last_same i (length xs) l in
+    rw (append_assoc, s) (rw (at_item xs i x l here, named_first k (c + i) out x (drop (i + 1) xs), last, ← name_is) at e)
 
 -- ---- few pins
 
@@ -230,47 +221,28 @@ pub outputs_more : (k : ℕ) (w : Wires) (sums : List Summands) (names : List (L
     → o < length sums → o < length names → s ≡ get_or sums o s → out ≡ get_or names o out
     → next ≡ now ++ named k c out (output_cells w (w.inputs + length now) s) → inner ≡ length (output_cells w (w.inputs + length now) s) - 1
     → now ++ output_gates k w (w.inputs + length now) c (drop o sums) (drop o names) ≡ all
-    → next ++ output_gates k w (w.inputs + length next) (c + inner) (drop (suc o) sums) (drop (suc o) names) ≡ all
+    → next ++ output_gates k w (w.inputs + length next) (c + inner) (drop (o + 1) sums) (drop (o + 1) names) ≡ all
 outputs_more k w sums names o c inner s out now next all l m s_is out_is e i h =
     let cells = output_cells w (w.inputs + length now) s in
     let len : w.inputs + length next ≡ w.inputs + length now + length cells = omega (arith, ap length e, length-append now (named k c out cells), length-named k c out cells) in
-    let more = output_gates k w (w.inputs + length now + length cells) (c + (length cells - 1)) (drop (suc o) sums) (drop (suc o) names) in
-    let first : output_gates k w (w.inputs + length now) c (drop o sums) (drop o names) ≡ named k c out cells ++ more =
-    ap₂ (λ (ss : List Summands) (ns : List (List ℕ)). output_gates k w (w.inputs + length now) c ss ns) (drop-cons sums o s l) (drop-cons names o out m)
-    ∙ ap₂ (λ (t : Summands) (n : List ℕ). output_gates k w (w.inputs + length now) c (t ∷ drop (suc o) sums) (n ∷ drop (suc o) names)) (sym s_is) (sym out_is) in
-    ap₂ (λ p q. next ++ output_gates k w p (c + q) (drop (suc o) sums) (drop (suc o) names)) len i
-    ∙ ap (λ (gs : List Gate). gs ++ more) e
-    ∙ append_assoc now (named k c out cells) more
-    ∙ ap (λ (gs : List Gate). now ++ gs) (sym first)
-    ∙ h
+    rw (len, i, e, append_assoc now (named k c out cells) _) (rw (at_item sums o s l s_is, at_item names o out m out_is) at h)
 
 pub ends_more : (k c : ℕ) (w : Wires) (sums : List Summands) (o inner port : ℕ) (s : Summands) (out : List ℕ) (now next : List Gate) (ports all : List ℕ)
     → o < length sums → s ≡ get_or sums o s
     → next ≡ now ++ named k c out (output_cells w (w.inputs + length now) s) → inner ≡ length (output_cells w (w.inputs + length now) s) - 1 → port ≡ w.inputs + length now + inner
     → ports ++ ends w (w.inputs + length now) (drop o sums) ≡ all
-    → (ports ++ port ∷ []) ++ ends w (w.inputs + length next) (drop (suc o) sums) ≡ all
+    → (ports ++ port ∷ []) ++ ends w (w.inputs + length next) (drop (o + 1) sums) ≡ all
 ends_more k c w sums o inner port s out now next ports all l s_is e i p h =
     let cells = output_cells w (w.inputs + length now) s in
     let len : w.inputs + length next ≡ w.inputs + length now + length cells = omega (arith, ap length e, length-append now (named k c out cells), length-named k c out cells) in
-    let more = ends w (w.inputs + length now + length cells) (drop (suc o) sums) in
-    let port_is : port ≡ w.inputs + length now + (length cells - 1) = p ∙ ap (λ n. w.inputs + length now + n) i in
-    let first : ends w (w.inputs + length now) (drop o sums) ≡ port ∷ more =
-    ap (ends w (w.inputs + length now)) (drop-cons sums o s l)
-    ∙ ap (λ (t : Summands). ends w (w.inputs + length now) (t ∷ drop (suc o) sums)) (sym s_is)
-    ∙ ap (λ n. n ∷ more) (sym port_is) in
-    ap (λ n. (ports ++ port ∷ []) ++ ends w n (drop (suc o) sums)) len
-    ∙ append_assoc ports (port ∷ []) more
-    ∙ ap (λ (ns : List ℕ). ports ++ ns) (sym first)
-    ∙ h
+    rw (len, append_assoc, p, i) (rw (at_item sums o s l s_is) at h)
 
-pub most_more : (sums : List Summands) (o : ℕ) (s : Summands) → o < length sums → s ≡ get_or sums o s → most_gates (drop o sums) ≡ (3 * nodes s + 1) + most_gates (drop (suc o) sums)
-most_more sums o s l e = ap most_gates (drop-cons sums o s l) ∙ ap (λ t. (3 * nodes t + 1) + most_gates (drop (suc o) sums)) (sym e)
+pub most_more : (sums : List Summands) (o : ℕ) (s : Summands) → o < length sums → s ≡ get_or sums o s → most_gates (drop o sums) ≡ (3 * nodes s + 1) + most_gates (drop (o + 1) sums)
+most_more sums o s l e = ap most_gates (at_item sums o s l e)
 
 -- it holds of the sum in a place
 pub each_get : (P : Summands → Type 0) (sums : List Summands) → AllByRecursion P sums → (o : ℕ) (s : Summands) → o < length sums → s ≡ get_or sums o s → P s
-each_get P [] h o s l e = absurd (omega (arith, l))
-each_get P (r ∷ rs) (h, hs) zero s l e = subst P (sym e) h
-each_get P (r ∷ rs) (h, hs) (suc o) s l e = each_get P rs hs o s (omega (arith, l)) e
+each_get P sums h o s l e = subst P (sym e) (All-from_recursion P sums h o s l)
 
 -- ---- the names of all gates
 

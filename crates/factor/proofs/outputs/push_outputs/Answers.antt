@@ -41,16 +41,14 @@ loop-o-preserved c =
     let l : o < length plan.sums.items = omega (arith, c.loop-o-test.true, c.len-o-end.ensures) in
     let m : o < length c.args.names.now = omega (arith, l, c.requires.fits) in
     let at = at_place plan o c.index.result.now l c.index.ensures in
-    let z : o + 1 ≡ suc o = omega arith in
     let cells = output_cells plan.wires (plan.wires.inputs + length now) s in
     let grown : length next ≡ length now + length cells = omega (arith, ap length c.in_ok-inner.ensures.gates, length-append now (named plan.lead c.loop-o.number c.index-names-o.result cells), length-named plan.lead c.loop-o.number c.index-names-o.result cells) in
     record {
-      gates = rw z (outputs_more plan.lead plan.wires (sums_of plan) c.args.names.now o c.loop-o.number c.in_ok-inner.inner s c.index-names-o.result now next _ (within plan o l) m at c.index-names-o.is c.in_ok-inner.ensures.gates c.in_ok-inner.ensures.inner c.loop-o.invariant.gates);
-      ports = rw z (
-          ap (λ (ps : List ℕ). ps ++ ends plan.wires (plan.wires.inputs + length next) (drop (suc o) (sums_of plan))) c.in_ok-push.ensures.ok
-          ∙ ends_more plan.lead c.loop-o.number plan.wires (sums_of plan) o c.in_ok-inner.inner _ s c.index-names-o.result now next c.loop-o.ports _ (within plan o l) at c.in_ok-inner.ensures.gates c.in_ok-inner.ensures.inner (ap (λ n. plan.wires.inputs + n + c.in_ok-inner.inner) (ap length c.gates.ensures)) c.loop-o.invariant.ports
-          );
+      gates = (outputs_more plan.lead plan.wires (sums_of plan) c.args.names.now o c.loop-o.number c.in_ok-inner.inner s c.index-names-o.result now next _ (within plan o l) m at c.index-names-o.is c.in_ok-inner.ensures.gates c.in_ok-inner.ensures.inner c.loop-o.invariant.gates);
+      ports =
+          ap (λ (ps : List ℕ). ps ++ ends plan.wires (plan.wires.inputs + length next) (drop (o + 1) (sums_of plan))) c.in_ok-push.ensures.ok
+          ∙ ends_more plan.lead c.loop-o.number plan.wires (sums_of plan) o c.in_ok-inner.inner _ s c.index-names-o.result now next c.loop-o.ports _ (within plan o l) at c.in_ok-inner.ensures.gates c.in_ok-inner.ensures.inner (ap (λ n. plan.wires.inputs + n + c.in_ok-inner.inner) (ap length c.gates.ensures)) c.loop-o.invariant.ports;
       small = omega (arith, c.loop-o.invariant.small, grown, c.in_ok-inner.ensures.inner);
       inputs = c.push_output.ensures.inputs ∙ c.loop-o.invariant.inputs;
-      room = rw z (omega (arith, c.loop-o.invariant.room, grown, output_bound plan.wires (plan.wires.inputs + length now) s, most_more (sums_of plan) o s (within plan o l) at));
+      room = omega (arith, c.loop-o.invariant.room, grown, output_bound plan.wires (plan.wires.inputs + length now) s, most_more (sums_of plan) o s (within plan o l) at);
     }
