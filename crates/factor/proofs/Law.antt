@@ -44,7 +44,7 @@ use Rattle.factor.specs.Sums.{Summands, IsSum, sum_value}
 use Rattle.factor.proofs.Values.{port_shows, literals_show}
 use Rattle.factor.proofs.Meaning.{nodes_bound, sum_means, value-esop, one_sum}
 use Rattle.factor.proofs.Sizes.{all_exors, output_some}
-use Rattle.factor.proofs.Valid.{length-named, gate_names, first_gate, AreGates-inverters, AreGates-outputs, length-outputs, ports_within, ports_apart, length-ends, ready_all, within_all}
+use Rattle.factor.proofs.Valid.{length-named, gate_names, first_gate, AreGates-inverters, AreGates-outputs, length-outputs, ends_apart, length-ends, ready_all, within_all}
 use Rattle.factor.specs.declared.outputs.Plan.{Plan}
 use Rattle.factor.specs.Seen.{seen, IsWithin}
 use Rattle.std.proofs.lemmas.Slice.Zip.{AllZip-long}
@@ -128,6 +128,7 @@ valid names e sums differ can are =
     (subst (λ p. EachAt IsGate p outs) (sym z)
     (AreGates-outputs k w s 0 sums names.outputs short (omega (arith, small)) (omega arith) (omega (arith, most)) ins_outs.1 (ready_all e e.outs sums are (over_all e can.cubes) (λ q m. m)) (within_all e.n e.outs sums are (over_all e can.cubes)))) in
     let ports : length (ends w s sums) ≡ length sums = length-ends w s sums in
+    let ends_are = ends_apart k w s 0 sums names.outputs same in
     record {
       model_named = named.model_named;
       inputs_named = All-from_recursion _ names.inputs ins_outs.0;
@@ -138,8 +139,8 @@ valid names e sums differ can are =
       gates = λ i gate there. subst (λ m. IsGate (m + i) gate) (sym inputs) (EachAt-get IsGate e.n (invs ++ outs) gates i gate there);
       some_output = omega (arith, ports, same, named.some_output);
       few_outputs = omega (arith, ports, same, named.few_outputs);
-      ports = All-from_recursion _ (ends w s sums) (ports_within k w s 0 (length names.inputs) (length names.inputs + length (invs ++ outs)) sums names.outputs same (omega (arith, inputs)) (omega (arith, inputs, len)));
-      other_ports = AllPairs-from_Distinct _ (ports_apart w s sums);
+      ports = All-from_recursion _ (ends w s sums) (each_weaker (λ p. (s ≤ p) × (p < s + length outs)) (λ p. (length names.inputs ≤ p) × (p < length names.inputs + length (invs ++ outs))) (λ p h. (omega (arith, h.0, inputs), omega (arith, h.1, inputs, len))) (ends w s sums) ends_are.0);
+      other_ports = AllPairs-from_Distinct _ ends_are.1;
     }
 
 -- ---- values

@@ -336,11 +336,7 @@ first_gate w = w.inputs + length w.turned
 
 signal_below : (w : Wires) (u : Literal) → Wired w u → literal_signal w u.plain u.input < first_gate w
 unfolding literal_signal
-signal_below w u wired = by u.plain refl
-  where
-    by : (b : Bool) → u.plain ≡ b → cond b u.input (w.inputs + position_or_len (λ i. eqb i u.input) w.turned) < w.inputs + length w.turned
-    by true e = omega (arith, wired.0)
-    by false e = omega (arith, place_below w.turned u.input (wired.1 e))
+signal_below w u wired = elim (cases_Bool u.plain) [ inl e ↦ rw e (omega (arith, wired.0)) | inr e ↦ rw e (omega (arith, place_below w.turned u.input (wired.1 e))) ]
 
 sign_below : (w : Wires) (c : Product) (j : ℕ) → ((u : Literal) → stands u c ≡ true → Wired w u) → has (either c.pos c.neg) j ≡ true → literal_signal w (has c.pos j) j < first_gate w
 sign_below w c j wired m = elim (cases_Bool (has c.pos j)) [
@@ -497,31 +493,18 @@ length-outputs k w s c (sum ∷ sums) (out ∷ outs) =
 
 -- ---- ports
 
-ends_within : (k : ℕ) (w : Wires) (s c : ℕ) (sums : List Summands) (outs : List (List ℕ)) → length sums ≡ length outs → AllByRecursion (λ p. (s ≤ p) × (p < s + length (output_gates k w s c sums outs))) (ends w s sums)
-ends_within k w s c [] outs same = tt
-ends_within k w s c (sum ∷ sums) [] same = absurd (omega (arith, same))
-ends_within k w s c (sum ∷ sums) (out ∷ outs) same =
+pub ends_apart : (k : ℕ) (w : Wires) (s c : ℕ) (sums : List Summands) (outs : List (List ℕ)) → length sums ≡ length outs → AllByRecursion (λ p. (s ≤ p) × (p < s + length (output_gates k w s c sums outs))) (ends w s sums) × Distinct (ends w s sums)
+ends_apart k w s c [] outs same = (tt, tt)
+ends_apart k w s c (sum ∷ sums) [] same = absurd (omega (arith, same))
+ends_apart k w s c (sum ∷ sums) (out ∷ outs) same =
     let cells = output_cells w s sum in
-    let rest = output_gates k w (s + length cells) (c + (length cells - 1)) sums outs in
-    let len : length (named k c out cells ++ rest) ≡ length cells + length rest = length-append (named k c out cells) rest ∙ ap (λ n. n + length rest) (length-named k c out cells) in (
-      (omega arith, omega (arith, len, output_some w s sum)),
-      each_weaker (λ p. (s + length cells ≤ p) × (p < s + length cells + length rest)) (λ p. (s ≤ p) × (p < s + length (named k c out cells ++ rest))) (λ p h. (omega (arith, h.0), omega (arith, h.1, len))) (ends w (s + length cells) sums)
-          (ends_within k w (s + length cells) (c + (length cells - 1)) sums outs (omega (arith, same))),
+    let next : ℕ = s + length cells in
+    let rest = output_gates k w next (c + (length cells - 1)) sums outs in
+    let len : length (named k c out cells ++ rest) ≡ length cells + length rest = length-append (named k c out cells) rest ∙ ap (λ n. n + length rest) (length-named k c out cells) in
+    let r = ends_apart k w next (c + (length cells - 1)) sums outs (omega (arith, same)) in (
+      ((omega arith, omega (arith, len, output_some w s sum)), each_weaker (λ p. (next ≤ p) × (p < next + length rest)) (λ p. (s ≤ p) × (p < s + length (named k c out cells ++ rest))) (λ p h. (omega (arith, h.0), omega (arith, h.1, len))) (ends w next sums) r.0),
+      (each_weaker (λ p. (next ≤ p) × (p < next + length rest)) (λ p. s + (length cells - 1) ≢ p) (λ p h same. omega (arith, h.0, same, output_some w s sum)) (ends w next sums) r.0, r.1),
     )
-
-pub ports_within : (k : ℕ) (w : Wires) (s c m all : ℕ) (sums : List Summands) (outs : List (List ℕ)) → length sums ≡ length outs → m ≤ s → s + length (output_gates k w s c sums outs) ≤ all → AllByRecursion (λ p. (m ≤ p) × (p < all)) (ends w s sums)
-ports_within k w s c m all sums outs same l g = each_weaker (λ p. (s ≤ p) × (p < s + length (output_gates k w s c sums outs))) (λ p. (m ≤ p) × (p < all)) (λ p h. (omega (arith, h.0, l), omega (arith, h.1, g))) (ends w s sums) (ends_within k w s c sums outs same)
-
-ends_from : (w : Wires) (s : ℕ) (sums : List Summands) → AllByRecursion (λ p. s ≤ p) (ends w s sums)
-ends_from w s [] = tt
-ends_from w s (sum ∷ sums) = (omega arith, each_weaker (λ p. s + length (output_cells w s sum) ≤ p) (λ p. s ≤ p) (λ p h. omega (arith, h)) _ (ends_from w (s + length (output_cells w s sum)) sums))
-
-pub ports_apart : (w : Wires) (s : ℕ) (sums : List Summands) → Distinct (ends w s sums)
-ports_apart w s [] = tt
-ports_apart w s (sum ∷ sums) = (
-  each_weaker (λ p. s + length (output_cells w s sum) ≤ p) (λ p. s + (length (output_cells w s sum) - 1) ≢ p) (λ p h same. omega (arith, h, same, output_some w s sum)) _ (ends_from w (s + length (output_cells w s sum)) sums),
-  ports_apart w (s + length (output_cells w s sum)) sums,
-)
 
 pub length-ends : (w : Wires) (s : ℕ) (sums : List Summands) → length (ends w s sums) ≡ length sums
 length-ends w s [] = refl

@@ -1,17 +1,17 @@
 -- What the gates of a sum show in a run without a fault.
-use Rattle.std.proofs.Common.{◌≡◌, ℕ, suc, ◌+◌, Bool, true, false, not, ◌&&◌, ◌||◌, cond, inl, inr, List, [], ◌∷◌, ◌++◌, length, refl, sym, ap, ap₂, ◌∙◌, subst, arith, eqb, eq-eqb, ne_eqb, append-nil, append_assoc, ◌≢◌, zero, ◌-◌, ◌<◌, map, length-append, add-zero}
+use Rattle.std.proofs.Common.{◌≡◌, ℕ, suc, ◌+◌, Bool, true, false, not, ◌&&◌, ◌||◌, cond, inl, inr, List, [], ◌∷◌, ◌++◌, length, refl, sym, ap, ap₂, ◌∙◌, subst, arith, eqb, eq-eqb, ne_eqb, append-nil, append_assoc, ◌≢◌, zero, ◌-◌, ◌<◌, map, length-append, add-zero, zero-add}
 use Rattle.std.specs.Prelude.{slice_index, Some, None, slice_get, codes}
 use Rattle.std.specs.List.{list_all, AllByRecursion, list_any, position_or_len}
 use Rattle.std.proofs.Math.Bool.{and-true}
-use Rattle.std.proofs.lemmas.Bool.{cases_Bool, cases_eq, false≢true, and_parts, or_cases, or_left, or_right}
-use Rattle.std.proofs.lemmas.List.Folds.{list_all-map}
+use Rattle.std.proofs.lemmas.Bool.{cases_Bool, cases_eq, false≢true, and_parts, or_cases, or_left, or_right, false_from_ne_true}
+use Rattle.std.proofs.lemmas.List.Folds.{list_all-map, list_all-append}
 use Rattle.ae_base.specs.Mask.{Set, differ, has, either, members}
 use Rattle.ae_base.specs.Cube.{Product, IsProduct, holds, meet}
 use Rattle.ae_base.proofs.Elements.{all_at, all_from_members}
 use Rattle.ae_base.proofs.Meets.{meets}
 use Rattle.ae_base.proofs.Members.{members-has}
 use Rattle.ae_base.proofs.Sets.{has-either}
-use Rattle.ae_base.proofs.Truth.{same_truth, differ-assoc, differ-false, not_both}
+use Rattle.ae_base.proofs.Truth.{same_truth, differ-assoc, differ-false, not_both, differ-flip}
 use Rattle.ae_net.specs.Run.{value_of, table, ones_seen}
 use Rattle.ae_net.proofs.Tables.{cell_value, table-inverter, table-cell}
 use Rattle.ae_net.specs.declared.gates.Cell.{Cell}
@@ -36,6 +36,7 @@ use Rattle.ae_net.specs.Follows.{Fits}
 use Rattle.ae_net.specs.Gates.{inverter}
 use Rattle.factor.specs.Factored.{inverters, named, output_gates, ends}
 use Rattle.factor.proofs.Meaning.{width}
+use Rattle.ae_base.proofs.Distinct.{each-append}
 
 -- ---- gates
 
@@ -98,19 +99,14 @@ factors_push v [] f = differ-false (value_of v f.signal)
 factors_push v (e ∷ fs) f = ap (differ (value_of v e.signal)) (factors_push v fs f) ∙ sym (differ-assoc (value_of v e.signal) (factors_value v fs) (value_of v f.signal))
 
 Sound-push : (v : List Bool) (x : Set) (fs : List Factor) (f : Factor) → Sound v x fs → (value_of v f.signal ≡ true → holds f.literals x ≡ true) → Sound v x (fs ++ f ∷ [])
-Sound-push v x [] f h k = (k, tt)
-Sound-push v x (e ∷ fs) f (h, hs) k = (h, Sound-push v x fs f hs k)
+Sound-push v x fs f h k = each-append (λ (g : Factor). value_of v g.signal ≡ true → holds g.literals x ≡ true) fs (f ∷ []) h (k, tt)
 
 -- where a summand is 1 that all earlier ones exclude, these are 0
 excluded_none : (v : List Bool) (x : Set) (earlier : List Factor) (f : Factor) → Sound v x earlier → are_excluded earlier f.literals ≡ true → holds f.literals x ≡ true → factors_value v earlier ≡ false
 excluded_none v x [] f sound apart one = refl
 excluded_none v x (e ∷ es) f (h, hs) apart one =
     let parts = and_parts _ _ apart in
-    ap₂ differ (low (value_of v e.signal) refl parts.0) (excluded_none v x es f hs parts.1 one)
-  where
-    low : (b : Bool) → value_of v e.signal ≡ b → not (meet e.literals f.literals) ≡ true → b ≡ false
-    low true k other = absurd (false≢true (sym (ap not (meets e.literals f.literals x (h k) one)) ∙ other))
-    low false k other = refl
+    ap₂ differ (false_from_ne_true (value_of v e.signal) (λ k. false≢true (sym (ap not (meets e.literals f.literals x (h k) one)) ∙ parts.0))) (excluded_none v x es f hs parts.1 one)
 
 or_exor : (a b : Bool) → (b ≡ true → a ≡ false) → (a || b) ≡ differ a b
 or_exor true true h = absurd (false≢true (sym (h refl)))
@@ -156,11 +152,7 @@ closing_value v x k constant (f ∷ fs) cells sound =
     by : (b : Bool) → EachCell v k (turned_by b k (chain_of k (f ∷ fs))).cells → value_of v (turned_by b k (chain_of k (f ∷ fs))).signal ≡ differ (factors_value v (f ∷ fs)) b
     by true cs =
         let both = EachCell-append v k (joins k f.signal (f ∷ []) fs) (Inverter (last_of k f.signal (length fs)) ∷ []) cs in
-        both.1.0 ∙ ap not (joined both.0) ∙ differ_true_right (factors_value v (f ∷ fs))
-      where
-        differ_true_right : (a : Bool) → not a ≡ differ a true
-        differ_true_right true = refl
-        differ_true_right false = refl
+        both.1.0 ∙ ap not (joined both.0) ∙ differ-flip true (factors_value v (f ∷ fs))
     by false cs = joined cs ∙ sym (differ-false (factors_value v (f ∷ fs)))
 
 -- ---- sums
@@ -183,12 +175,7 @@ product_value : (v : List Bool) (k : ℕ) (signals : List ℕ) → EachCell v k 
 product_value v k signals = elim (cases_Bool (eqb (length signals) 1)) [ inl e ↦ rw e (λ cells. all_one v signals e) | inr e ↦ rw e (λ cells. cells.0) ]
 
 all_append : (v : List Bool) (a : List ℕ) (s : ℕ) → list_all (λ t. value_of v t) (a ++ s ∷ []) ≡ (list_all (λ t. value_of v t) a && value_of v s)
-all_append v [] s = and-true (value_of v s)
-all_append v (t ∷ a) s = ap (λ b. value_of v t && b) (all_append v a s) ∙ assoc (value_of v t) (list_all (λ r. value_of v r) a) (value_of v s)
-  where
-    assoc : (a b c : Bool) → (a && (b && c)) ≡ ((a && b) && c)
-    assoc true b c = refl
-    assoc false b c = refl
+all_append v a s = list_all-append (λ t. value_of v t) a (s ∷ []) ∙ ap (λ b. list_all (λ t. value_of v t) a && b) (and-true (value_of v s))
 
 pub parts_show : (w : Wires) (v : List Bool) (x : Set) (k : ℕ) (s : Summands) → LiteralsShow w v x → EachFactor IsProduct s → EachLiteral (Wired w) s → EachCell v k (parts w k s).cells → Shown v x (parts w k s) s
 parts_show w v x k (end b) show product wired cells = rw (parts-end w k b) (record { sound = tt; value = refl })
@@ -239,42 +226,22 @@ closing_last k constant (f ∷ fs) l =
         let some : length fs ≢ 0 = λ e. absurd (omega (arith, m, e, length-joins k f.signal (f ∷ []) fs)) in
         rw (ne_eqb (length fs) 0 some) (omega (arith, some, length-joins k f.signal (f ∷ []) fs))
 
--- one summand, with nothing after it
-single_end : (k m : ℕ) (ls : Product) (part : Part) → (0 < length part.cells → part.signal ≡ k + (length part.cells - 1)) → 0 < length (part.cells ++ [])
-    → (closing m false (record { literals = ls; signal = part.signal } ∷ [])).signal ≡ k + (length (part.cells ++ []) - 1)
-single_end k m ls part own l =
-    let len : length (part.cells ++ []) ≡ length part.cells = ap (λ (cs : List Cell). length cs) (append-nil part.cells) in
-    ap (λ (q : Part). q.signal) (closing_some m false (record { literals = ls; signal = part.signal } ∷ []) (omega arith)) ∙ own (omega (arith, len, l)) ∙ omega (arith, len)
-
-single_last : (k m : ℕ) (ls : Product) (part : Part) (b : Bool) → (0 < length part.cells → part.signal ≡ k + (length part.cells - 1)) → (rest : Parts) → rest ≡ record { cells = []; factors = [] } → b ≡ false → 0 < length (before ls part rest).cells
-    → (closing m b (before ls part rest).factors).signal ≡ k + (length (before ls part rest).cells - 1)
-single_last k m ls part b own rest e none =
-    subst (λ (r : Parts). 0 < length (before ls part r).cells → (closing m b (before ls part r).factors).signal ≡ k + (length (before ls part r).cells - 1)) (sym e)
-    (subst (λ (c : Bool). 0 < length (part.cells ++ []) → (closing m c (record { literals = ls; signal = part.signal } ∷ [])).signal ≡ k + (length (part.cells ++ []) - 1)) (sym none) (single_end k m ls part own))
-
 product_last : (k : ℕ) (signals : List ℕ) → 0 < length (product_of k signals).cells → (product_of k signals).signal ≡ k + (length (product_of k signals).cells - 1)
 product_last k signals = elim (cases_Bool (eqb (length signals) 1)) [ inl e ↦ rw e (λ l. absurd (omega (arith, l))) | inr e ↦ rw e (λ l. omega arith) ]
-
-no_flag : (b : Bool) (n : ℕ) → n + cond b 1 0 ≡ 0 → b ≡ false
-no_flag true n h = absurd (omega (arith, h))
-no_flag false n h = refl
-
-nothing_after : (w : Wires) (k : ℕ) (rest : Summands) → width rest ≡ 0 → parts w k rest ≡ record { cells = []; factors = [] }
-nothing_after w k (end b) h = parts-end w k b
-nothing_after w k (literals ls r) h = absurd (omega (arith, h))
-nothing_after w k (factored ls i r) h = absurd (omega (arith, h))
 
 -- a sum that needs no closing gate
 single_sum : (w : Wires) (k m : ℕ) (s : Summands) → close_count (width s) (has_constant s) ≡ 0 → 0 < length (parts w k s).cells → (closing m (has_constant s) (parts w k s).factors).signal ≡ k + (length (parts w k s).cells - 1)
 single_sum w k m (end b) h l = absurd (omega (arith, h))
-single_sum w k m (literals ls rest) h l =
-    let part = literals_part w k ls in
-    rw (parts-literals w k ls rest)
-    (single_last k m ls part (has_constant rest) (product_last k (literal_signals w ls)) (parts w (k + length part.cells) rest) (nothing_after w (k + length part.cells) rest (omega (arith, h))) (no_flag (has_constant rest) (width rest) h) (rw (parts-literals w k ls rest) at l))
-single_sum w k m (factored ls inner rest) h l =
-    let part = factored_part w k ls inner in
-    rw (parts-factored w k ls inner rest)
-    (single_last k m ls part (has_constant rest) (λ some. omega (arith, length-append (sum_part w k inner).cells (And (literal_signals w ls ++ (sum_part w k inner).signal ∷ []) ∷ []))) (parts w (k + length part.cells) rest) (nothing_after w (k + length part.cells) rest (omega (arith, h))) (no_flag (has_constant rest) (width rest) h) (rw (parts-factored w k ls inner rest) at l))
+single_sum w k m (literals ls (end true)) h l = absurd (omega (arith, h))
+single_sum w k m (literals ls (end false)) h l =
+    rw (parts-literals w k ls (end false), parts-end w (k + length (literals_part w k ls).cells) false, append-nil) (product_last k (literal_signals w ls) (rw (parts-literals w k ls (end false), parts-end w (k + length (literals_part w k ls).cells) false, append-nil) at l))
+single_sum w k m (literals ls (literals ms r)) h l = absurd (omega (arith, h))
+single_sum w k m (literals ls (factored ms i r)) h l = absurd (omega (arith, h))
+single_sum w k m (factored ls inner (end true)) h l = absurd (omega (arith, h))
+single_sum w k m (factored ls inner (end false)) h l =
+    rw (parts-factored w k ls inner (end false), parts-end w (k + length (factored_part w k ls inner).cells) false, append-nil) (omega (arith, length-append (sum_part w k inner).cells (And (literal_signals w ls ++ (sum_part w k inner).signal ∷ []) ∷ [])))
+single_sum w k m (factored ls inner (literals ms r)) h l = absurd (omega (arith, h))
+single_sum w k m (factored ls inner (factored ms i r)) h l = absurd (omega (arith, h))
 
 sum_last : (w : Wires) (k : ℕ) (s : Summands) → 0 < length (sum_part w k s).cells → (sum_part w k s).signal ≡ k + (length (sum_part w k s).cells - 1)
 sum_last w k s l =
@@ -347,14 +314,9 @@ inverter_at P i g (y ∷ ys) (h, hs) j there = elim (cases_eq y j) [
 
 pub literals_show : (k : ℕ) (w : Wires) (v : List Bool) (x : Set) → ((j : ℕ) → j < w.inputs → value_of v j ≡ has x j) → EachAt (Fits None v w.inputs) 0 (inverters k w.turned) → LiteralsShow w v x
 unfolding literal_signal
-literals_show k w v x inputs inverted u wired = by u.plain refl
-  where
-    by : (b : Bool) → u.plain ≡ b → value_of v (cond b u.input (w.inputs + position_or_len (λ i. eqb i u.input) w.turned)) ≡ cond b (has x u.input) (not (has x u.input))
-    by true e = inputs u.input wired.0
-    by false e =
-        let p = position_or_len (λ i. eqb i u.input) w.turned in
-        let z : 0 + p ≡ p = omega arith in
-        let fits = inverter_at (Fits None v w.inputs) 0 (λ j. inverter (inner k (codes "i" ++ decimal (suc j))) j) w.turned inverted u.input (wired.1 e) in
-        subst (λ q. value_of v (w.inputs + q) ≡ table (inverter (inner k (codes "i" ++ decimal (suc u.input))) u.input) (ones_seen None v q (inverter (inner k (codes "i" ++ decimal (suc u.input))) u.input))) z fits
-        ∙ table-inverter None v p (inner k (codes "i" ++ decimal (suc u.input))) u.input
-        ∙ ap not (inputs u.input wired.0)
+literals_show k w v x inputs inverted u wired = elim (cases_Bool u.plain) [
+  | inl e ↦ rw e (inputs u.input wired.0)
+  | inr e ↦
+      let fits = inverter_at (Fits None v w.inputs) 0 (λ j. inverter (inner k (codes "i" ++ decimal (suc j))) j) w.turned inverted u.input (wired.1 e) in
+      rw e (rw (zero-add (position_or_len (λ i. eqb i u.input) w.turned)) at fits ∙ table-inverter None v (position_or_len (λ i. eqb i u.input) w.turned) (inner k (codes "i" ++ decimal (suc u.input))) u.input ∙ ap not (inputs u.input wired.0))
+]
