@@ -1,12 +1,5 @@
-pub mod Close
-pub mod Equals
-pub mod Linking
 pub mod Lists
 pub mod Placed
 pub mod Places
-pub mod Rewritten
-pub mod Settled
 pub mod Steps
-pub mod Taken
 pub mod Thirds
-pub mod Values

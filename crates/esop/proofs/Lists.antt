@@ -3,7 +3,7 @@ use Rattle.std.proofs.Common.{◌≡◌, ◌≤◌, ◌∙◌, ℕ, suc, Bool, t
 use Rattle.std.specs.Prelude.{All}
 use Rattle.std.specs.List.{AllByRecursion, AllZip}
 use Rattle.std.specs.List.Sorted.{IsSorted}
-use Rattle.std.proofs.lemmas.Bool.{cases_Bool, false≢true, and_parts}
+use Rattle.std.proofs.lemmas.Bool.{cases_Bool, false≢true, and_parts, not-true}
 use Rattle.std.proofs.lemmas.List.{length-map, take_all}
 use Rattle.std.proofs.lemmas.List.Elements.{All-from_recursion, recursion_from_All, All-map, All-weaker}
 use Rattle.ae_base.specs.declared.limits.TheConstants.{WIDTH}
@@ -25,10 +25,10 @@ use Rattle.esop.specs.Rewriting.{rewritten, rewritten_lists}
 use Rattle.esop.specs.Search.{IsOrdered}
 use Rattle.esop.specs.Settled.{IsSettled, AreSettled}
 use Rattle.esop.proofs.Placed.{length-placed, each_placed, sorted_in_order}
-use Rattle.esop.proofs.Rewritten.{rewritten_ends, rewritten_keeps}
-use Rattle.esop.proofs.Settled.{settled_from}
+use Rattle.esop.proofs.Steps.{rewritten_ends, rewritten_keeps}
+use Rattle.esop.proofs.Steps.{settled_from}
 use Rattle.esop.proofs.Steps.{Proper, Keeps}
-use Rattle.esop.proofs.Values.{value-none, value-cons, value-in_order}
+use Rattle.esop.proofs.Placed.{value-none, value-cons, value-in_order}
 
 -- ---- lists in pairs
 
@@ -100,9 +100,7 @@ module _ (p : Signs) (t : Set) where
   complemented_there j h = by (has t j) (has p.plain j) (sym (has-complemented j) ∙ h)
     where
       by : (a b : Bool) → differ a (a && b) ≡ true → (a ≡ true) × (b ≡ false)
-      by true true h = absurd (false≢true h)
-      by true false h = (refl, refl)
-      by false b h = absurd (false≢true h)
+      by a b h = (grind arith, grind arith)
 
   is_product : IsProduct (cube_of p t)
   is_product j h = let there = plain_there j h in has-complemented j ∙ rw (there.0, there.1) refl
@@ -110,12 +108,8 @@ module _ (p : Signs) (t : Set) where
   each_holds : (x : Set) → product p t x ≡ true → EachHolds (cube_of p t) x
   each_holds x h = (
     (λ j m. let there = plain_there j m in sym (literal_plain p j x there.1) ∙ product-literals p t x h j there.0),
-    (λ j m. let there = complemented_there j m in opposite (has x j) (sym (literal_complemented p j x there.1) ∙ product-literals p t x h j there.0)),
+    (λ j m. let there = complemented_there j m in not-true (has x j) (sym (literal_complemented p j x there.1) ∙ product-literals p t x h j there.0)),
   )
-    where
-      opposite : (b : Bool) → not b ≡ true → b ≡ false
-      opposite true h = absurd (false≢true h)
-      opposite false h = refl
 
   product_holds : (x : Set) → EachHolds (cube_of p t) x → product p t x ≡ true
   product_holds x h =
@@ -156,24 +150,15 @@ list_over p ts h =
     (each_in_order (IsOver p.n) (map (cube_of p) ts)
     (each-map (IsOver p.n) (cube_of p) ts (each_weaker (λ t. inside t (first p.n) ≡ true) (λ t. IsOver p.n (cube_of p t)) (cube_over p) ts (recursion_from_All (λ t. inside t (first p.n) ≡ true) ts h))))
 
-list_sorted : (p : Signs) (ts : List Set) → IsSorted cmp_text (cubes_of p ts)
-list_sorted p ts = sorted_in_order (map (cube_of p) ts)
-
-list_value : (p : Signs) (ts : List Set) → HasValueOf p ts (cubes_of p ts)
-list_value p ts x = value-in_order (map (cube_of p) ts) x ∙ cubes-value p ts x
-
-list_count : (p : Signs) (ts : List Set) → length (cubes_of p ts) ≡ length ts
-list_count p ts = length-in_order (map (cube_of p) ts) ∙ length-map ts (cube_of p)
-
 pub made_cubes : (e : Terms) → IsTerms e → IsCubes (esop_of e)
 made_cubes e h = record {
   inputs = h.signs.0;
   below = All-map (All (IsOver e.polarity.n)) (cubes_of e.polarity) e.outs (λ k d l. list_over e.polarity _ (h.below k d l));
-  order = All-map (IsSorted cmp_text) (cubes_of e.polarity) e.outs (λ k d l. list_sorted e.polarity (get_or e.outs k d));
+  order = All-map (IsSorted cmp_text) (cubes_of e.polarity) e.outs (λ k d l. sorted_in_order (map (cube_of e.polarity) (get_or e.outs k d)));
 }
 
 pub made_values : (e : Terms) → AllZip (HasValueOf e.polarity) e.outs (esop_of e).outs
-made_values e = all_zip_map (HasValueOf e.polarity) (cubes_of e.polarity) e.outs (λ k d l. list_value e.polarity (get_or e.outs k d))
+made_values e = all_zip_map (HasValueOf e.polarity) (cubes_of e.polarity) e.outs (λ k d l x. value-in_order (map (cube_of e.polarity) (get_or e.outs k d)) x ∙ cubes-value e.polarity (get_or e.outs k d) x)
 
 pub made_counts : (e : Terms) → AllZip (λ terms cubes. length cubes ≡ length terms) e.outs (esop_of e).outs
-made_counts e = all_zip_map (λ terms cubes. length cubes ≡ length terms) (cubes_of e.polarity) e.outs (λ k d l. list_count e.polarity (get_or e.outs k d))
+made_counts e = all_zip_map (λ terms cubes. length cubes ≡ length terms) (cubes_of e.polarity) e.outs (λ k d l. length-in_order (map (cube_of e.polarity) (get_or e.outs k d)) ∙ length-map (get_or e.outs k d) (cube_of e.polarity))

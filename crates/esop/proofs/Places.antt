@@ -3,9 +3,9 @@ use Rattle.std.proofs.Common.{◌≡◌, ◌<◌, ◌≤◌, ◌+◌, ◌-◌, �
 use Rattle.std.specs.Prelude.{Option, Some, None, find, flat_map, option_map}
 use Rattle.std.specs.List.{range_with_len}
 use Rattle.std.specs.Option.{option_or}
-use Rattle.std.proofs.lemmas.Bool.{cases_eq}
+use Rattle.std.proofs.lemmas.Bool.{cases_eq, cases_Bool}
 use Rattle.std.proofs.lemmas.List.Folds.{find-append}
-use Rattle.std.proofs.lemmas.Option.{none-some}
+use Rattle.std.proofs.lemmas.Option.{none-some, same_Some}
 use Rattle.esop.specs.Rewriting.{pairs}
 use Rattle.esop.specs.Search.{IsFirstPair}
 
@@ -23,35 +23,28 @@ pub range_none : (t : ℕ → Bool) (n a : ℕ) → ((k : ℕ) → a ≤ k → k
 range_none t zero a none = refl
 range_none t (suc n) a none = rw (none a (omega arith) (omega arith)) (range_none t n (a + 1) (λ k l h. none k (omega (arith, l)) (omega (arith, h))))
 
--- what is found is of the range, and passes
+-- what is found is the first of the range that passes
 record InRange (t : ℕ → Bool) (a b j : ℕ) : Type 0 where
   low : a ≤ j
   high : j < b
   passes : t j ≡ true
+  before : (k : ℕ) → a ≤ k → k < j → t k ≡ false
 
 range_found : (t : ℕ → Bool) (n a j : ℕ) → find t (range_with_len a n) ≡ Some j → InRange t a (a + n) j
 range_found t zero a j h = absurd (none-some j h)
-range_found t (suc n) a j h = by (t a) refl h (range_found t n (a + 1) j)
-  where
-    by : (b : Bool) → t a ≡ b → cond b (Some a) (find t (range_with_len (a + 1) n)) ≡ Some j → (find t (range_with_len (a + 1) n) ≡ Some j → InRange t (a + 1) (a + 1 + n) j) → InRange t a (a + suc n) j
-    by true e f later = let same : a ≡ j = cc f in record { low = omega (arith, same); high = omega (arith, same); passes = ap t (sym same) ∙ e }
-    by false e f later = let r = later f in record { low = omega (arith, r.low); high = omega (arith, r.high); passes = r.passes }
+range_found t (suc n) a j h = elim (cases_Bool (t a)) [
+  | inl e ↦ let same : a ≡ j = same_Some a j (rw e at h) in record { low = omega (arith, same); high = omega (arith, same); passes = ap t (sym same) ∙ e; before = λ k l u. absurd (omega (arith, same, l, u)) }
+  | inr e ↦
+      let r : InRange t (a + 1) (a + 1 + n) j = range_found t n (a + 1) j (rw e at h) in
+      record { low = omega (arith, r.low); high = omega (arith, r.high); passes = r.passes; before = λ k l u. elim (cases_eq k a) [ inl s ↦ ap t s ∙ e | inr ne ↦ r.before k (omega (arith, l, ne)) u ] }
+]
 
 range_not : (t : ℕ → Bool) (n a : ℕ) → find t (range_with_len a n) ≡ None → (j : ℕ) → a ≤ j → j < a + n → t j ≡ false
 range_not t zero a h j low high = absurd (omega (arith, low, high))
-range_not t (suc n) a h j low high = by (t a) refl h (λ k l. range_not t n (a + 1) k j l (omega (arith, high)))
-  where
-    by : (b : Bool) → t a ≡ b → cond b (Some a) (find t (range_with_len (a + 1) n)) ≡ None → (find t (range_with_len (a + 1) n) ≡ None → a + 1 ≤ j → t j ≡ false) → t j ≡ false
-    by true e f later = absurd (none-some a (sym f))
-    by false e f later = elim (cases_eq j a) [ inl s ↦ ap t s ∙ e | inr ne ↦ later f (omega (arith, low, ne)) ]
-
-range_before : (t : ℕ → Bool) (n a j : ℕ) → find t (range_with_len a n) ≡ Some j → (k : ℕ) → a ≤ k → k < j → t k ≡ false
-range_before t zero a j h k low high = absurd (none-some j h)
-range_before t (suc n) a j h k low high = by (t a) refl h (λ f l. range_before t n (a + 1) j f k l high)
-  where
-    by : (b : Bool) → t a ≡ b → cond b (Some a) (find t (range_with_len (a + 1) n)) ≡ Some j → (find t (range_with_len (a + 1) n) ≡ Some j → a + 1 ≤ k → t k ≡ false) → t k ≡ false
-    by true e f later = let same : a ≡ j = cc f in absurd (omega (arith, same, low, high))
-    by false e f later = elim (cases_eq k a) [ inl s ↦ ap t s ∙ e | inr ne ↦ later f (omega (arith, low, ne)) ]
+range_not t (suc n) a h j low high = elim (cases_Bool (t a)) [
+  | inl e ↦ absurd (none-some a (sym (rw e at h)))
+  | inr e ↦ elim (cases_eq j a) [ inl s ↦ ap t s ∙ e | inr ne ↦ range_not t n (a + 1) (rw e at h) j (omega (arith, low, ne)) (omega (arith, high)) ]
+]
 
 -- ---- the first pair
 
@@ -68,12 +61,7 @@ module _ (q : ℕ × ℕ → Bool) (n : ℕ) where
 
   find-row : (i : ℕ) (js : List ℕ) → find q (map (λ j. (i, j)) js) ≡ option_map (λ j. (i, j)) (find (λ j. q (i, j)) js)
   find-row i [] = refl
-  find-row i (j ∷ js) = by (q (i, j)) (find-row i js)
-    where
-      by : (b : Bool) → find q (map (λ j. (i, j)) js) ≡ option_map (λ j. (i, j)) (find (λ j. q (i, j)) js)
-          → cond b (Some (i, j)) (find q (map (λ j. (i, j)) js)) ≡ option_map (λ j. (i, j)) (cond b (Some j) (find (λ j. q (i, j)) js))
-      by true h = refl
-      by false h = h
+  find-row i (j ∷ js) = elim (cases_Bool (q (i, j))) [ inl e ↦ rw e refl | inr e ↦ rw e (find-row i js) ]
 
   first_row : (a m : ℕ) → find q (rows a (suc m)) ≡ option_or (option_map (λ j. (a, j)) (in_row a)) (find q (rows (a + 1) m))
   first_row a m = find-append q (map (λ j. (a, j)) (row n a)) (rows (a + 1) m) ∙ ap (λ o. option_or o (find q (rows (a + 1) m))) (find-row a (row n a))
@@ -101,17 +89,6 @@ module _ (q : ℕ × ℕ → Bool) (n : ℕ) where
     pub within : p.1 < n
     pub passes : q p ≡ true
 
-  rows_found : (m a : ℕ) (p : ℕ × ℕ) → find q (rows a m) ≡ Some p → Passes p
-  rows_found zero a p h = absurd (none-some p h)
-  rows_found (suc m) a p h = by (in_row a) refl (sym (first_row a m) ∙ h) (rows_found m (a + 1) p)
-    where
-      by : (o : Option ℕ) → in_row a ≡ o → option_or (option_map (λ j. (a, j)) o) (find q (rows (a + 1) m)) ≡ Some p → (find q (rows (a + 1) m) ≡ Some p → Passes p) → Passes p
-      by None e f later = later f
-      by (Some j) e f later =
-          let r = range_found (λ j. q (a, j)) (n - suc a) (suc a) j e in
-          let same : (a, j) ≡ p = cc f in
-          record { order = omega (arith, r.low, ap (λ (x : ℕ × ℕ). x.0) same, ap (λ (x : ℕ × ℕ). x.1) same); within = omega (arith, r.high, r.low, ap (λ (x : ℕ × ℕ). x.1) same); passes = ap q (sym same) ∙ r.passes }
-
   rows_not : (m a : ℕ) → find q (rows a m) ≡ None → (i j : ℕ) → a ≤ i → i < a + m → i < j → j < n → q (i, j) ≡ false
   rows_not zero a h i j low high order within = absurd (omega (arith, low, high))
   rows_not (suc m) a h i j low high order within = by (in_row a) refl (sym (first_row a m) ∙ h) (λ f l. rows_not m (a + 1) f i j l (omega (arith, high)) order within)
@@ -122,9 +99,6 @@ module _ (q : ℕ × ℕ → Bool) (n : ℕ) where
         | inl s ↦ range_not (λ k. q (i, k)) (n - suc i) (suc i) (ap in_row s ∙ e) j (omega (arith, order)) (omega (arith, order, within))
         | inr ne ↦ later f (omega (arith, low, ne))
       ]
-
-  pub pair_found : (p : ℕ × ℕ) → find q (pairs n) ≡ Some p → Passes p
-  pair_found p h = rows_found n 0 p h
 
   pub no_pair : find q (pairs n) ≡ None → (i j : ℕ) → i < j → j < n → q (i, j) ≡ false
   no_pair h i j order within = rows_not n 0 h i j (omega arith) (omega (arith, order, within)) order within
@@ -160,6 +134,11 @@ module _ (q : ℕ × ℕ → Bool) (n : ℕ) where
           let row : a ≡ p.0 = ap (λ (x : ℕ × ℕ). x.0) same in
           record { low = omega (arith, row); here = ap in_row (sym row) ∙ e ∙ ap (λ (x : ℕ × ℕ). Some x.1) same; before = λ h l k. absurd (omega (arith, l, k, row)) }
 
+  pub pair_found : (p : ℕ × ℕ) → find q (pairs n) ≡ Some p → Passes p
+  pair_found p found =
+      let f = range_found (λ j. q (p.0, j)) (n - suc p.0) (suc p.0) p.1 (rows_first n 0 p found).here in
+      record { order = f.low; within = omega (arith, f.low, f.high); passes = f.passes }
+
   pub first_from : (p : ℕ × ℕ) → find q (pairs n) ≡ Some p → IsFirstPair q n p
   first_from p found =
       let at = pair_found p found in
@@ -170,7 +149,7 @@ module _ (q : ℕ × ℕ → Bool) (n : ℕ) where
         passes = at.passes;
         before = λ i j order within before. elim before [
           | inl l ↦ range_not (λ k. q (i, k)) (n - suc i) (suc i) (r.before i (omega arith) l) j (omega (arith, order)) (omega (arith, order, within))
-          | inr same ↦ range_before (λ k. q (i, k)) (n - suc i) (suc i) p.1 (ap in_row same.0 ∙ r.here) j (omega (arith, order)) same.1
+          | inr same ↦ (range_found (λ k. q (i, k)) (n - suc i) (suc i) p.1 (ap in_row same.0 ∙ r.here)).before j (omega (arith, order)) same.1
         ];
       }
 

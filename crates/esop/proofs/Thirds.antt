@@ -1,15 +1,19 @@
 -- The third literal: two literals that differ have it as their EXOR, so two near cubes can be replaced.
-use Rattle.std.proofs.Common.{◌≡◌, ◌≢◌, ◌<◌, ◌∙◌, ℕ, Bool, true, false, not, cond, ◌&&◌, ◌||◌, List, [], ◌∷◌, refl, sym, ap, ap₂, arith, inl, inr, eqb, eq-eqb, ne_eqb, lt-ltb, length, slice_index, subst}
-use Rattle.std.proofs.lemmas.Bool.{cases_eq, cases_Bool, false≢true, and_from, and_parts, or_cases, or_left, or_right}
-use Rattle.std.specs.Prelude.{Some}
+use Rattle.std.proofs.Common.{◌≡◌, ◌≢◌, ◌<◌, ◌∙◌, ℕ, Bool, true, false, not, cond, ◌&&◌, ◌||◌, List, [], ◌∷◌, refl, sym, ap, ap₂, arith, inl, inr, eqb, eq-eqb, ne_eqb, lt-ltb, length, slice_index, subst, ◌+◌, ◌-◌, suc, ◌++◌, take, drop, ltb}
+use Rattle.std.proofs.lemmas.Bool.{cases_eq, cases_Bool, false≢true, and_from, and_parts, or_cases, or_left, or_right, or_parts, cases_lt}
+use Rattle.std.specs.Prelude.{Some, Option, None, remove}
 use Rattle.std.specs.List.{list_any, AllByRecursion}
 use Rattle.ae_base.specs.Mask.{Set, differ, has, with, without, xor, first, inside, least, len, members}
 use Rattle.ae_base.specs.Cube.{Product, IsProduct, IsOver, EachHolds, holds, distance}
-use Rattle.ae_base.proofs.Members.{least-first, members-has, members-increasing, len-members, len-none, len-zero}
+use Rattle.ae_base.proofs.Members.{least-first, members-has, members-increasing, len-members, len-none, len-zero, members-none}
 use Rattle.ae_base.proofs.Products.{holds-has, has-holds}
-use Rattle.ae_base.proofs.Sets.{same_set, has-with, has-without, has-either, has-xor, has-inside, inside-has, inside-below, has-first}
-use Rattle.ae_base.proofs.Truth.{same_truth, differ-flip, differ-same, and-differ, equal_values, differ_true_else, and-over_differ}
+use Rattle.ae_base.proofs.Sets.{same_set, has-with, has-without, has-either, has-xor, has-inside, inside-has, inside-below, has-first, inside-above}
+use Rattle.ae_base.proofs.Truth.{same_truth, differ-flip, differ-same, and-differ, equal_values, differ_true_else, and-over_differ, or-false}
 use Rattle.esop.specs.Links.{apart, with_third, merge, Link, link, links, links_at}
+use Rattle.std.proofs.lemmas.List.{length-take-le, take-append-le, take-take, drop-append-le, drop-take, take_rest}
+use Rattle.std.proofs.lemmas.List.Folds.{list_any-append}
+use Rattle.esop.specs.Rewriting.{is_near}
+use Rattle.esop.specs.Settled.{others}
 
 -- ---- literals as two tests: whether the literal is plain, and whether it is complemented
 
@@ -18,44 +22,18 @@ abbrev value_at : Bool → Bool → Bool → Bool
 value_at p n v = (not p || v) && (not n || not v)
 
 plain_value : (p n v : Bool) → value_at p n v ≡ true → p ≡ true → v ≡ true
-plain_value true n true h e = refl
-plain_value true n false h e = h
-plain_value false n v h e = absurd (false≢true e)
+plain_value p n v h e = grind arith
 
 complemented_value : (p n v : Bool) → value_at p n v ≡ true → n ≡ true → v ≡ false
-complemented_value p n false h e = refl
-complemented_value true true true h e = absurd (false≢true h)
-complemented_value false true true h e = absurd (false≢true h)
-complemented_value p false v h e = absurd (false≢true e)
+complemented_value p n v h e = grind arith
 
 is_value : (p n v : Bool) → (p ≡ true → v ≡ true) → (n ≡ true → v ≡ false) → value_at p n v ≡ true
-is_value true true true h k = absurd (false≢true (sym (k refl)))
-is_value true false true h k = refl
-is_value true n false h k = absurd (false≢true (h refl))
-is_value false true true h k = absurd (false≢true (sym (k refl)))
-is_value false true false h k = refl
-is_value false false v h k = refl
+is_value p n v h k = grind arith
 
 -- the third literal is the EXOR of two that differ
 third_xor : (p n q m v : Bool) → (p ≡ true → n ≡ false) → (q ≡ true → m ≡ false) → (differ p q || differ n m) ≡ true
     → value_at (not (p || q)) (not (n || m)) v ≡ differ (value_at p n v) (value_at q m v)
-third_xor true true q m v h k e = absurd (false≢true (sym (h refl)))
-third_xor p n true true v h k e = absurd (false≢true (sym (k refl)))
-third_xor true false true false v h k e = absurd (false≢true e)
-third_xor true false false true true h k e = refl
-third_xor true false false true false h k e = refl
-third_xor true false false false true h k e = refl
-third_xor true false false false false h k e = refl
-third_xor false true true false true h k e = refl
-third_xor false true true false false h k e = refl
-third_xor false true false true v h k e = absurd (false≢true e)
-third_xor false true false false true h k e = refl
-third_xor false true false false false h k e = refl
-third_xor false false true false true h k e = refl
-third_xor false false true false false h k e = refl
-third_xor false false false true true h k e = refl
-third_xor false false false true false h k e = refl
-third_xor false false false false v h k e = absurd (false≢true e)
+third_xor p n q m v h k e = grind arith
 
 -- ---- a cube split at an input
 
@@ -117,12 +95,8 @@ bare_same c d j same =
 has-apart : (c d : Product) (k : ℕ) → has (apart c d) k ≡ (differ (has c.pos k) (has d.pos k) || differ (has c.neg k) (has d.neg k))
 has-apart c d k = has-either (xor c.pos d.pos) (xor c.neg d.neg) k ∙ ap₂ (λ a b. a || b) (has-xor c.pos d.pos k) (has-xor c.neg d.neg k)
 
-pub neither : (a b : Bool) → (a || b) ≡ false → (a ≡ false) × (b ≡ false)
-neither true b h = absurd (false≢true (sym h))
-neither false b h = (refl, h)
-
 pub agree_at : (c d : Product) (k : ℕ) → has (apart c d) k ≡ false → Agree c d k
-agree_at c d k h = let parts = neither _ _ (sym (has-apart c d k) ∙ h) in record { pos = equal_values _ _ parts.0; neg = equal_values _ _ parts.1 }
+agree_at c d k h = let parts = or_parts _ _ (sym (has-apart c d k) ∙ h) in record { pos = equal_values _ _ parts.0; neg = equal_values _ _ parts.1 }
 
 pub apart_back : (c d : Product) → apart c d ≡ apart d c
 apart_back c d =
@@ -131,18 +105,13 @@ apart_back c d =
 -- ---- the third literal
 
 has-third_here : (s t : Set) (j : ℕ) → has (cond (has s j || has t j) (without s j) (with s j)) j ≡ not (has s j || has t j)
-has-third_here s t j = by (has s j || has t j)
-  where
-    by : (b : Bool) → has (cond b (without s j) (with s j)) j ≡ not b
-    by true = has-without s j j ∙ ap (λ b. not b && has s j) (eq-eqb j j refl)
-    by false = has-with s j j ∙ ap (λ b. b || has s j) (eq-eqb j j refl)
+has-third_here s t j = elim (cases_Bool (has s j || has t j)) [
+  | inl e ↦ rw e (has-without s j j ∙ ap (λ b. not b && has s j) (eq-eqb j j refl))
+  | inr e ↦ rw e (has-with s j j ∙ ap (λ b. b || has s j) (eq-eqb j j refl))
+]
 
 has-third_else : (s t : Set) (j k : ℕ) → k ≢ j → has (cond (has s j || has t j) (without s j) (with s j)) k ≡ has s k
-has-third_else s t j k ne = by (has s j || has t j)
-  where
-    by : (b : Bool) → has (cond b (without s j) (with s j)) k ≡ has s k
-    by true = without-other s j k ne
-    by false = has-with s j k ∙ ap (λ b. b || has s k) (ne_eqb k j ne)
+has-third_else s t j k ne = elim (cases_Bool (has s j || has t j)) [ inl e ↦ rw e (without-other s j k ne) | inr e ↦ rw e (has-with s j k ∙ ap (λ b. b || has s k) (ne_eqb k j ne)) ]
 
 third_agrees : (c d : Product) (j k : ℕ) → k ≢ j → Agree (with_third c d j) c k
 third_agrees c d j k ne = record { pos = has-third_else c.pos d.pos j k ne; neg = has-third_else c.neg d.neg j k ne }
@@ -159,24 +128,14 @@ third_product c d j hc e k m = elim (cases_eq k j) [
 ]
   where
     one_plain : (p q m r : Bool) → (differ p q || differ m r) ≡ true → not (p || q) ≡ true → not (m || r) ≡ false
-    one_plain true q m r h k = absurd (false≢true k)
-    one_plain false true m r h k = absurd (false≢true k)
-    one_plain false false true r h k = refl
-    one_plain false false false true h k = refl
-    one_plain false false false false h k = absurd (false≢true h)
+    one_plain p q m r h k = grind arith
 
 -- a cube with a third literal is a product over the same inputs
 module _ (n : ℕ) (c d : Product) (j : ℕ) (hc : IsOver n c) (hd : IsOver n d) (e : has (apart c d) j ≡ true) where
   below : j < n
-  below = elim (or_cases _ _ (sym (has-apart c d j) ∙ e)) [
-    | inl p ↦ elim (cases_Bool (has c.pos j)) [
-      | inl h ↦ inside-below n c.pos hc.1 j h
-      | inr h ↦ inside-below n d.pos hd.1 j (differ_true_else _ _ p h)
-    ]
-    | inr q ↦ elim (cases_Bool (has c.neg j)) [
-      | inl h ↦ inside-below n c.neg hc.2 j h
-      | inr h ↦ inside-below n d.neg hd.2 j (differ_true_else _ _ q h)
-    ]
+  below = elim (cases_lt j n) [
+    | inl l ↦ l
+    | inr high ↦ absurd (false≢true (sym (has-apart c d j ∙ rw (inside-above n c.pos hc.1 j high, inside-above n d.pos hd.1 j high, inside-above n c.neg hc.2 j high, inside-above n d.neg hd.2 j high) refl) ∙ e))
   ]
 
   part_inside : (s t : Set) → inside s (first n) ≡ true → inside (cond (has s j || has t j) (without s j) (with s j)) (first n) ≡ true
@@ -222,14 +181,7 @@ holds-split_at c p q x ne =
     ∙ ap₂ (λ a b. value_at a b (has x q) && holds (bare_at c p q) x) (without-other c.pos p q (λ e. ne (sym e))) (without-other c.neg p q (λ e. ne (sym e))))
 
 cancel : (x y z : Bool) → differ (differ x y) (differ z y) ≡ differ x z
-cancel true true true = refl
-cancel true true false = refl
-cancel true false true = refl
-cancel true false false = refl
-cancel false true true = refl
-cancel false true false = refl
-cancel false false true = refl
-cancel false false false = refl
+cancel x y z = grind arith
 
 link_xor : (a b a' b' r : Bool) → differ (differ a b && (a' && r)) (b && (differ b' a' && r)) ≡ differ (a && (a' && r)) (b && (b' && r))
 link_xor a b a' b' r =
@@ -366,3 +318,93 @@ are_links c d = by (members (apart c d)) refl
         let two = two_apart c d p q e in
         (is_link c d p q two.distinct two.first two.second two.rest, (is_link c d q p (λ s. two.distinct (sym s)) two.second two.first (λ k nq np. two.rest k np nq), tt))
     by (p ∷ q ∷ r ∷ ms) e = tt
+
+-- ---- What the search for a useful link reads: the two inputs at which cubes differ, and the cubes at the other places.
+
+-- ---- the links of two cubes
+
+no_links_at : (ms : List ℕ) (c d : Product) → length ms ≢ 2 → links_at ms c d ≡ []
+no_links_at [] c d h = refl
+no_links_at (p ∷ []) c d h = refl
+no_links_at (p ∷ q ∷ []) c d h = absurd (h refl)
+no_links_at (p ∷ q ∷ r ∷ ms) c d h = refl
+
+pub no_links : (c d : Product) → len (apart c d) ≢ 2 → links c d ≡ []
+no_links c d h = no_links_at (members (apart c d)) c d (λ e. h (len-members (apart c d) ∙ e))
+
+-- the least member, and the least of the others, where there are two
+pub record Two (s : Set) (p q : ℕ) : Type 0 where
+  pub count : len s ≡ 2
+  pub low : least s ≡ Some p
+  pub high : least (without s p) ≡ Some q
+
+pub none_low : (s : Set) → len s ≡ 2 → least s ≢ None
+none_low s h e = absurd (omega (arith, h, len-members s, ap length (members-none s e)))
+
+pub none_high : (s : Set) (p : ℕ) → len s ≡ 2 → least s ≡ Some p → least (without s p) ≢ None
+none_high s p h e f = absurd (omega (arith, h, len-members s, ap length (least-first s p e), ap length (members-none (without s p) f)))
+
+alone : (q : ℕ) (ms : List ℕ) → length (q ∷ ms) ≡ 1 → ms ≡ []
+alone q [] h = refl
+alone q (m ∷ ms) h = absurd (omega (arith, h))
+
+two_members : (s : Set) (p q : ℕ) → Two s p q → members s ≡ p ∷ q ∷ []
+two_members s p q h =
+    let first : members s ≡ p ∷ members (without s p) = least-first s p h.low in
+    let second : members (without s p) ≡ q ∷ members (without (without s p) q) = least-first (without s p) q h.high in
+    first ∙ ap (λ ms. p ∷ ms) (second ∙ ap (λ ms. q ∷ ms) (alone q _ (omega (arith, h.count, len-members s, ap length first, ap length second))))
+
+pub links_are : (c d : Product) (p q : ℕ) → Two (apart c d) p q → links c d ≡ link c d p q ∷ link c d q p ∷ []
+links_are c d p q h = ap (λ ms. links_at ms c d) (two_members (apart c d) p q h)
+
+-- the cubes differ at both inputs
+pub both_apart : (c d : Product) (p q : ℕ) → Two (apart c d) p q → (has (apart c d) p ≡ true) × (has (apart d c) q ≡ true) × (has (apart c d) q ≡ true) × (has (apart d c) p ≡ true)
+both_apart c d p q h =
+    let two = two_apart c d p q (two_members (apart c d) p q h) in
+    (two.first, ap (λ s. has s q) (apart_back d c) ∙ two.second, two.second, ap (λ s. has s p) (apart_back d c) ∙ two.first)
+
+-- ---- the cubes at the other places
+
+module _ (cs : List Product) (i j : ℕ) (order : i < j) (within : j < length cs) where
+  between : List Product
+  between = take (j - (i + 1)) (drop (i + 1) cs)
+
+  after : List Product
+  after = take (length cs - (j + 1)) (drop (j + 1) cs)
+
+  others-parts : others cs i j ≡ take i cs ++ (between ++ after)
+  unfolding between after
+  others-parts =
+      let long : length (take j cs) ≡ j = length-take-le j cs (omega arith) in
+      let low : take i (remove cs j) ≡ take i cs = take-append-le i (take j cs) (drop (suc j) cs) (omega (arith, long, order)) ∙ take-take i j cs (omega (arith, order)) in
+      let one : i + 1 ≡ suc i = omega arith in
+      let next : j + 1 ≡ suc j = omega arith in
+      let whole : (i + 1) + (j - (i + 1)) ≡ j = omega (arith, order) in
+      let high : drop (suc i) (remove cs j) ≡ drop (suc i) (take j cs) ++ drop (suc j) cs = drop-append-le (suc i) (take j cs) (drop (suc j) cs) (omega (arith, long, order)) in
+      let middle : drop (suc i) (take j cs) ≡ take (j - (i + 1)) (drop (i + 1) cs) =
+      ap₂ (λ k n. drop k (take n cs)) (sym one) (sym whole) ∙ drop-take (i + 1) (j - (i + 1)) cs in
+      ap₂ (λ xs ys. xs ++ ys) low (high ∙ ap₂ (λ xs ys. xs ++ ys) middle (ap (λ k. drop k cs) (sym next) ∙ sym (take_rest cs (j + 1))))
+
+  near-parts : (c : Product) → is_near (others cs i j) c ≡ (is_near (take i cs) c || (is_near (take (j - (i + 1)) (drop (i + 1) cs)) c || is_near (take (length cs - (j + 1)) (drop (j + 1) cs)) c))
+  unfolding between after
+  near-parts c =
+      let q = λ (d : Product). ltb (distance c d) 2 in
+      ap (list_any q) others-parts ∙ list_any-append q (take i cs) (between ++ after) ∙ ap (λ b. list_any q (take i cs) || b) (list_any-append q between after)
+
+  pub near_before : (c : Product) → is_near (take i cs) c ≡ true → is_near (others cs i j) c ≡ true
+  near_before c h = near-parts c ∙ or_left _ _ h
+
+  pub near_after : (c : Product) → is_near (take (length cs - (j + 1)) (drop (j + 1) cs)) c ≡ true → is_near (others cs i j) c ≡ true
+  near_after c h = near-parts c ∙ or_right _ _ (or_right _ _ h)
+
+  pub near_between : (c : Product) → is_near (take i cs) c ≡ false → is_near (take (length cs - (j + 1)) (drop (j + 1) cs)) c ≡ false
+      → is_near (take (j - (i + 1)) (drop (i + 1) cs)) c ≡ is_near (others cs i j) c
+  near_between c h k = sym (near-parts c ∙ ap₂ (λ a b. a || (is_near (take (j - (i + 1)) (drop (i + 1) cs)) c || b)) h k ∙ or-false _)
+
+-- as the code finds the two inputs
+pub two_found : (s t u : Set) (n p q : ℕ) (low high : Option ℕ) → t ≡ s → n ≡ len t → n ≡ 2 → low ≡ least t → low ≡ Some p → u ≡ without t p → high ≡ least u → high ≡ Some q → Two s p q
+two_found s t u n p q low high same count two is_low at_low rest is_high at_high = record {
+  count = ap len (sym same) ∙ sym count ∙ two;
+  low = ap least (sym same) ∙ sym is_low ∙ at_low;
+  high = ap (λ v. least (without v p)) (sym same) ∙ ap least (sym rest) ∙ sym is_high ∙ at_high;
+}

@@ -1,6 +1,6 @@
 use Rattle.esop.proofs.Lists.{made_cubes}
 use Rattle.esop.proofs.Placed.{same_cubes, sorted_in_order}
-use Rattle.esop.proofs.Values.{value-none, value-cons}
+use Rattle.esop.proofs.Placed.{value-none, value-cons}
 use Rattle.esop.proofs.laws.esop_law.Goals as goal
 
 pub returns : goal.returns

@@ -2,7 +2,7 @@ use Rattle.std.proofs.Common.{◌∙◌, sym, ap, ap₂}
 use Rattle.std.specs.Prelude.{[], ◌∷◌}
 use Rattle.ae_base.specs.Mask.{least, len}
 use Rattle.esop.specs.Links.{apart}
-use Rattle.esop.proofs.Linking.{two_found, both_apart, links_are, no_links, none_low, none_high}
+use Rattle.esop.proofs.Thirds.{two_found, both_apart, links_are, no_links, none_low, none_high}
 use Rattle.esop.proofs.links.links_of.Goals as goal
 
 pub returns-then-len-ne2 : goal.returns-then-len-ne2

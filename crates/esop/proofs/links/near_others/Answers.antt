@@ -1,5 +1,5 @@
 use Rattle.std.proofs.Common.{◌∙◌, sym}
-use Rattle.esop.proofs.Linking.{near_before, near_after, near_between}
+use Rattle.esop.proofs.Thirds.{near_before, near_after, near_between}
 use Rattle.esop.proofs.links.near_others.Goals as goal
 use Rattle.esop.proofs.links.near_others.Goals.{then-is_near-via-then-is_near, then-is_near-via-else-is_near+then-is_near-2}
 

@@ -1,7 +1,7 @@
 use Rattle.std.proofs.Common.{◌≡◌, ◌-◌, ◌∙◌, true, sym, ap₂, arith, eq-eqb}
 use Rattle.std.proofs.lemmas.List.{get_or_default}
 use Rattle.ae_base.specs.Cube.{distance, whole}
-use Rattle.esop.proofs.Equals.{equal_here, equal_nowhere}
+use Rattle.esop.proofs.Steps.{equal_here, equal_nowhere}
 use Rattle.esop.proofs.Steps.{at_distance}
 use Rattle.esop.proofs.pairs.first_equal.Goals as goal
 

@@ -1,4 +1,4 @@
-use Rattle.esop.proofs.Equals.{Differ}
+use Rattle.esop.proofs.Steps.{Differ}
 use Rattle.esop.proofs.pairs.first_equal.Given as goal
 
 abbrev pub invariant-loop-second : goal.invariant-loop-second

@@ -1,12 +1,10 @@
 use Rattle.std.proofs.Common.{◌∙◌, sym}
 use Rattle.esop.specs.Rewriting.{next_list}
-use Rattle.esop.proofs.Rewritten.{ordered_on, rewritten_on, rewritten_stays}
-use Rattle.esop.proofs.Steps.{is_step}
-use Rattle.esop.proofs.Taken.{taken_on, taken_off}
+use Rattle.esop.proofs.Steps.{falls, is_step, ordered_on, rewritten_on, rewritten_stays, taken_on, taken_off}
 use Rattle.esop.proofs.rewriting.rewrite.Goals as goal
 
 pub steps-smaller : goal.steps-smaller
-steps-smaller c = (is_step c.steps.settled.items c.take_step.new.cubes.items (taken_on (next_list c.steps.settled.items) c.steps.settled.items c.take_step.new.cubes.items _ c.in_ok-take_step.ensures c.if-branch.true)).falls
+steps-smaller c = falls _ _ (is_step c.steps.settled.items c.take_step.new.cubes.items (taken_on (next_list c.steps.settled.items) c.steps.settled.items c.take_step.new.cubes.items _ c.in_ok-take_step.ensures c.if-branch.true))
 
 pub steps-preserved : goal.steps-preserved
 steps-preserved c =

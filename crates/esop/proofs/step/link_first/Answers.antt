@@ -5,7 +5,7 @@ use Rattle.esop.specs.Order.{placed}
 use Rattle.esop.specs.Rewriting.{linked, useful_link}
 use Rattle.esop.specs.Search.{first_pair}
 use Rattle.esop.specs.declared.pairs.Sought.TheVariants.{Linked}
-use Rattle.esop.proofs.Taken.{taken_none, taken_some, no_linked, linked_at, linked_useful}
+use Rattle.esop.proofs.Steps.{taken_none, taken_some, no_linked, linked_at, linked_useful}
 use Rattle.esop.proofs.step.link_first.Goals as goal
 
 pub returns-in_default : goal.returns-in_default
