@@ -1,5 +1,5 @@
 -- A cube put in its place in an ordered list of cubes.
-use Rattle.std.proofs.Common.{◌≡◌, ◌<◌, ◌+◌, ◌∙◌, ℕ, suc, Bool, true, false, cond, ◌||◌, List, [], ◌∷◌, length, refl, ap, subst, arith, ◌%◌, zero, not, get_or, sym, inl, inr, eqb, eq-eqb, ne_eqb, ltb, ap₂}
+use Rattle.std.proofs.Common.{◌≡◌, ◌<◌, ◌+◌, ◌∙◌, ℕ, suc, Bool, true, false, cond, ◌||◌, List, [], ◌∷◌, length, refl, ap, subst, arith, ◌%◌, zero, get_or, sym, inl, inr, eqb, ltb, ap₂}
 use Rattle.std.specs.Prelude.{AllPairs, insert, remove, count_by}
 use Rattle.std.specs.List.{list_any, AllByRecursion, prefix_len}
 use Rattle.std.specs.List.Sorted.{IsPermutation, IsSorted}
@@ -14,7 +14,7 @@ use Rattle.ae_base.specs.Text.{cmp_text}
 use Rattle.ae_base.proofs.Texts.{cmp_text_total}
 use Rattle.esop.specs.Order.{placed, in_order}
 use Rattle.ae_base.proofs.Truth.{or-front, differ-front, differ-assoc}
-use Rattle.std.proofs.lemmas.Bool.{cases_eq, or_left, or_right, cases_Bool}
+use Rattle.std.proofs.lemmas.Bool.{or_left, or_right, cases_Bool}
 use Rattle.std.proofs.lemmas.List.Sums.{sum_by-cons}
 use Rattle.ae_base.specs.Mask.{Set, differ}
 use Rattle.esop.specs.Esop.{esop_value}

@@ -17,7 +17,7 @@ use Rattle.esop.specs.Order.{placed}
 use Rattle.esop.specs.Rewriting.{pairs, first_at, is_near, useful_link, cancelled, merged, linked, next_list, rewrite_step, steps, rewritten}
 use Rattle.esop.specs.Settled.{cube_at, others, IsFar, IsSettled}
 use Rattle.esop.proofs.Placed.{close, close_at, not_close, close-placed, any-placed, length-placed, each_placed, sorted_placed, sorted_removed, length-removed, each_at, each_other, length-others, value-others, value-placed, NotBefore, all_pairs, value-none, value-cons}
-use Rattle.esop.proofs.Places.{Passes, pair_found, no_pair, pair_none, from_first}
+use Rattle.esop.proofs.Places.{pair_found, no_pair, pair_none, from_first}
 use Rattle.esop.proofs.Thirds.{IsLink, are_links, distance_none, merged_value, merged_over, distance_itself}
 use Rattle.std.proofs.lemmas.List.{nil_from_length, get_or_default}
 use Rattle.std.proofs.lemmas.List.Elements.{All-from_recursion, recursion_from_All, All-weaker}

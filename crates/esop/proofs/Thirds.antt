@@ -1,14 +1,14 @@
 -- The third literal: two literals that differ have it as their EXOR, so two near cubes can be replaced.
 use Rattle.std.proofs.Common.{◌≡◌, ◌≢◌, ◌<◌, ◌∙◌, ℕ, Bool, true, false, not, cond, ◌&&◌, ◌||◌, List, [], ◌∷◌, refl, sym, ap, ap₂, arith, inl, inr, eqb, eq-eqb, ne_eqb, lt-ltb, length, slice_index, subst, ◌+◌, ◌-◌, suc, ◌++◌, take, drop, ltb}
-use Rattle.std.proofs.lemmas.Bool.{cases_eq, cases_Bool, false≢true, and_from, and_parts, or_cases, or_left, or_right, or_parts, cases_lt}
+use Rattle.std.proofs.lemmas.Bool.{cases_eq, cases_Bool, false≢true, and_from, and_parts, or_left, or_right, or_parts, cases_lt}
 use Rattle.std.specs.Prelude.{Some, Option, None, remove}
 use Rattle.std.specs.List.{list_any, AllByRecursion}
 use Rattle.ae_base.specs.Mask.{Set, differ, has, with, without, xor, first, inside, least, len, members}
 use Rattle.ae_base.specs.Cube.{Product, IsProduct, IsOver, EachHolds, holds, distance}
 use Rattle.ae_base.proofs.Members.{least-first, members-has, members-increasing, len-members, len-none, len-zero, members-none}
 use Rattle.ae_base.proofs.Products.{holds-has, has-holds}
-use Rattle.ae_base.proofs.Sets.{same_set, has-with, has-without, has-either, has-xor, has-inside, inside-has, inside-below, has-first, inside-above}
-use Rattle.ae_base.proofs.Truth.{same_truth, differ-flip, differ-same, and-differ, equal_values, differ_true_else, and-over_differ, or-false}
+use Rattle.ae_base.proofs.Sets.{same_set, has-with, has-without, has-either, has-xor, has-inside, inside-has, has-first, inside-above}
+use Rattle.ae_base.proofs.Truth.{same_truth, differ-flip, differ-same, and-differ, equal_values, and-over_differ, or-false}
 use Rattle.esop.specs.Links.{apart, with_third, merge, Link, link, links, links_at}
 use Rattle.std.proofs.lemmas.List.{length-take-le, take-append-le, take-take, drop-append-le, drop-take, take_rest}
 use Rattle.std.proofs.lemmas.List.Folds.{list_any-append}

@@ -4,10 +4,10 @@ use Rattle.std.specs.Prelude.{sum_by, Some, None, All, slice_get, slice_index, f
 use Rattle.std.specs.List.{AllZip, AllByRecursion, range_with_len}
 use Rattle.std.proofs.lemmas.List.Sums.{sum_by-cons}
 use Rattle.std.proofs.lemmas.Bool.{lt-ltb, cases_Bool}
-use Rattle.std.proofs.lemmas.List.{length-map, get_or-append-add, get_or-map, ext_get_or, map-id}
-use Rattle.std.proofs.lemmas.List.Elements.{All-from_recursion, recursion_from_All, filter-append}
+use Rattle.std.proofs.lemmas.List.{length-map, get_or-append-add, map-id}
+use Rattle.std.proofs.lemmas.List.Elements.{All-from_recursion, recursion_from_All}
 use Rattle.std.proofs.lemmas.List.FromFn.{length-range_with_len, filter_of_map_range_with_len_more}
-use Rattle.std.proofs.lemmas.Option.{slice_get_within, slice_get-get_or}
+use Rattle.std.proofs.lemmas.Option.{slice_get_within}
 use Rattle.ae_base.specs.Cube.{Product, IsOver, distance}
 use Rattle.ae_base.specs.Mask.{Set, has, xor}
 use Rattle.ae_base.specs.Name.{is_name}
@@ -23,7 +23,7 @@ use Rattle.ae_net.specs.GateNames.{NamesDiffer}
 use Rattle.ae_net.specs.Implements.{port_names}
 use Rattle.ae_net.specs.Lead.{lead}
 use Rattle.ae_net.specs.Names.{Names, IsNames}
-use Rattle.ae_net.specs.Network.{Network, gate_at}
+use Rattle.ae_net.specs.Network.{Network}
 use Rattle.ae_net.specs.Out.{run}
 use Rattle.ae_net.specs.Run.{value_of, IsRun, ports_of}
 use Rattle.ae_net.specs.Valid.{IsGate, IsValid}

@@ -1,5 +1,5 @@
 -- The literals of the sums have signals, and their products have no input twice.
-use Rattle.std.proofs.Common.{◌≡◌, ◌≢◌, ℕ, ◌<◌, Bool, true, false, inl, inr, List, [], ◌∷◌, refl, sym, ap, ◌∙◌, arith, eqb, zero, suc, ◌+◌, ◌*◌, ◌-◌, ◌≤◌, ◌^◌, cond, ◌++◌, length, map, get_or, drop, ap₂, subst, eq-eqb, ne_eqb, length-append, length-drop, drop-cons, append_assoc, append-nil}
+use Rattle.std.proofs.Common.{◌≡◌, ◌≢◌, ℕ, ◌<◌, Bool, true, false, inl, inr, List, [], ◌∷◌, refl, sym, ap, ◌∙◌, arith, eqb, suc, ◌+◌, ◌*◌, ◌-◌, ◌≤◌, ◌^◌, cond, ◌++◌, length, map, get_or, drop, ap₂, subst, eq-eqb, ne_eqb, length-append, length-drop, append_assoc, append-nil}
 use Rattle.std.specs.Prelude.{All, codes, filter, sum, slice_index}
 use Rattle.std.specs.List.{list_any, AllByRecursion, range_with_len, position_or_len}
 use Rattle.std.proofs.lemmas.Bool.{cases_Bool, false≢true, or_cases, or_left, or_right, cases_eq, lt-ltb, false_from_ne_true}

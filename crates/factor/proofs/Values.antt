@@ -6,20 +6,20 @@ use Rattle.std.proofs.Math.Bool.{and-true}
 use Rattle.std.proofs.lemmas.Bool.{cases_Bool, cases_eq, false≢true, and_parts, or_cases, or_left, or_right, false_from_ne_true}
 use Rattle.std.proofs.lemmas.List.Folds.{list_all-map, list_all-append}
 use Rattle.ae_base.specs.Mask.{Set, differ, has, either, members}
-use Rattle.ae_base.specs.Cube.{Product, IsProduct, holds, meet}
+use Rattle.ae_base.specs.Cube.{Product, IsProduct, holds}
 use Rattle.ae_base.proofs.Elements.{all_at, all_from_members}
 use Rattle.ae_base.proofs.Meets.{meets}
 use Rattle.ae_base.proofs.Members.{members-has}
 use Rattle.ae_base.proofs.Sets.{has-either}
 use Rattle.ae_base.proofs.Truth.{same_truth, differ-assoc, differ-false, not_both, differ-flip}
-use Rattle.ae_net.specs.Run.{value_of, table, ones_seen}
+use Rattle.ae_net.specs.Run.{value_of}
 use Rattle.ae_net.proofs.Tables.{cell_value, table-inverter, table-cell}
 use Rattle.ae_net.specs.declared.gates.Cell.{Cell}
 use Rattle.ae_net.specs.declared.gates.Cell.TheVariants.{Inverter, And}
 use Rattle.factor.specs.declared.parts.Factor.{Factor}
 use Rattle.factor.specs.declared.parts.Wires.{Wires}
 use Rattle.factor.specs.declared.literals.Literal.{Literal}
-use Rattle.factor.specs.Cells.{Part, Parts, literal_signal, literal_signals, product_of, are_excluded, join, joins, last_of, chain_of, closing, turned_by, parts, sum_part, before, output_cells}
+use Rattle.factor.specs.Cells.{Part, Parts, literal_signal, literal_signals, product_of, are_excluded, join, joins, last_of, chain_of, closing, turned_by, parts, sum_part, output_cells}
 use Rattle.factor.specs.Literals.{stands}
 use Rattle.factor.specs.Seen.{EachLiteral}
 use Rattle.factor.specs.Sums.{Summands, has_constant, sum_value}

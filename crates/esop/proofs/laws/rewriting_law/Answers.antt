@@ -1,5 +1,5 @@
 use Rattle.std.proofs.lemmas.List.Elements.{recursion_from_All}
-use Rattle.std.specs.Prelude.{None, Some}
+use Rattle.std.specs.Prelude.{None}
 use Rattle.ae_base.specs.Cube.{IsOver}
 use Rattle.esop.proofs.Steps.{one_removes, rewritten_ends, step_keeps, step_as}
 use Rattle.esop.proofs.Steps.{from_settled, settled_differ, settled_from}

@@ -1,4 +1,4 @@
-use Rattle.std.proofs.Common.{◌≡◌, ℕ, ◌+◌, ◌<◌, ◌∙◌, suc, List, ◌++◌, drop, get_or, ap, sym, length, length-append, arith}
+use Rattle.std.proofs.Common.{◌≡◌, ℕ, ◌+◌, ◌<◌, ◌∙◌, List, ◌++◌, drop, get_or, ap, sym, length, length-append, arith}
 use Rattle.std.proofs.lemmas.List.{length-map, get_or-map}
 use Rattle.factor.specs.Cells.{output_cells}
 use Rattle.factor.specs.Factored.{named, ends}

@@ -1,9 +1,9 @@
-use Rattle.std.proofs.Common.{◌≡◌, ℕ, ◌+◌, ◌∙◌, List, [], ◌++◌, ap, sym, length, length-append, append-nil, arith}
+use Rattle.std.proofs.Common.{◌≡◌, ◌+◌, ◌∙◌, List, [], ◌++◌, ap, sym, length, length-append, append-nil, arith}
 use Rattle.std.proofs.lemmas.Result.{on_ok_weaker}
 use Rattle.factor.specs.declared.parts.Factor.{Factor}
-use Rattle.factor.specs.Cells.{Part, Parts, parts, sum_part, before}
+use Rattle.factor.specs.Cells.{Parts, parts, sum_part, before}
 use Rattle.factor.specs.Seen.{seen}
-use Rattle.factor.specs.Sums.Summands.{end, literals, factored}
+use Rattle.factor.specs.Sums.Summands.{literals, factored}
 use Rattle.factor.proofs.Sizes.{part_cells, part_factors, factored_cells, factored_signal, literals_part, factored_part, sum_cells, sum_signal, parts-end, parts-literals, parts-factored, parts_bound, sum_bound, length-factors}
 use Rattle.factor.proofs.parts.+parts.Goals as goal
 
