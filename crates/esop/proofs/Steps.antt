@@ -95,9 +95,6 @@ module _ (n : ℕ) (cs : List Product) (h : Proper n cs) (p : ℕ × ℕ) (pair 
     order = sorted_removed (remove cs p.1) p.0 (omega (arith, length-removed cs p.1 pair.within, pair.order, pair.within)) (sorted_removed cs p.1 pair.within h.order);
   }
 
-  pub proper_placed : (c : Product) (ds : List Product) → IsOver n c → Proper n ds → Proper n (placed c ds)
-  proper_placed c ds hc k = record { over = each_placed (IsOver n) c ds hc k.over; order = sorted_placed c ds k.order }
-
 -- ---- cubes in place of a pair
 
 abbrev pub all_placed : List Product → List Product → List Product

@@ -259,9 +259,6 @@ one_more_turned p n =
 
 -- ---- sums
 
-pub sums_none : AreSums [] []
-sums_none = tt
-
 pub sums_push : (css : List (List Product)) (sums : List Summands) (cs : List Product) (s : Summands) → AreSums css sums → IsSum cs s → AreSums (css ++ cs ∷ []) (sums ++ s ∷ [])
 sums_push [] [] cs s are is = (is, tt)
 sums_push [] (r ∷ rs) cs s are is = absurd are

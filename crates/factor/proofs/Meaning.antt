@@ -1,7 +1,7 @@
 -- How many summands and joining gates a sum has.
-use Rattle.std.proofs.Common.{◌≡◌, ◌≢◌, ℕ, suc, ◌+◌, ◌-◌, ◌*◌, ◌<◌, ◌≤◌, min, Bool, true, false, not, cond, inl, inr, List, [], ◌∷◌, length, refl, sym, ap, ◌∙◌, arith, zero, get_or, drop, drop-cons, ◌⊎◌, ltb, ◌%◌, ◌&&◌, ◌||◌, ap₂, eqb, subst}
+use Rattle.std.proofs.Common.{◌≡◌, ◌≢◌, ℕ, suc, ◌+◌, ◌-◌, ◌*◌, ◌<◌, ◌≤◌, min, Bool, true, false, not, cond, inl, inr, List, [], ◌∷◌, length, refl, sym, ap, ◌∙◌, arith, zero, get_or, drop, drop-cons, ◌⊎◌, ltb, ◌%◌, ◌&&◌, ◌||◌, ap₂, eqb, subst, eq-eqb}
 use Rattle.std.specs.List.{list_any, AllByRecursion}
-use Rattle.std.proofs.lemmas.Bool.{cases_Bool, false≢true, cases_eq, or_cases, cases_lt, ltb-true, ltb-false, false_from_ne_true}
+use Rattle.std.proofs.lemmas.Bool.{cases_Bool, false≢true, cases_eq, or_cases, cases_lt, ltb-true, ltb-false, false_from_ne_true, and_parts}
 use Rattle.ae_base.specs.Cube.{Product, IsOver, IsProduct, is_free, holds, whole}
 use Rattle.ae_base.proofs.Distinct.{Distinct, Distinct-filter, each-filter}
 use Rattle.factor.specs.declared.literals.Literal.{Literal}
@@ -9,7 +9,7 @@ use Rattle.factor.specs.Literals.{stands, is_empty, holding, others, without_lit
 use Rattle.factor.specs.Sums.{Summands, IsSum, has_constant, plain_sum, joined, is_nothing, is_one, nodes, sum_value}
 use Rattle.factor.specs.Sums.Summands.{end, literals, factored}
 use Rattle.factor.specs.Sums.IsSum.{flat, taken}
-use Rattle.factor.proofs.Taken.{empty_whole, length-holding, length_parts, Distinct-holding, joined_by, kept, constant-plain, some_stands, held_stands, other_stands, not_held, not_in_others, lit, itself_goes, stands_less, free_from, stands-whole, each_literal, counted_stands, literal_value, holds-whole, holds-with, holds-without, each_held}
+use Rattle.factor.proofs.Taken.{is_same, empty_whole, length-holding, length_parts, Distinct-holding, joined_by, kept, constant-plain, some_stands, held_stands, other_stands, not_held, not_in_others, lit, itself_goes, stands_less, free_from, stands-whole, each_literal, counted_stands, literal_value, holds-whole, holds-with, holds-without, each_held, stands-without}
 use Rattle.std.specs.Prelude.{All, Option, Some, None, IfSome, count_by}
 use Rattle.std.proofs.lemmas.List.Elements.{All-from_recursion, recursion_from_All}
 use Rattle.ae_base.specs.Mask.{has, first, Set, differ}
@@ -195,22 +195,12 @@ abbrev pub Avoids : ℕ → Product → Type 0
 Avoids j c = (u : Literal) → stands u c ≡ true → u.input ≢ j
 
 avoids_held : (t : Literal) (c : Product) → IsProduct c → stands t c ≡ true → Avoids t.input (without_literal t c)
-avoids_held t c product there u m same = by u.plain t.plain refl refl
+avoids_held t c product there u m same =
+    let both = and_parts (not (is_same u t)) (stands u c) (sym (stands-without u t c) ∙ m) in
+    by u.plain t.plain (has c.pos t.input) (has c.neg t.input) (rw (eq-eqb u.input t.input same) at both.0) (rw same at both.1) there (product t.input)
   where
-    at : (b : Bool) (v : Literal) → v.input ≡ t.input → v.plain ≡ b → v ≡ lit t.input b
-    at b v e f = rw (e, f) refl
-
-    both : stands (lit t.input true) c ≡ true → stands (lit t.input false) c ≡ true → ⊥
-    both p q = false≢true (sym (product t.input p) ∙ q)
-
-    gone : u ≡ t → ⊥
-    gone e = false≢true (sym (itself_goes t c) ∙ ap (λ v. stands v (without_literal t c)) (sym e) ∙ m)
-
-    by : (a b : Bool) → u.plain ≡ a → t.plain ≡ b → ⊥
-    by true true p q = gone (at true u same p ∙ sym (at true t refl q))
-    by true false p q = both (ap (λ v. stands v c) (sym (at true u same p)) ∙ stands_less u t c m) (ap (λ v. stands v c) (sym (at false t refl q)) ∙ there)
-    by false true p q = both (ap (λ v. stands v c) (sym (at true t refl q)) ∙ there) (ap (λ v. stands v c) (sym (at false u same p)) ∙ stands_less u t c m)
-    by false false p q = gone (at false u same p ∙ sym (at false t refl q))
+    by : (a b p n : Bool) → not (not (differ a b)) ≡ true → cond a p n ≡ true → cond b p n ≡ true → (p ≡ true → n ≡ false) → ⊥
+    by a b p n apart one other product = grind arith
 
 pub each_avoids : (t : Literal) (cs : List Product) → AllByRecursion IsProduct cs → AllByRecursion (Avoids t.input) (holding t cs)
 each_avoids t cs h = each_held IsProduct (Avoids t.input) t (λ c e product. avoids_held t c product e) cs h
@@ -269,9 +259,6 @@ best_step cs Seen Next best t h earlier cases = by (ltb (best_count best) (count
           found = h.found;
           most = λ u m. elim (cases u m) [ inl s ↦ h.most u s | inr same ↦ omega (arith, ap (λ v. count v cs) same, less) ];
         }
-
-pub best_start : (cs : List Product) → IsBest cs (λ u. u.input < 0) None
-best_start cs = record { found = tt; most = λ u m. absurd (omega (arith, m)) }
 
 -- both literals of an input
 pub best_more : (cs : List Product) (j : ℕ) (best : Option Counted) → IsBest cs (λ u. u.input < j) best → IsBest cs (λ u. u.input < j + 1) (better cs (better cs best (lit j true)) (lit j false))

@@ -21,6 +21,7 @@ use Rattle.ae_net.specs.Names.{inner}
 use Rattle.ae_net.specs.Gates.{gate_of}
 use Rattle.factor.specs.Factored.{inverters, named, output_gates, AreSums}
 use Rattle.factor.specs.Shows.{is_exor}
+use Rattle.std.proofs.lemmas.Bool.Decides.{nat_tests}
 
 pub length-joins : (k line : ℕ) (earlier fs : List Factor) → length (joins k line earlier fs) ≡ length fs
 length-joins k line earlier [] = refl
@@ -125,8 +126,7 @@ unfolding output_cells
 output_some w k s = elim (cases_Bool (eqb (length (sum_part w k s).cells) 0)) [ inl e ↦ rw e (omega arith) | inr e ↦ rw e (positive (length (sum_part w k s).cells) e) ]
   where
     positive : (n : ℕ) → eqb n 0 ≡ false → 0 < n
-    positive zero h = absurd (false≢true (sym h))
-    positive (suc n) h = omega arith
+    positive n h = grind (arith, nat_tests)
 
 -- ---- The gates that the builder adds part by part are those of the sum.
 

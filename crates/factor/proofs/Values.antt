@@ -71,11 +71,7 @@ product_shows w v x c show product wired =
     (λ h. all_from_members (λ j. value_of v (literal_signal w (has c.pos j) j)) (members (either c.pos c.neg)) (λ j m. by j (sym (has-either c.pos c.neg j) ∙ sym (members-has (either c.pos c.neg) j) ∙ m) h))
   where
     is_member : (u : Literal) → stands u c ≡ true → has (either c.pos c.neg) u.input ≡ true
-    is_member u m = has-either c.pos c.neg u.input ∙ by_sign u.plain m
-      where
-        by_sign : (b : Bool) → cond b (has c.pos u.input) (has c.neg u.input) ≡ true → (has c.pos u.input || has c.neg u.input) ≡ true
-        by_sign true k = or_left _ _ k
-        by_sign false k = or_right _ _ k
+    is_member u m = has-either c.pos c.neg u.input ∙ elim (cases_Bool u.plain) [ inl e ↦ or_left _ _ (rw e at m) | inr e ↦ or_right _ _ (rw e at m) ]
 
     at : (j : ℕ) (b : Bool) → stands (lit j b) c ≡ true → holds c x ≡ true → value_of v (literal_signal w (has c.pos j) j) ≡ true
     at j b m h = literal_sign w v c j b product m ∙ show (lit j b) (wired (lit j b) m) ∙ literal_holds c x (lit j b) h m
