@@ -1,6 +1,6 @@
 -- With the control at 0 the Reddy network shows the functions of its expansions, and with it at 1 their complements.
 use Rattle.std.proofs.Common.{◌≡◌, ◌≢◌, ℕ, zero, suc, ◌+◌, ◌-◌, ◌<◌, ◌≤◌, Bool, true, false, not, ◌&&◌, inl, inr, List, [], ◌∷◌, ◌++◌, length, map, get_or, refl, sym, ap, ap₂, ◌∙◌, subst, arith, eqb, eqb-true, eq-eqb, ne_eqb, add-zero, zero-add, length-append}
-use Rattle.std.specs.Prelude.{All, Option, Some, None, filter, slice_get, slice_index, codes}
+use Rattle.std.specs.Prelude.{All, Some, None, filter, slice_get, slice_index, codes}
 use Rattle.std.specs.List.{list_any, list_all, flat_map, range_with_len, AllByRecursion}
 use Rattle.std.specs.Fmt.{decimal}
 use Rattle.std.proofs.lemmas.Bool.{cases_eq, cases_Bool, and_from, false≢true, lt-ltb, ltb-false}
@@ -21,7 +21,6 @@ use Rattle.ae_base.proofs.Members.{members-has, no_members}
 use Rattle.ae_base.proofs.Order.{less_apart}
 use Rattle.ae_base.proofs.Sets.{has-where_below, inside-below}
 use Rattle.ae_base.proofs.Truth.{differ-assoc, differ-false, differ-front, differ-past}
-use Rattle.ae_net.specs.declared.net.Fault.{Fault}
 use Rattle.ae_net.specs.declared.net.Gate.{Gate}
 use Rattle.ae_net.specs.Follows.{Fits, Follows}
 use Rattle.ae_net.specs.Gates.{and_gate}

@@ -9,7 +9,7 @@ use Rattle.factor.specs.Literals.{stands, is_empty, holding, others, without_lit
 use Rattle.factor.specs.Sums.{Summands, IsSum, has_constant, plain_sum, joined, is_nothing, is_one, nodes, sum_value}
 use Rattle.factor.specs.Sums.Summands.{end, literals, factored}
 use Rattle.factor.specs.Sums.IsSum.{flat, taken}
-use Rattle.factor.proofs.Taken.{is_same, empty_whole, length-holding, length_parts, Distinct-holding, joined_by, kept, constant-plain, some_stands, held_stands, other_stands, not_held, not_in_others, lit, itself_goes, stands_less, free_from, stands-whole, each_literal, counted_stands, literal_value, holds-whole, holds-with, holds-without, each_held, stands-without}
+use Rattle.factor.proofs.Taken.{is_same, empty_whole, length-holding, length_parts, Distinct-holding, joined_by, kept, constant-plain, some_stands, held_stands, other_stands, not_held, not_in_others, lit, stands_less, free_from, stands-whole, each_literal, counted_stands, literal_value, holds-whole, holds-with, holds-without, each_held, stands-without}
 use Rattle.std.specs.Prelude.{All, Option, Some, None, IfSome, count_by}
 use Rattle.std.proofs.lemmas.List.Elements.{All-from_recursion, recursion_from_All}
 use Rattle.ae_base.specs.Mask.{has, first, Set, differ}

@@ -1,5 +1,5 @@
 -- What the gates of a sum show in a run without a fault.
-use Rattle.std.proofs.Common.{◌≡◌, ℕ, suc, ◌+◌, Bool, true, false, not, ◌&&◌, ◌||◌, cond, inl, inr, List, [], ◌∷◌, ◌++◌, length, refl, sym, ap, ap₂, ◌∙◌, subst, arith, eqb, eq-eqb, ne_eqb, append-nil, append_assoc, ◌≢◌, zero, ◌-◌, ◌<◌, map, length-append, add-zero, zero-add}
+use Rattle.std.proofs.Common.{◌≡◌, ℕ, suc, ◌+◌, Bool, true, false, not, ◌&&◌, ◌||◌, inl, inr, List, [], ◌∷◌, ◌++◌, length, refl, sym, ap, ap₂, ◌∙◌, subst, arith, eqb, eq-eqb, ne_eqb, append-nil, append_assoc, ◌≢◌, zero, ◌-◌, ◌<◌, map, length-append, add-zero, zero-add}
 use Rattle.std.specs.Prelude.{slice_index, Some, None, slice_get, codes}
 use Rattle.std.specs.List.{list_all, AllByRecursion, list_any, position_or_len}
 use Rattle.std.proofs.Math.Bool.{and-true}
