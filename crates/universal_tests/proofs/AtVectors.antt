@@ -102,7 +102,9 @@ product_one_low e t stands below j =
 pub Contains-all_at : (p : Signs) (used : Set) (v c : Bool) → Contains (universal_vectors p used) (all_at p used v c)
 unfolding universal_vectors first_vectors
 Contains-all_at p used v c =
-    Contains-from_any (universal_vectors p used) (all_at p used v c) (unrepeated_has (all_at p used v c) (without_repeats (four p used) ++ map (one_low p used) (members used)) (list_any-append (λ y. eqb y (all_at p used v c)) (without_repeats (four p used)) (map (one_low p used) (members used)) ∙ or_left _ _ (unrepeated_has (all_at p used v c) (four p used) (one_of v c))))
+    Contains-from_any (universal_vectors p used) (all_at p used v c)
+    (unrepeated_has (all_at p used v c) (without_repeats (four p used) ++ map (one_low p used) (members used))
+    (list_any-append (λ y. eqb y (all_at p used v c)) (without_repeats (four p used)) (map (one_low p used) (members used)) ∙ or_left _ _ (unrepeated_has (all_at p used v c) (four p used) (one_of v c))))
   where
     found : (x : Set) (i : ℕ) → i < 4 → get_or (four p used) i x ≡ x → list_any (λ y. eqb y x) (four p used) ≡ true
     found x i l e = list_any_at (λ y. eqb y x) (four p used) i x l (eq-eqb (get_or (four p used) i x) x e)
@@ -161,11 +163,12 @@ pub universal_distinct : (p : Signs) (used : Set) → IsDistinct (universal_vect
 unfolding universal_vectors
 universal_distinct p used = AllPairs-from_Distinct _ (once_apart (first_vectors p used ++ map (one_low p used) (members used)))
 
--- what holds of all vectors of one kind and of the other
 pub universal_points : (e : Terms) → All (IsPoint (e.polarity.n + 1)) (universal_vectors e.polarity (used_inputs e))
 unfolding universal_vectors first_vectors one_low
 universal_points e =
-    All-from_recursion P (universal_vectors p used) (each_once P (without_repeats (four p used) ++ map (one_low p used) (members used)) (each-append P (without_repeats (four p used)) (map (one_low p used) (members used)) (each_once P (four p used) (point false false, (point true false, (point false true, (point true true, tt)))))
+    All-from_recursion P (universal_vectors p used)
+    (each_once P (without_repeats (four p used) ++ map (one_low p used) (members used))
+    (each-append P (without_repeats (four p used)) (map (one_low p used) (members used)) (each_once P (four p used) (point false false, (point true false, (point false true, (point true true, tt)))))
     (each-map P (one_low p used) (members used) (each_member (λ j. P (one_low p used j)) (members used) (λ j m.
     let l : j < p.n = inside-below p.n used (used_below e) j (sym (members-has used j) ∙ m) in
     inside-from (p.n + 1) (one_low p used j) (λ k h. has-flipped j (literals_at p used true) k ∙ rw (ne_eqb k j (λ same. absurd (omega (arith, same, l, h))), has-literals_at p used true k, le-ltb k p.n (omega arith)) refl))))))
