@@ -2,7 +2,5 @@ pub mod Bytes
 pub mod EvidenceTrees
 pub mod Full
 pub mod Growths
-pub mod Readings
 pub mod Simulated
 pub mod Tables
-pub mod Visited

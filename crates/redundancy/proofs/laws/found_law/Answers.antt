@@ -1,4 +1,4 @@
-use Rattle.redundancy.proofs.Visited.{only_found, tells, too_wide}
+use Rattle.redundancy.proofs.Growths.{only_found, tells, too_wide}
 use Rattle.redundancy.proofs.laws.found_law.Goals as goal
 
 pub returns : goal.returns

@@ -3,7 +3,7 @@ use Rattle.std.proofs.lemmas.Bool.{false≢true}
 use Rattle.std.proofs.lemmas.List.{drop_all}
 use Rattle.ae_base.specs.declared.step.Step.{Step}
 use Rattle.ae_base.specs.declared.step.Step.TheVariants.{S, L}
-use Rattle.redundancy.proofs.Readings.{nothing_left, reads_leaf, no_leaf, no_split, no_low, reads_second}
+use Rattle.redundancy.proofs.EvidenceTrees.{nothing_left, reads_leaf, no_leaf, no_split, no_low, reads_second}
 use Rattle.redundancy.proofs.words.+read_tree.Goals as goal
 
 -- the letter that is read, and what follows it

@@ -2,7 +2,7 @@ use Rattle.std.proofs.Common.{◌≡◌, ◌↔◌, length}
 use Rattle.std.specs.Prelude.{Some}
 use Rattle.std.proofs.lemmas.Bool.{OnTrue_from}
 use Rattle.redundancy.specs.Evidence.{WordHolds}
-use Rattle.redundancy.proofs.Readings.{checked}
+use Rattle.redundancy.proofs.EvidenceTrees.{checked}
 use Rattle.redundancy.proofs.words.check_tree.Goals as goal
 
 -- the place after the tree is the end exactly where the word holds
