@@ -11,7 +11,7 @@ use Rattle.fn_store.specs.Functions.{Functions, Shows, Keeps, AgreeAt, IsLeastPo
 use Rattle.fn_store.specs.declared.store.FnRef.{FnRef}
 use Rattle.net_fn.specs.Refs.{ShowEach}
 use Rattle.test_gen.specs.Points.{first_one}
-use Rattle.test_gen.proofs.First.{first-None, first-Some}
+use Rattle.test_gen.proofs.InOrder.{first-None, first-Some}
 
 abbrev pub ref_at : List FnRef → ℕ → FnRef
 ref_at refs k = get_or refs k (record { at = 0 })

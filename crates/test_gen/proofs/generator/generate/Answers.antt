@@ -1,5 +1,5 @@
 use Rattle.std.proofs.lemmas.Result.{IfOk-weaker}
-use Rattle.test_gen.proofs.Searched.{tests-at_start}
+use Rattle.test_gen.proofs.Detected.{tests-at_start}
 use Rattle.test_gen.proofs.generator.generate.Goals as goal
 
 pub returns-clause-tests : goal.returns-clause-tests

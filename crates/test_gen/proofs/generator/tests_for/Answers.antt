@@ -2,7 +2,7 @@ use Rattle.std.proofs.Common.{not, rules}
 use Rattle.std.specs.Prelude.{None}
 use Rattle.ae_net.specs.Network.{signals}
 use Rattle.test_gen.specs.Tests.{detects}
-use Rattle.test_gen.proofs.Searched.{Searching-next_some, shorter}
+use Rattle.test_gen.proofs.Detected.{Searching-next_some, shorter}
 use Rattle.test_gen.proofs.generator.tests_for.Goals as goal
 
 pub add_test-requires : goal.add_test-requires

@@ -1,5 +1,5 @@
 use Rattle.std.proofs.Common.{◌-◌, length, drop}
-use Rattle.test_gen.proofs.Searched.{Searching}
+use Rattle.test_gen.proofs.Detected.{Searching}
 use Rattle.test_gen.proofs.generator.tests_for.Given as goal
 
 abbrev pub invariant-loop-next : goal.invariant-loop-next
