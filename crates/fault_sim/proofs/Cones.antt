@@ -19,10 +19,12 @@ use Rattle.ae_net.specs.Out.{out, HasOneRun}
 use Rattle.ae_net.specs.Valid.{IsValid}
 use Rattle.fault_sim.specs.declared.cone.Cone.{Cone}
 use Rattle.fault_sim.specs.declared.words.TheConstants.{LANES}
-use Rattle.fault_sim.specs.Lanes.{each_below, sees, port_differs, HasRun, IsElsewhere, IsGood, IsFaulty, ReadsGood, Tells}
+use Rattle.fault_sim.specs.Lanes.{each_below, sees, port_differs, HasRun, IsElsewhere, IsFree, IsGood, IsFaulty, IsNext, ReadsGood, Tells}
 use Rattle.fault_sim.specs.Marks.{IsAmong, IsFirstTaken, IsUnmarked, is_marked}
+use Rattle.fault_sim.specs.Polynomials.{IsPolynomial, value}
+use Rattle.fault_sim.specs.declared.polynomial.Polynomial.{Polynomial}
 use Rattle.fault_sim.proofs.MarkWords.{neither, only_new}
-use Rattle.fault_sim.specs.Spread.{AreChanged, AreMarks, AreReaders, IsAtRest, IsPast, IsPut, IsSite, IsSpread, row}
+use Rattle.fault_sim.specs.Spread.{AreChanged, AreMarks, AreReaders, IsAtRest, IsPut, IsSpread, row}
 
 pub there_at : (n : Network) (i : ℕ) → i < length n.gates → slice_get n.gates i ≡ Some (gate_at n i)
 there_at n i l = slice_get-get_or n.gates i _ l
@@ -42,44 +44,45 @@ free-pin n None i k b far = refl
 free-pin n (Some fault) i k b far = other_place fault (Pin i k) b (far.1 k)
 
 -- a gate at which there is no fault has its value in the run where its pins see those of the signals that they read
-pub free-lane : (n : Network) (fault : Option Fault) (x : Set) (v : List Bool) (i : ℕ) (gate : Gate) (l : ℕ) (words views : List ℕ) → IsValid n → slice_get n.gates i ≡ Some gate → IsElsewhere n fault i → IsRun n fault x v
-    → ((k : ℕ) → k < length gate.pins → slice_index views k ≡ slice_index words (slice_index gate.pins k)) → HasRun v l (length n.inputs + i) words → table gate (where_below (length gate.pins) (sees views l)) ≡ value_of v (length n.inputs + i)
-free-lane n fault x v i gate l words views valid there far run pins lanes =
-    ap (table gate) (where_below_agree (length gate.pins) _ _ (λ k lt. ap (λ word. has word l) (pins k lt) ∙ lanes (slice_index gate.pins k) ((valid.gates i gate there).earlier k 0 lt) ∙ sym (free-pin n fault i k _ far)))
+free-table : (n : Network) (fault : Option Fault) (x : Set) (v : List Bool) (i : ℕ) (gate : Gate) → slice_get n.gates i ≡ Some gate → IsElsewhere n fault i → IsRun n fault x v
+    → table gate (where_below (length gate.pins) (λ k. value_of v (slice_index gate.pins k))) ≡ value_of v (length n.inputs + i)
+free-table n fault x v i gate there far run =
+    ap (table gate) (where_below_agree (length gate.pins) _ _ (λ k lt. sym (free-pin n fault i k _ far)))
     ∙ sym (free-stem n fault i _ far)
     ∙ sym (run.gates i gate there)
 
--- a gate with a fault at a pin has its value in the run where its pins see those of the signals that they read, but for that pin
-pub held-lane : (n : Network) (value : Bool) (x : Set) (v : List Bool) (i p : ℕ) (gate : Gate) (l : ℕ) (words views : List ℕ) → IsValid n → slice_get n.gates i ≡ Some gate → IsRun n (Some (record { place = Pin i p; value = value })) x v
-    → ((k : ℕ) → k < length gate.pins → has (slice_index views k) l ≡ seen (Some (record { place = Pin i p; value = value })) (Pin i k) (has (slice_index words (slice_index gate.pins k)) l)) → HasRun v l (length n.inputs + i) words
-    → table gate (where_below (length gate.pins) (sees views l)) ≡ value_of v (length n.inputs + i)
-held-lane n value x v i p gate l words views valid there run pins lanes =
-    ap (table gate) (where_below_agree (length gate.pins) _ _ (λ k lt. pins k lt ∙ ap (seen (Some (record { place = Pin i p; value = value })) (Pin i k)) (lanes (slice_index gate.pins k) ((valid.gates i gate there).earlier k 0 lt))))
+pub free-lane : (n : Network) (fault : Option Fault) (x : Set) (v : List Bool) (i : ℕ) (gate : Gate) (l : ℕ) (words views : List ℕ) → IsValid n → slice_get n.gates i ≡ Some gate → IsElsewhere n fault i → IsRun n fault x v
+    → ((k : ℕ) → k < length gate.pins → slice_index views k ≡ slice_index words (slice_index gate.pins k)) → HasRun v l (length n.inputs + i) words → table gate (where_below (length gate.pins) (sees views l)) ≡ value_of v (length n.inputs + i)
+free-lane n fault x v i gate l words views valid there far run pins lanes =
+    ap (table gate) (where_below_agree (length gate.pins) _ _ (λ k lt. ap (λ word. has word l) (pins k lt) ∙ lanes (slice_index gate.pins k) ((valid.gates i gate there).earlier k 0 lt)))
+    ∙ free-table n fault x v i gate there far run
+
+-- the signals of a gate's polynomial stand before it
+pub polynomial-pin : (n : Network) (i s : ℕ) → IsValid n → i < length n.gates → IsAmong (gate_at n i).pins s → s < length n.inputs + i
+polynomial-pin n i s valid within among = subst (λ s. s < length n.inputs + i) among.2 ((valid.gates i (gate_at n i) (there_at n i within)).earlier among.0 0 among.1)
+
+-- a gate that the fault is not at has the value of its polynomial
+pub polynomial-lane : (n : Network) (fault : Option Fault) (x : Set) (v : List Bool) (i : ℕ) (p : Polynomial) (l : ℕ) (words : List ℕ) → IsValid n → i < length n.gates → IsElsewhere n fault i → IsRun n fault x v → IsPolynomial (gate_at n i) p
+    → HasRun v l (length n.inputs + i) words → value p (λ s. has (slice_index words s) l) ≡ value_of v (length n.inputs + i)
+polynomial-lane n fault x v i p l words valid within far run is lanes =
+    let gate = gate_at n i in
+    let x_is = lanes p.x (polynomial-pin n i p.x valid within is.x) in
+    let y_is = lanes p.y (polynomial-pin n i p.y valid within is.y) in
+    ap₂ (λ a b. differ (differ p.one (differ (a && p.first) (b && p.second))) ((a && b) && p.product)) x_is y_is
+    ∙ sym (is.value_is (value_of v))
+    ∙ free-table n fault x v i gate (there_at n i within) far run
+
+-- a gate with faults at it has its value in the run where its pins and its stem see those of the signals, but for the fault
+pub held-lane : (n : Network) (fault : Option Fault) (x : Set) (v : List Bool) (i : ℕ) (gate : Gate) (l : ℕ) (words views : List ℕ) (told : Bool) → IsValid n → slice_get n.gates i ≡ Some gate → IsRun n fault x v
+    → ((k : ℕ) → k < length gate.pins → has (slice_index views k) l ≡ seen fault (Pin i k) (has (slice_index words (slice_index gate.pins k)) l)) → HasRun v l (length n.inputs + i) words
+    → told ≡ seen fault (Stem (length n.inputs + i)) (table gate (where_below (length gate.pins) (sees views l))) → told ≡ value_of v (length n.inputs + i)
+held-lane n fault x v i gate l words views told valid there run pins lanes is =
+    is
+    ∙ ap (λ ones. seen fault (Stem (length n.inputs + i)) (table gate ones)) (where_below_agree (length gate.pins) _ _ (λ k lt. pins k lt ∙ ap (seen fault (Pin i k)) (lanes (slice_index gate.pins k) ((valid.gates i gate there).earlier k 0 lt))))
     ∙ sym (run.gates i gate there)
 
--- what the pins see, one of them held
-pub held-view : (i p : ℕ) (value : Bool) (pins words views : List ℕ) (word k l : ℕ) → p < length views → has word l ≡ value → slice_index views k ≡ slice_index words (slice_index pins k)
-    → has (slice_index (set views p word) k) l ≡ seen (Some (record { place = Pin i p; value = value })) (Pin i k) (has (slice_index words (slice_index pins k)) l)
-held-view i p value pins words views word k l room is read =
-    elim (cases_eq p k) [
-      | inl e ↦
-          ap (λ m. has (slice_index (set views p word) m) l) (sym e)
-          ∙ ap (λ u. has u l) (get_or-set_same views p word 0 room)
-          ∙ is
-          ∙ sym (ap₂ (λ a b. cond (a && b) value (has (slice_index words (slice_index pins k)) l)) (eq-eqb i i refl) (eq-eqb p k e))
-      | inr ne ↦
-          ap (λ u. has u l) (get_or-set_other views p k word 0 (λ e. ne (sym e)) ∙ read)
-          ∙ sym (ap₂ (λ a b. cond (a && b) value (has (slice_index words (slice_index pins k)) l)) (eq-eqb i i refl) (ne_eqb p k ne))
-    ]
-
--- a pin that the gate has not
-pub past-view : (i p : ℕ) (value : Bool) (pins words views : List ℕ) (k l : ℕ) → length pins ≤ p → k < length pins → slice_index views k ≡ slice_index words (slice_index pins k)
-    → has (slice_index views k) l ≡ seen (Some (record { place = Pin i p; value = value })) (Pin i k) (has (slice_index words (slice_index pins k)) l)
-past-view i p value pins words views k l past lt read =
-    ap (λ u. has u l) read ∙ sym (ap₂ (λ a b. cond (a && b) value (has (slice_index words (slice_index pins k)) l)) (eq-eqb i i refl) (ne_eqb p k (λ e. omega (arith, e, past, lt))))
-
 -- a gate at which the fault is not, and which reads no signal that differs
-calm : (n : Network) (fault : Fault) (good words : List ℕ) (i : ℕ) (gate : Gate) (l : ℕ) (x : Set) (w v : List Bool) → IsValid n → slice_get n.gates i ≡ Some gate → IsElsewhere n (Some fault) i → ReadsGood good words gate → IsRun n None x w → IsRun n (Some fault) x v → HasRun w l (signals n) good → HasRun v l (length n.inputs + i) words
+calm : (n : Network) (fault : Option Fault) (good words : List ℕ) (i : ℕ) (gate : Gate) (l : ℕ) (x : Set) (w v : List Bool) → IsValid n → slice_get n.gates i ≡ Some gate → IsElsewhere n fault i → ReadsGood good words gate → IsRun n None x w → IsRun n fault x v → HasRun w l (signals n) good → HasRun v l (length n.inputs + i) words
     → has (slice_index good (length n.inputs + i)) l ≡ value_of v (length n.inputs + i)
 calm n fault good words i gate l x w v valid there far reads w_run v_run w_lane v_lane =
     w_lane (length n.inputs + i) (omega (arith, slice_get_within n.gates i gate there)) ∙ w_run.gates i gate there
@@ -87,8 +90,8 @@ calm n fault good words i gate l x w v valid there far reads w_run v_run w_lane 
     let pin = slice_index gate.pins k in
     let before : pin < length n.inputs + i = (valid.gates i gate there).earlier k 0 lt in
     let within : pin < signals n = omega (arith, before, slice_get_within n.gates i gate there) in
-    sym (w_lane pin within) ∙ ap (λ word. has word l) (sym (reads k lt)) ∙ v_lane pin before ∙ sym (free-pin n (Some fault) i k _ far)))
-    ∙ sym (free-stem n (Some fault) i _ far)
+    sym (w_lane pin within) ∙ ap (λ word. has word l) (sym (reads k lt)) ∙ v_lane pin before ∙ sym (free-pin n fault i k _ far)))
+    ∙ sym (free-stem n fault i _ far)
     ∙ sym (v_run.gates i gate there)
 
 -- ---- one gate more
@@ -100,10 +103,9 @@ more-lane v l words a m word e room next lane s within =
       | inr ne ↦ ap (λ u. has u l) (get_or-set_other words m s word 0 ne) ∙ lane s (omega (arith, e, ne, within))
     ]
 
-more-faulty : (n : Network) (fault : Fault) (good words after : List ℕ) (i word : ℕ) → slice_index after (length n.inputs + i) ≡ word → ((t : ℕ) → t ≢ length n.inputs + i → slice_index after t ≡ slice_index words t)
-    → ((l : ℕ) (x : Set) (v : List Bool) → l < LANES → IsRun n (Some fault) x v → HasRun v l (length n.inputs + i) words → has word l ≡ value_of v (length n.inputs + i)) → IsFaulty n fault good (length n.inputs + i) words
-    → IsFaulty n fault good (length n.inputs + (i + 1)) after
-more-faulty n fault good words after i word is others next before l x w v lt w_run v_run w_lane s within =
+more-faulty : (n : Network) (faults : ℕ → Option Fault) (good words after : List ℕ) (i word : ℕ) → slice_index after (length n.inputs + i) ≡ word → ((t : ℕ) → t ≢ length n.inputs + i → slice_index after t ≡ slice_index words t)
+    → IsNext n faults words (length n.inputs + i) word → IsFaulty n faults good (length n.inputs + i) words → IsFaulty n faults good (length n.inputs + (i + 1)) after
+more-faulty n faults good words after i word is others next before l x w v lt w_run v_run w_lane s within =
     let lane = before l x w v lt w_run v_run w_lane in
     elim (cases_eq s (length n.inputs + i)) [
       | inl e ↦ ap (λ t. has (slice_index after t) l) e ∙ ap (λ u. has u l) is ∙ next l x v lt v_run lane ∙ ap (value_of v) (sym e)
@@ -111,34 +113,35 @@ more-faulty n fault good words after i word is others next before l x w v lt w_r
     ]
 
 -- gates that read no signal that differs keep the words good
-calm-faulty : (n : Network) (fault : Fault) (good words : List ℕ) (i m : ℕ) → IsValid n → i + m ≤ length n.gates → ((j : ℕ) → i ≤ j → j < i + m → IsElsewhere n (Some fault) j) → ((j : ℕ) (gate : Gate) → slice_get n.gates j ≡ Some gate → i ≤ j → j < i + m → ReadsGood good words gate)
-    → ((s : ℕ) → length n.inputs + i ≤ s → slice_index words s ≡ slice_index good s) → IsFaulty n fault good (length n.inputs + i) words → IsFaulty n fault good (length n.inputs + (i + m)) words
-calm-faulty n fault good words i zero valid within far quiet rest before l x w v lt w_run v_run w_lane s h = before l x w v lt w_run v_run w_lane s (omega (arith, h))
-calm-faulty n fault good words i (suc m) valid within far quiet rest before l x w v lt w_run v_run w_lane s h =
-    let earlier = calm-faulty n fault good words i m valid (omega (arith, within)) (λ j from to. far j from (omega (arith, to))) (λ j gate there from to. quiet j gate there from (omega (arith, to))) rest before l x w v lt w_run v_run w_lane in
+calm-faulty : (n : Network) (faults : ℕ → Option Fault) (good words : List ℕ) (i m : ℕ) → IsValid n → i + m ≤ length n.gates → ((j : ℕ) (gate : Gate) → slice_get n.gates j ≡ Some gate → i ≤ j → j < i + m → ReadsGood good words gate × IsFree n faults j)
+    → ((s : ℕ) → length n.inputs + i ≤ s → slice_index words s ≡ slice_index good s) → IsFaulty n faults good (length n.inputs + i) words → IsFaulty n faults good (length n.inputs + (i + m)) words
+calm-faulty n faults good words i zero valid within quiet rest before l x w v lt w_run v_run w_lane s h = before l x w v lt w_run v_run w_lane s (omega (arith, h))
+calm-faulty n faults good words i (suc m) valid within quiet rest before l x w v lt w_run v_run w_lane s h =
+    let earlier = calm-faulty n faults good words i m valid (omega (arith, within)) (λ j gate there from to. quiet j gate there from (omega (arith, to))) rest before l x w v lt w_run v_run w_lane in
     elim (cases_lt s (length n.inputs + (i + m))) [
       | inl less ↦ earlier s less
       | inr late ↦
           let e : s ≡ length n.inputs + (i + m) = omega (arith, h, late) in
           let there = there_at n (i + m) (omega (arith, within)) in
+          let calm_here = quiet (i + m) (gate_at n (i + m)) there (omega arith) (omega arith) in
           ap (λ t. has (slice_index words t) l) e
           ∙ ap (λ u. has u l) (rest (length n.inputs + (i + m)) (omega arith))
-          ∙ calm n fault good words (i + m) (gate_at n (i + m)) l x w v valid there (far (i + m) (omega arith) (omega arith)) (quiet (i + m) (gate_at n (i + m)) there (omega arith) (omega arith)) w_run v_run w_lane earlier
+          ∙ calm n (faults l) good words (i + m) (gate_at n (i + m)) l x w v valid there (calm_here.1 l lt) calm_here.0 w_run v_run w_lane earlier
           ∙ ap (value_of v) (sym e)
     ]
 
-calm-to : (n : Network) (fault : Fault) (good words : List ℕ) (i m : ℕ) → IsValid n → i ≤ m → m ≤ length n.gates → ((j : ℕ) → i ≤ j → j < m → IsElsewhere n (Some fault) j) → ((j : ℕ) (gate : Gate) → slice_get n.gates j ≡ Some gate → i ≤ j → j < m → ReadsGood good words gate)
-    → ((s : ℕ) → length n.inputs + i ≤ s → slice_index words s ≡ slice_index good s) → IsFaulty n fault good (length n.inputs + i) words → IsFaulty n fault good (length n.inputs + m) words
-calm-to n fault good words i m valid up within far quiet rest before l x w v lt w_run v_run w_lane s h =
-    calm-faulty n fault good words i (m - i) valid (omega (arith, up, within)) (λ j from to. far j from (omega (arith, to, up))) (λ j gate there from to. quiet j gate there from (omega (arith, to, up))) rest before l x w v lt w_run v_run w_lane s (omega (arith, h, up))
+pub calm-to : (n : Network) (faults : ℕ → Option Fault) (good words : List ℕ) (i m : ℕ) → IsValid n → i ≤ m → m ≤ length n.gates → ((j : ℕ) (gate : Gate) → slice_get n.gates j ≡ Some gate → i ≤ j → j < m → ReadsGood good words gate × IsFree n faults j)
+    → ((s : ℕ) → length n.inputs + i ≤ s → slice_index words s ≡ slice_index good s) → IsFaulty n faults good (length n.inputs + i) words → IsFaulty n faults good (length n.inputs + m) words
+calm-to n faults good words i m valid up within quiet rest before l x w v lt w_run v_run w_lane s h =
+    calm-faulty n faults good words i (m - i) valid (omega (arith, up, within)) (λ j gate there from to. quiet j gate there from (omega (arith, to, up))) rest before l x w v lt w_run v_run w_lane s (omega (arith, h, up))
 
 -- ---- a word that is put
 
-unmarked_before : (before after : Bool) → (before ≡ true → after ≡ true) → after ≡ false → before ≡ false
+pub unmarked_before : (before after : Bool) → (before ≡ true → after ≡ true) → after ≡ false → before ≡ false
 unmarked_before true after kept none = absurd (false≢true (sym none ∙ kept refl))
 unmarked_before false after kept none = refl
 
-put-quiet : (n : Network) (good : List ℕ) (readers : List (List ℕ)) (s word : ℕ) (before after : Cone) (k : ℕ) (gate : Gate) → AreReaders n readers → IsPut good (row readers s) s word before after → slice_index before.words.items s ≡ slice_index good s → slice_get n.gates k ≡ Some gate → is_marked after.marked.items k ≡ false
+pub put-quiet : (n : Network) (good : List ℕ) (readers : List (List ℕ)) (s word : ℕ) (before after : Cone) (k : ℕ) (gate : Gate) → AreReaders n readers → IsPut good (row readers s) s word before after → slice_index before.words.items s ≡ slice_index good s → slice_get n.gates k ≡ Some gate → is_marked after.marked.items k ≡ false
     → (is_marked before.marked.items k ≡ false → ReadsGood good before.words.items gate) → ReadsGood good after.words.items gate
 put-quiet n good readers s word before after k gate are put same there none quiet p lt =
     elim (cases_eq (slice_index gate.pins p) s) [
@@ -151,7 +154,7 @@ put-quiet n good readers s word before after k gate are put same there none quie
       | inr ne ↦ put.others (slice_index gate.pins p) ne ∙ quiet (unmarked_before _ _ (put.kept k) none) p lt
     ]
 
-put-changed : (good readers : List ℕ) (s word : ℕ) (before after : Cone) → IsPut good readers s word before after → slice_index before.words.items s ≡ slice_index good s → AreChanged good before → AreChanged good after
+pub put-changed : (good readers : List ℕ) (s word : ℕ) (before after : Cone) → IsPut good readers s word before after → slice_index before.words.items s ≡ slice_index good s → AreChanged good before → AreChanged good after
 put-changed good readers s word before after put same changed t none =
     elim (cases_eq t s) [
       | inl e ↦ elim put.spread [
@@ -173,20 +176,17 @@ put-marks n good readers s word before after j are put within late marks = recor
   ];
 }
 
-pub visited : (n : Network) (fault : Fault) (good : List ℕ) (readers : List (List ℕ)) (i word : ℕ) (before after : Cone) → AreReaders n readers
-    → ((l : ℕ) (x : Set) (v : List Bool) → l < LANES → IsRun n (Some fault) x v → HasRun v l (length n.inputs + i) before.words.items → has word l ≡ value_of v (length n.inputs + i)) → IsPut good (row readers (length n.inputs + i)) (length n.inputs + i) word before after
-    → IsSpread n fault good before i (i + 1) → IsSpread n fault good after (i + 1) (i + 1)
-visited n fault good readers i word before after are next put spread =
+pub visited : (n : Network) (faults : ℕ → Option Fault) (good : List ℕ) (readers : List (List ℕ)) (i word : ℕ) (before after : Cone) → AreReaders n readers → IsNext n faults before.words.items (length n.inputs + i) word → IsPut good (row readers (length n.inputs + i)) (length n.inputs + i) word before after
+    → IsSpread n faults good before i (i + 1) → IsSpread n faults good after (i + 1) (i + 1)
+visited n faults good readers i word before after are next put spread =
     let same = spread.rest (length n.inputs + i) (omega arith) in record {
-      faulty = more-faulty n fault good before.words.items after.words.items i word (put.writes same) put.others next spread.faulty;
+      faulty = more-faulty n faults good before.words.items after.words.items i word (put.writes same) put.others next spread.faulty;
       rest = λ s h. put.others s (omega (arith, h)) ∙ spread.rest s (omega (arith, h));
-      quiet = λ k gate there from none. put-quiet n good readers (length n.inputs + i) word before after k gate are put same there none (spread.quiet k gate there from);
+      quiet = λ k gate there from none.
+          let old = unmarked_before _ _ (put.kept k) none in
+          (put-quiet n good readers (length n.inputs + i) word before after k gate are put same there none (λ before. (spread.quiet k gate there from before).0), (spread.quiet k gate there from old).1);
       changed = put-changed good (row readers (length n.inputs + i)) (length n.inputs + i) word before after put same spread.changed;
     }
-
--- what a vector has after it was written as a slice
-pub refilled : {X : Type 0} (v : Vec X) (ws : List X) → length ws ≡ length v.items → (with_items v ws).items ≡ ws
-refilled v ws e = with_items_is v ws (omega (arith, e, v.ok.0))
 
 -- what `put` writes, where the word differs
 pub written : (good list readers : List ℕ) (s word : ℕ) (before after : Cone) (marked changed marked_after changed_after : List ℕ) → readers ≡ list → marked ≡ before.marked.items → changed ≡ before.changed.items → after.marked.items ≡ marked_after → after.changed.items ≡ changed_after → s < length before.words.items → after.words.items ≡ set before.words.items s word
@@ -213,12 +213,14 @@ room_for_marks n readers cone s k d are room lt =
 
 -- ---- from one marked gate to the next, and past the last
 
-pub advanced : (n : Network) (fault : Fault) (good : List ℕ) (before after : Cone) (i m : ℕ) → IsValid n → IsPast n fault i → i ≤ m → m < length n.gates → IsFirstTaken before.marked.items after.marked.items m → after.words.items ≡ before.words.items → after.changed.items ≡ before.changed.items → IsSpread n fault good before i i
-    → IsSpread n fault good after m (m + 1)
-advanced n fault good before after i m valid past up within taken words changed spread = record {
-  faulty = subst (IsFaulty n fault good (length n.inputs + m)) (sym words) (calm-to n fault good before.words.items i m valid up (omega (arith, within)) (λ j from to. past j from (omega (arith, to, within))) (λ j gate there from to. spread.quiet j gate there from (taken.first j to)) spread.rest spread.faulty);
+pub advanced : (n : Network) (faults : ℕ → Option Fault) (good : List ℕ) (before after : Cone) (i m : ℕ) → IsValid n → i ≤ m → m < length n.gates → IsFirstTaken before.marked.items after.marked.items m → after.words.items ≡ before.words.items → after.changed.items ≡ before.changed.items → IsSpread n faults good before i i
+    → IsSpread n faults good after m (m + 1)
+advanced n faults good before after i m valid up within taken words changed spread = record {
+  faulty = subst (IsFaulty n faults good (length n.inputs + m)) (sym words) (calm-to n faults good before.words.items i m valid up (omega (arith, within)) (λ j gate there from to. spread.quiet j gate there from (taken.first j to)) spread.rest spread.faulty);
   rest = λ s h. ap (λ ws. slice_index ws s) words ∙ spread.rest s (omega (arith, h, up));
-  quiet = λ k gate there from none. subst (λ ws. ReadsGood good ws gate) (sym words) (spread.quiet k gate there (omega (arith, from, up)) (other_mark (is_marked before.marked.items k) _ (ne_eqb k m (λ e. omega (arith, e, from))) (sym (taken.rest k) ∙ none)));
+  quiet = λ k gate there from none.
+      let calm_here = spread.quiet k gate there (omega (arith, from, up)) (other_mark (is_marked before.marked.items k) _ (ne_eqb k m (λ e. omega (arith, e, from))) (sym (taken.rest k) ∙ none)) in
+      (subst (λ ws. ReadsGood good ws gate) (sym words) calm_here.0, calm_here.1);
   changed = λ s none. ap (λ ws. slice_index ws s) words ∙ spread.changed s (ap (λ marks. is_marked marks s) (sym changed) ∙ none);
 }
   where
@@ -226,10 +228,10 @@ advanced n fault good before after i m valid past up within taken words changed 
     other_mark b true other none = absurd (false≢true (sym other))
     other_mark b false other none = none
 
-pub all-faulty : (n : Network) (fault : Fault) (good : List ℕ) (cone : Cone) (i : ℕ) → IsValid n → IsPast n fault i → IsUnmarked cone.marked.items → IsSpread n fault good cone i i → IsFaulty n fault good (signals n) cone.words.items
-all-faulty n fault good cone i valid past none spread =
+pub all-faulty : (n : Network) (faults : ℕ → Option Fault) (good : List ℕ) (cone : Cone) (i : ℕ) → IsValid n → IsUnmarked cone.marked.items → IsSpread n faults good cone i i → IsFaulty n faults good (signals n) cone.words.items
+all-faulty n faults good cone i valid none spread =
     elim (cases_lt i (length n.gates)) [
-      | inl less ↦ calm-to n fault good cone.words.items i (length n.gates) valid (omega (arith, less)) (omega arith) (λ j from to. past j from to) (λ j gate there from to. spread.quiet j gate there from (none j)) spread.rest spread.faulty
+      | inl less ↦ calm-to n faults good cone.words.items i (length n.gates) valid (omega (arith, less)) (omega arith) (λ j gate there from to. spread.quiet j gate there from (none j)) spread.rest spread.faulty
       | inr more ↦ λ l x w v lt w_run v_run w_lane s h. spread.faulty l x w v lt w_run v_run w_lane s (omega (arith, h, more))
     ]
 
@@ -249,84 +251,15 @@ restored-only before after s t taken set = right_part (not (eqb t s)) (is_marked
     right_part true b h = h
     right_part false b h = absurd (false≢true h)
 
-pub restored-word : (good words marks after : List ℕ) (s t : ℕ) → s < length words → IsFirstTaken marks after s → ((t : ℕ) → is_marked marks t ≡ false → slice_index words t ≡ slice_index good t) → is_marked after t ≡ false → slice_index (set words s (slice_index good s)) t ≡ slice_index good t
-restored-word good words marks after s t within taken same none =
+pub restored-word : (good words marks after : List ℕ) (s t word : ℕ) → word ≡ slice_index good s → s < length words → IsFirstTaken marks after s → ((t : ℕ) → is_marked marks t ≡ false → slice_index words t ≡ slice_index good t) → is_marked after t ≡ false → slice_index (set words s word) t ≡ slice_index good t
+restored-word good words marks after s t word is within taken same none =
     elim (cases_eq t s) [
-      | inl e ↦ ap (slice_index (set words s (slice_index good s))) e ∙ get_or-set_same words s (slice_index good s) 0 within ∙ ap (slice_index good) (sym e)
-      | inr ne ↦ get_or-set_other words s t (slice_index good s) 0 ne ∙ same t (sym (taken.rest t ∙ ap (λ b. not b && is_marked marks t) (ne_eqb t s ne)) ∙ none)
+      | inl e ↦ ap (slice_index (set words s word)) e ∙ get_or-set_same words s word 0 within ∙ is ∙ ap (slice_index good) (sym e)
+      | inr ne ↦ get_or-set_other words s t word 0 ne ∙ same t (sym (taken.rest t ∙ ap (λ b. not b && is_marked marks t) (ne_eqb t s ne)) ∙ none)
     ]
 
--- ---- where the fault is
-
-inputs-lane : (n : Network) (fault : Fault) (good : List ℕ) (l j : ℕ) (x : Set) (w v : List Bool) → IsRun n None x w → IsRun n (Some fault) x v → HasRun w l (signals n) good → j < length n.inputs → same_place fault.place (Stem j) ≡ false → has (slice_index good j) l ≡ value_of v j
-inputs-lane n fault good l j x w v w_run v_run w_lane within far =
-    w_lane j (omega (arith, within)) ∙ w_run.inputs j within ∙ sym (other_place fault (Stem j) (has x j) far) ∙ sym (v_run.inputs j within)
-
-rest_word : (good : List ℕ) (cone : Cone) → IsAtRest good cone → (s : ℕ) → slice_index cone.words.items s ≡ slice_index good s
+pub rest_word : (good : List ℕ) (cone : Cone) → IsAtRest good cone → (s : ℕ) → slice_index cone.words.items s ≡ slice_index good s
 rest_word good cone rest s = ap (λ ws. slice_index ws s) rest.words
-
-pub nowhere-spread : (n : Network) (fault : Fault) (good : List ℕ) (cone : Cone) → ((j : ℕ) → j < length n.inputs → same_place fault.place (Stem j) ≡ false) → IsAtRest good cone → IsSpread n fault good cone 0 0
-nowhere-spread n fault good cone far rest = record {
-  faulty = λ l x w v lt w_run v_run w_lane s h. let within : s < length n.inputs = omega (arith, h) in ap (λ u. has u l) (rest_word good cone rest s) ∙ inputs-lane n fault good l s x w v w_run v_run w_lane within (far s within);
-  rest = λ s h. rest_word good cone rest s;
-  quiet = λ k gate there from none p lt. rest_word good cone rest (slice_index gate.pins p);
-  changed = λ s none. rest_word good cone rest s;
-}
-
-pub stem-site : (n : Network) (fault : Fault) (good : List ℕ) (s word : ℕ) → fault.place ≡ Stem s → ((l : ℕ) → l < LANES → has word l ≡ fault.value) → IsSite n fault good s word
-stem-site n fault good s word at is = record {
-  gates = λ k lt ne. (ap (λ p. same_place p (Stem (length n.inputs + k))) at ∙ ne_eqb s (length n.inputs + k) (λ e. ne (sym e)), λ q. ap (λ p. same_place p (Pin k q)) at);
-  inputs = λ j lt ne. ap (λ p. same_place p (Stem j)) at ∙ ne_eqb s j (λ e. ne (sym e));
-  holds = λ l x v lt within run lanes. is l lt ∙ sym (elim (cases_lt s (length n.inputs)) [
-    | inl input ↦ run.inputs s input ∙ stuck (has x s)
-    | inr gate ↦
-        let e : length n.inputs + (s - length n.inputs) ≡ s = omega (arith, gate) in
-        ap (value_of v) (sym e) ∙ run.gates (s - length n.inputs) (gate_at n (s - length n.inputs)) (there_at n (s - length n.inputs) (omega (arith, within, gate))) ∙ stuck_at (length n.inputs + (s - length n.inputs)) (table (gate_at n (s - length n.inputs)) (ones_seen (Some fault) v (s - length n.inputs) (gate_at n (s - length n.inputs)))) e
-  ]);
-}
-  where
-    stuck : (b : Bool) → seen (Some fault) (Stem s) b ≡ fault.value
-    stuck b = ap (λ t. cond t fault.value b) (ap (λ p. same_place p (Stem s)) at ∙ eq-eqb s s refl)
-
-    stuck_at : (t : ℕ) (b : Bool) → t ≡ s → seen (Some fault) (Stem t) b ≡ fault.value
-    stuck_at t b e = ap (λ t. seen (Some fault) (Stem t) b) e ∙ stuck b
-
-pub pin-site : (n : Network) (fault : Fault) (good : List ℕ) (i p word : ℕ) → fault.place ≡ Pin i p → ((l : ℕ) (x : Set) (v : List Bool) → l < LANES → IsRun n (Some (record { place = Pin i p; value = fault.value })) x v → HasRun v l (length n.inputs + i) good → has word l ≡ value_of v (length n.inputs + i))
-    → IsSite n fault good (length n.inputs + i) word
-pin-site n fault good i p word at is = record {
-  gates = λ k lt ne. (ap (λ q. same_place q (Stem (length n.inputs + k))) at, λ q. ap (λ r. same_place r (Pin k q)) at ∙ ap (λ b. b && eqb p q) (ne_eqb i k (λ e. ne (ap (λ j. length n.inputs + j) (sym e)))));
-  inputs = λ j lt ne. ap (λ q. same_place q (Stem j)) at;
-  holds = λ l x v lt within run lanes. is l x v lt (subst (λ place. IsRun n (Some (record { place = place; value = fault.value })) x v) at run) lanes;
-}
-
-pub input-spread : (n : Network) (fault : Fault) (good : List ℕ) (readers : List (List ℕ)) (s word : ℕ) (before after : Cone) → AreReaders n readers → IsSite n fault good s word → s < length n.inputs → IsAtRest good before → IsPut good (row readers s) s word before after → IsSpread n fault good after 0 0
-input-spread n fault good readers s word before after are site within rest put = record {
-  faulty = λ l x w v lt w_run v_run w_lane t h. elim (cases_eq t s) [
-    | inl e ↦
-        ap (λ t. has (slice_index after.words.items t) l) e
-        ∙ ap (λ u. has u l) (put.writes (rest_word good before rest s))
-        ∙ site.holds l x v lt (omega (arith, within)) v_run (λ j lower. inputs-lane n fault good l j x w v w_run v_run w_lane (omega (arith, lower, within)) (site.inputs j (omega (arith, lower, within)) (λ same. omega (arith, same, lower))))
-        ∙ ap (value_of v) (sym e)
-    | inr ne ↦ ap (λ u. has u l) (put.others t ne ∙ rest_word good before rest t) ∙ inputs-lane n fault good l t x w v w_run v_run w_lane (omega (arith, h)) (site.inputs t (omega (arith, h)) ne)
-  ];
-  rest = λ t h. put.others t (omega (arith, h, within)) ∙ rest_word good before rest t;
-  quiet = λ k gate there from none. put-quiet n good readers s word before after k gate are put (rest_word good before rest s) there none (λ old p lt. rest_word good before rest (slice_index gate.pins p));
-  changed = put-changed good (row readers s) s word before after put (rest_word good before rest s) (λ t none. rest_word good before rest t);
-}
-
-pub gate-spread : (n : Network) (fault : Fault) (good : List ℕ) (readers : List (List ℕ)) (s i word : ℕ) (before after : Cone) → IsValid n → AreReaders n readers → IsSite n fault good s word → s ≡ length n.inputs + i → i < length n.gates → IsAtRest good before → IsPut good (row readers s) s word before after
-    → IsSpread n fault good after (i + 1) (i + 1)
-gate-spread n fault good readers s i word before after valid are site at within rest put =
-    let none = nowhere-spread n fault good before (λ j lt. site.inputs j lt (omega (arith, lt, at))) rest in
-    visited n fault good readers i word before after are
-    (λ l x v lt run lanes. site.holds l x v lt (omega (arith, at, within)) run (λ t h. ap (λ u. has u l) (sym (rest_word good before rest t)) ∙ lanes t (omega (arith, h, at))) ∙ ap (value_of v) at)
-    (subst (λ t. IsPut good (row readers t) t word before after) at put)
-    (record {
-      faulty = calm-to n fault good before.words.items 0 i valid (omega arith) (omega (arith, within)) (λ j from to. site.gates j (omega (arith, to, within)) (omega (arith, to, at))) (λ j gate there from to p lt. rest_word good before rest (slice_index gate.pins p)) (λ t h. rest_word good before rest t) none.faulty;
-      rest = λ t h. rest_word good before rest t;
-      quiet = λ k gate there from unmarked p lt. rest_word good before rest (slice_index gate.pins p);
-      changed = λ t unmarked. rest_word good before rest t;
-    })
 
 -- ---- the ports
 
@@ -362,32 +295,33 @@ same_below n p q e k l =
     ap (λ b. b && p k) (sym (lt-ltb k n l)) ∙ sym (has-where_below n p k) ∙ ap (λ s. has s k) e ∙ has-where_below n q k ∙ ap (λ b. b && q k) (lt-ltb k n l)
 
 -- the ports differ in a lane exactly where some word shows it
-pub ports-tell : (n : Network) (fault : Fault) (good words : List ℕ) (l : ℕ) (w v : List Bool) → IsValid n → HasRun w l (signals n) good → HasRun v l (signals n) words
-    → (each_below (length n.outputs) (λ o. not (port_differs n.outputs fault good words l o)) ≡ true) ↔ (ports_of n (Some fault) v ≡ ports_of n None w)
+pub ports-tell : (n : Network) (fault : Option Fault) (good words : List ℕ) (l : ℕ) (w v : List Bool) → IsValid n → HasRun w l (signals n) good → HasRun v l (signals n) words
+    → (each_below (length n.outputs) (λ o. not (port_differs n.outputs fault good words l o)) ≡ true) ↔ (ports_of n fault v ≡ ports_of n None w)
 ports-tell n fault good words l w v valid w_lane v_lane = (
   λ all. where_below_agree (length n.outputs) _ _ (λ o lt.
-      ap (seen (Some fault) (Port o)) (sym (v_lane (slice_index n.outputs o) ((valid.ports o 0 lt).1)))
+      ap (seen fault (Port o)) (sym (v_lane (slice_index n.outputs o) ((valid.ports o 0 lt).1)))
       ∙ same_when _ _ (each_at (length n.outputs) (λ o. not (port_differs n.outputs fault good words l o)) all o lt)
       ∙ w_lane (slice_index n.outputs o) ((valid.ports o 0 lt).1)),
   λ same. each_from (length n.outputs) (λ o. not (port_differs n.outputs fault good words l o)) (λ o lt.
       when_same _ _
-      (ap (seen (Some fault) (Port o)) (v_lane (slice_index n.outputs o) ((valid.ports o 0 lt).1))
-      ∙ same_below (length n.outputs) (λ o. seen (Some fault) (Port o) (value_of v (slice_index n.outputs o))) (λ o. value_of w (slice_index n.outputs o)) same o lt
+      (ap (seen fault (Port o)) (v_lane (slice_index n.outputs o) ((valid.ports o 0 lt).1))
+      ∙ same_below (length n.outputs) (λ o. seen fault (Port o) (value_of v (slice_index n.outputs o))) (λ o. value_of w (slice_index n.outputs o)) same o lt
       ∙ sym (w_lane (slice_index n.outputs o) ((valid.ports o 0 lt).1)))),
 )
 
--- so the lanes tell which points detect the fault
-pub lanes-tell : (n : Network) (fault : Fault) (good words outputs : List ℕ) (told : ℕ) → IsValid n → outputs ≡ n.outputs → ((h : Option Fault) (x : Set) → HasOneRun n h x) → ((h : Option Fault) (x : Set) (w : List Bool) → IsRun n h x w → out n h x ≡ ports_of n h w)
-    → IsFaulty n fault good (signals n) words → ((l : ℕ) → l < LANES → has told l ≡ not (each_below (length outputs) (λ o. not (port_differs outputs fault good words l o)))) → Tells n fault good told
-lanes-tell n fault good words outputs told valid same runs outs faulty is l x lt is_good =
+-- so the lanes tell where the fault of each is detected
+pub lanes-tell : (n : Network) (faults : ℕ → Option Fault) (good words : List ℕ) (told : ℕ) → IsValid n → ((h : Option Fault) (x : Set) → HasOneRun n h x) → ((h : Option Fault) (x : Set) (w : List Bool) → IsRun n h x w → out n h x ≡ ports_of n h w)
+    → IsFaulty n faults good (signals n) words → ((l : ℕ) → l < LANES → has told l ≡ not (each_below (length n.outputs) (λ o. not (port_differs n.outputs (faults l) good words l o)))) → Tells n faults good told
+lanes-tell n faults good words told valid runs outs faulty is l x lt is_good =
+    let fault = faults l in
     let w = runs None x in
-    let v = runs (Some fault) x in
+    let v = runs fault x in
     let w_lane = is_good w.0 w.1 in
     let v_lane = faulty l x w.0 v.0 lt w.1 v.1 w_lane in
     let tell = ports-tell n fault good words l w.0 v.0 valid w_lane v_lane in
-    let told_is : has told l ≡ not (each_below (length n.outputs) (λ o. not (port_differs n.outputs fault good words l o))) = is l lt ∙ ap (λ outputs. not (each_below (length outputs) (λ o. not (port_differs outputs fault good words l o)))) same in (
-      λ set equal. false≢true (sym (told_is ∙ ap not (tell.1 (sym (outs (Some fault) x v.0 v.1) ∙ equal ∙ outs None x w.0 w.1))) ∙ set),
-      λ differs. told_is ∙ ap not (false_from_ne_true _ (λ all. differs (outs (Some fault) x v.0 v.1 ∙ tell.0 all ∙ sym (outs None x w.0 w.1)))),
+    let told_is : has told l ≡ not (each_below (length n.outputs) (λ o. not (port_differs n.outputs fault good words l o))) = is l lt in (
+      λ set equal. false≢true (sym (told_is ∙ ap not (tell.1 (sym (outs fault x v.0 v.1) ∙ equal ∙ outs None x w.0 w.1))) ∙ set),
+      λ differs. told_is ∙ ap not (false_from_ne_true _ (λ all. differs (outs fault x v.0 v.1 ∙ tell.0 all ∙ sym (outs None x w.0 w.1)))),
     )
 
 -- what the ports show in a lane without a fault

@@ -1,7 +1,12 @@
+pub mod Beginning
 pub mod Cones
 pub mod MarkWords
+pub mod Moebius
+pub mod PartLanes
 pub mod Reading
 pub mod RowLanes
 pub mod Searches
+pub mod Holding
 pub mod Simulated
+pub mod Taking
 pub mod WordLanes

@@ -11,10 +11,10 @@ use Rattle.std.proofs.lemmas.List.{get_or-set_same, get_or-set_other, get_or_app
 use Rattle.fault_sim.specs.Marks.{IsAmong}
 use Rattle.fault_sim.specs.Spread.{row}
 
-among-left : (xs ys : List ℕ) (i : ℕ) → IsAmong xs i → IsAmong (xs ++ ys) i
+pub among-left : (xs ys : List ℕ) (i : ℕ) → IsAmong xs i → IsAmong (xs ++ ys) i
 among-left xs ys i (k, lt, e) = (k, omega (arith, lt, length-append xs ys), get_or_append_left xs ys 0 k lt ∙ e)
 
-among-last : (xs : List ℕ) (y : ℕ) → IsAmong (xs ++ y ∷ []) y
+pub among-last : (xs : List ℕ) (y : ℕ) → IsAmong (xs ++ y ∷ []) y
 among-last xs y = (length xs, omega (arith, length-append xs (y ∷ [])), let zero : length xs + 0 ≡ length xs = omega arith in ap (λ k. slice_index (xs ++ y ∷ []) k) (sym zero) ∙ get_or-append-add xs (y ∷ []) 0 0)
 
 among-cases : (xs : List ℕ) (y i : ℕ) → IsAmong (xs ++ y ∷ []) i → (IsAmong xs i) ⊎ (i ≡ y)

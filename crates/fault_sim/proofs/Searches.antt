@@ -10,9 +10,10 @@ use Rattle.ae_net.specs.Detects.{Detects}
 use Rattle.ae_net.specs.Network.{Network}
 use Rattle.ae_net.specs.Out.{Differs}
 use Rattle.fault_sim.specs.Answers.{IsFirstTelling}
+use Rattle.fault_sim.specs.declared.words.TheConstants.{LANES}
 use Rattle.fault_sim.specs.Lanes.{AreFirstBelow, AreNone, IsFirstBelow, IsFirstLane, IsPass, Tells}
 
-some_is : {X : Type 0} (x y : X) → Some x ≡ Some y → x ≡ y
+pub some_is : {X : Type 0} (x y : X) → Some x ≡ Some y → x ≡ y
 some_is x y e = cc
 
 -- ---- one fault in one pass
@@ -20,7 +21,7 @@ some_is x y e = cc
 pub found-stays : (n : Network) (points : List Set) (b c : ℕ) (fault : Fault) (i : ℕ) → b ≤ c → IsFirstBelow n points b fault (Some i) → IsFirstBelow n points c fault (Some i)
 found-stays n points b c fault i more first = (omega (arith, more, first.0), first.1, first.2)
 
-pub first-found : (n : Network) (points : List Set) (base count : ℕ) (fault : Fault) (good : List ℕ) (told : ℕ) (lane : Option ℕ) → count ≤ 64 → Tells n fault good told → IsFirstLane told count lane → IsPass n points base count good → IsFirstBelow n points base fault None
+pub first-found : (n : Network) (points : List Set) (base count : ℕ) (fault : Fault) (good : List ℕ) (told : ℕ) (lane : Option ℕ) → count ≤ LANES → Tells n (λ l. Some fault) good told → IsFirstLane told count lane → IsPass n points base count good → IsFirstBelow n points base fault None
     → IsFirstBelow n points (base + count) fault (option_map (λ l. base + l) lane)
 first-found n points base count fault good told lane few tells first pass before = by_lane lane first
   where
@@ -45,7 +46,7 @@ slice_get-set_same [] i y z h = absurd (let s : ⊥ = cc in s)
 slice_get-set_same (x ∷ xs) zero y z h = some_is y z h
 slice_get-set_same (x ∷ xs) (suc i) y z h = slice_get-set_same xs i y z h
 
-slice_get-set_other : {X : Type 0} (xs : List X) (i j : ℕ) (y : X) → j ≢ i → slice_get (set xs i y) j ≡ slice_get xs j
+pub slice_get-set_other : {X : Type 0} (xs : List X) (i j : ℕ) (y : X) → j ≢ i → slice_get (set xs i y) j ≡ slice_get xs j
 slice_get-set_other [] i j y ne = refl
 slice_get-set_other (x ∷ xs) zero zero y ne = absurd (ne refl)
 slice_get-set_other (x ∷ xs) zero (suc j) y ne = refl

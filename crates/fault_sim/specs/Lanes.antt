@@ -1,5 +1,5 @@
 -- Words of lanes, each with the values of a run of its own: a word is the set of the lanes that show 1. For private contracts alone.
-use Rattle.std.specs.Prelude.{◌≡◌, ◌↔◌, ℕ, zero, suc, ◌+◌, ◌<◌, ◌≤◌, Bool, true, false, not, ◌&&◌, ◌||◌, Option, Some, None, List, length, slice_get, slice_index}
+use Rattle.std.specs.Prelude.{◌≡◌, ◌≢◌, ◌↔◌, ℕ, zero, suc, ◌+◌, ◌<◌, ◌≤◌, Bool, true, false, not, ◌&&◌, ◌||◌, Option, Some, None, List, length, slice_get, slice_index}
 use Rattle.std.specs.Option.{MatchOption}
 use Rattle.ae_base.specs.Cube.{Product}
 use Rattle.ae_base.specs.Mask.{Set, differ, has}
@@ -7,7 +7,7 @@ use Rattle.ae_net.specs.declared.net.Gate.{Gate}
 use Rattle.ae_net.specs.declared.net.Place.TheVariants.{Stem, Pin, Port}
 use Rattle.ae_net.specs.declared.net.Fault.{Fault}
 use Rattle.ae_net.specs.Network.{Network, signals}
-use Rattle.ae_net.specs.Out.{Differs}
+use Rattle.ae_net.specs.Out.{Differs, out}
 use Rattle.fault_sim.specs.declared.words.TheConstants.{LANES}
 use Rattle.ae_net.specs.Run.{IsRun, same_place, seen, value_of}
 
@@ -24,9 +24,9 @@ allows row k v = (not (has row.pos k) || v) && (not (has row.neg k) || not v)
 abbrev pub sees : List ℕ → ℕ → ℕ → Bool
 sees seen l k = has (slice_index seen k) l
 
--- what port o shows with the fault and without differs in lane l
-abbrev pub port_differs : List ℕ → Fault → List ℕ → List ℕ → ℕ → ℕ → Bool
-port_differs outputs fault good words l o = differ (seen (Some fault) (Port o) (has (slice_index words (slice_index outputs o)) l)) (has (slice_index good (slice_index outputs o)) l)
+-- what port o shows with the fault of lane l and without differs there
+abbrev pub port_differs : List ℕ → Option Fault → List ℕ → List ℕ → ℕ → ℕ → Bool
+port_differs outputs fault good words l o = differ (seen fault (Port o) (has (slice_index words (slice_index outputs o)) l)) (has (slice_index good (slice_index outputs o)) l)
 
 -- lane l of the words of the first m signals has their values in the run
 abbrev pub HasRun : List Bool → ℕ → ℕ → List ℕ → Type 0
@@ -36,22 +36,30 @@ HasRun w l m words = (s : ℕ) → s < m → has (slice_index words s) l ≡ val
 abbrev pub IsGood : Network → Set → ℕ → List ℕ → Type 0
 IsGood n x l good = (w : List Bool) → IsRun n None x w → HasRun w l (signals n) good
 
--- lane l has the run with the fault wherever it has one without it among the good words, of the first m signals
-abbrev pub IsFaulty : Network → Fault → List ℕ → ℕ → List ℕ → Type 0
-IsFaulty n fault good m words = (l : ℕ) (x : Set) (w v : List Bool) → l < LANES → IsRun n None x w → IsRun n (Some fault) x v → HasRun w l (signals n) good → HasRun v l m words
+-- each lane has the run with its fault wherever it has one without among the good words, of the first m signals
+abbrev pub IsFaulty : Network → (ℕ → Option Fault) → List ℕ → ℕ → List ℕ → Type 0
+IsFaulty n faults good m words = (l : ℕ) (x : Set) (w v : List Bool) → l < LANES → IsRun n None x w → IsRun n (faults l) x v → HasRun w l (signals n) good → HasRun v l m words
 
 -- the fault, where there is one, is not at the gate in place i
 abbrev pub IsElsewhere : Network → Option Fault → ℕ → Type 0
 IsElsewhere n None i = Unit {0}
 IsElsewhere n (Some fault) i = (same_place fault.place (Stem (length n.inputs + i)) ≡ false) × ((k : ℕ) → same_place fault.place (Pin i k) ≡ false)
 
+-- no lane has its fault at the gate in place i
+abbrev pub IsFree : Network → (ℕ → Option Fault) → ℕ → Type 0
+IsFree n faults i = (l : ℕ) → l < LANES → IsElsewhere n (faults l) i
+
+-- lane l of the word has the value of signal s with its fault wherever it has those of all signals before it
+abbrev pub IsNext : Network → (ℕ → Option Fault) → List ℕ → ℕ → ℕ → Type 0
+IsNext n faults words s word = (l : ℕ) (x : Set) (v : List Bool) → l < LANES → IsRun n (faults l) x v → HasRun v l s words → has word l ≡ value_of v s
+
 -- no signal that the gate reads differs
 abbrev pub ReadsGood : List ℕ → List ℕ → Gate → Type 0
 ReadsGood good words gate = (k : ℕ) → k < length gate.pins → slice_index words (slice_index gate.pins k) ≡ slice_index good (slice_index gate.pins k)
 
--- lane l of a word tells whether the point in that lane detects the fault
-abbrev pub Tells : Network → Fault → List ℕ → ℕ → Type 0
-Tells n fault good word = (l : ℕ) (x : Set) → l < LANES → IsGood n x l good → (has word l ≡ true) ↔ Differs n fault x
+-- each lane of a word tells whether the point in that lane detects the fault in it
+abbrev pub Tells : Network → (ℕ → Option Fault) → List ℕ → ℕ → Type 0
+Tells n faults good word = (l : ℕ) (x : Set) → l < LANES → IsGood n x l good → (has word l ≡ true) ↔ (out n (faults l) x ≢ out n None x)
 
 -- the first of so many lanes that is set
 abbrev pub IsFirstLane : ℕ → ℕ → Option ℕ → Type 0
@@ -72,6 +80,10 @@ AreFirstBelow n points b list found i j = (k : ℕ) (fault : Fault) (first : Opt
 -- nothing is found of any fault
 abbrev pub AreNone : List (Option ℕ) → Type 0
 AreNone found = (k : ℕ) (first : Option ℕ) → slice_get found k ≡ Some first → first ≡ None
+
+-- each lane has the run without a fault at the point
+abbrev pub IsAlone : Network → Set → List ℕ → Type 0
+IsAlone n x good = (l : ℕ) → l < LANES → IsGood n x l good
 
 -- lane l has the run at point base + l
 abbrev pub IsPass : Network → List Set → ℕ → ℕ → List ℕ → Type 0

@@ -2,4 +2,8 @@ pub mod Answers
 pub mod Bench
 pub mod Lanes
 pub mod Marks
+pub mod Parts
+pub mod Polynomials
+pub mod Sites
 pub mod Spread
+pub mod Taken

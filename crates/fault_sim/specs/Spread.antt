@@ -1,15 +1,18 @@
 -- The pass of a fault: which signals have their words with it, and which gates are still to be visited. For private contracts alone.
-use Rattle.std.specs.Prelude.{◌≡◌, ◌≢◌, ◌⊎◌, ℕ, ◌+◌, ◌*◌, ◌^◌, ◌<◌, ◌≤◌, Bool, true, false, Some, List, [], length, slice_get, slice_index, slice_index_or}
+use Rattle.std.specs.Prelude.{◌≡◌, ◌≢◌, ◌⊎◌, ℕ, ◌+◌, ◌*◌, ◌^◌, ◌<◌, ◌≤◌, true, false, Option, Some, List, [], length, slice_get, slice_index, slice_index_or}
 use Rattle.ae_base.specs.Mask.{Set, has}
 use Rattle.ae_base.specs.declared.limits.TheConstants.{PINS}
 use Rattle.ae_net.specs.declared.net.Fault.{Fault}
 use Rattle.ae_net.specs.declared.net.Gate.{Gate}
 use Rattle.ae_net.specs.declared.net.Place.TheVariants.{Stem}
 use Rattle.ae_net.specs.Network.{Network, signals}
-use Rattle.ae_net.specs.Run.{IsRun, same_place, value_of}
+use Rattle.ae_net.specs.Run.{seen}
 use Rattle.fault_sim.specs.declared.cone.Cone.{Cone}
+use Rattle.fault_sim.specs.declared.held.Held.{Held}
 use Rattle.fault_sim.specs.declared.words.TheConstants.{LANES}
-use Rattle.fault_sim.specs.Lanes.{HasRun, IsElsewhere, IsFaulty, ReadsGood}
+use Rattle.fault_sim.specs.Lanes.{IsFaulty, IsFree, ReadsGood}
+use Rattle.fault_sim.specs.Sites.{fault_in, site_at}
+use Rattle.fault_sim.specs.Polynomials.{ArePolynomials}
 use Rattle.fault_sim.specs.Marks.{IsAmong, IsUnmarked, is_marked}
 
 -- the gates that read a signal
@@ -30,6 +33,7 @@ pub record IsCone (n : Network) (cone : Cone) : Type 0 where
   pub changed : signals n ≤ 64 * length cone.changed.items
   pub few_marked : length cone.marked.items < 2 ^ 32
   pub few_changed : length cone.changed.items < 2 ^ 32
+  pub polynomials : ArePolynomials n cone.polynomials.items
 
 -- Between two faults: the words are those without a fault, and nothing is marked.
 pub record IsAtRest (good : List ℕ) (cone : Cone) : Type 0 where
@@ -46,23 +50,23 @@ pub record AreMarks (n : Network) (cone : Cone) (j : ℕ) : Type 0 where
 abbrev pub AreChanged : List ℕ → Cone → Type 0
 AreChanged good cone = (s : ℕ) → is_marked cone.changed.items s ≡ false → slice_index cone.words.items s ≡ slice_index good s
 
--- The first i gates have their words with the fault, and the others those without it. A gate from place j on that is not marked reads
--- no signal that differs.
-pub record IsSpread (n : Network) (fault : Fault) (good : List ℕ) (cone : Cone) (i j : ℕ) : Type 0 where
-  pub faulty : IsFaulty n fault good (length n.inputs + i) cone.words.items
+-- The first i gates have their words with the faults, and the others those without. A gate from place j on that is not marked has no fault,
+-- and reads no signal that differs.
+pub record IsSpread (n : Network) (faults : ℕ → Option Fault) (good : List ℕ) (cone : Cone) (i j : ℕ) : Type 0 where
+  pub faulty : IsFaulty n faults good (length n.inputs + i) cone.words.items
   pub rest : (s : ℕ) → length n.inputs + i ≤ s → slice_index cone.words.items s ≡ slice_index good s
-  pub quiet : (k : ℕ) (gate : Gate) → slice_get n.gates k ≡ Some gate → j ≤ k → is_marked cone.marked.items k ≡ false → ReadsGood good cone.words.items gate
+  pub quiet : (k : ℕ) (gate : Gate) → slice_get n.gates k ≡ Some gate → j ≤ k → is_marked cone.marked.items k ≡ false → ReadsGood good cone.words.items gate × IsFree n faults k
   pub changed : AreChanged good cone
 
--- the fault is at no gate from this place on
-abbrev pub IsPast : Network → Fault → ℕ → Type 0
-IsPast n fault j = (k : ℕ) → j ≤ k → k < length n.gates → IsElsewhere n (Some fault) k
-
--- The fault is at no input and no gate but the one with this signal, which has this word with it where all before it are as without it.
-pub record IsSite (n : Network) (fault : Fault) (good : List ℕ) (s word : ℕ) : Type 0 where
-  pub gates : (k : ℕ) → k < length n.gates → length n.inputs + k ≢ s → IsElsewhere n (Some fault) k
-  pub inputs : (j : ℕ) → j < length n.inputs → j ≢ s → same_place fault.place (Stem j) ≡ false
-  pub holds : (l : ℕ) (x : Set) (v : List Bool) → l < LANES → s < signals n → IsRun n (Some fault) x v → HasRun v l s good → has word l ≡ value_of v s
+-- The first e faults have their inputs written and their gates marked: an input at which the last fault is among them has the words that are
+-- seen there, and each other signal has its word without a fault.
+pub record IsBegun (n : Network) (held : Held) (good : List ℕ) (cone : Cone) (e : ℕ) : Type 0 where
+  pub inputs : (s : ℕ) → s < length n.inputs → slice_index held.last.items s ≤ e → (l : ℕ) → l < LANES → has (slice_index cone.words.items s) l ≡ seen (fault_in held l) (Stem s) (has (slice_index good s) l)
+  pub left : (s : ℕ) → e < slice_index held.last.items s → slice_index cone.words.items s ≡ slice_index good s
+  pub rest : (s : ℕ) → length n.inputs ≤ s → slice_index cone.words.items s ≡ slice_index good s
+  pub quiet : (k : ℕ) (gate : Gate) → slice_get n.gates k ≡ Some gate → is_marked cone.marked.items k ≡ false → ReadsGood good cone.words.items gate
+  pub sites : (k d : ℕ) → k < length n.gates → d < e → is_marked cone.marked.items k ≡ false → site_at n held.faults.items d ≢ length n.inputs + k
+  pub changed : AreChanged good cone
 
 -- A signal has its word, and where that differs its readers are marked.
 pub record IsPut (good readers : List ℕ) (s word : ℕ) (before after : Cone) : Type 0 where
@@ -74,6 +78,6 @@ pub record IsPut (good readers : List ℕ) (s word : ℕ) (before after : Cone) 
   pub unchanged : (t : ℕ) → is_marked after.changed.items t ≡ false → is_marked before.changed.items t ≡ false
   pub changed : (t : ℕ) → is_marked after.changed.items t ≡ true → is_marked before.changed.items t ≡ false → t ≡ s
 
--- each list has as many elements as before
+-- each list has as many elements as before, and the polynomials are the same
 abbrev pub IsAsLong : Cone → Cone → Type 0
-IsAsLong before after = (length after.words.items ≡ length before.words.items) × (length after.seen.items ≡ length before.seen.items) × (length after.marked.items ≡ length before.marked.items) × (length after.changed.items ≡ length before.changed.items)
+IsAsLong before after = (length after.words.items ≡ length before.words.items) × (length after.seen.items ≡ length before.seen.items) × (length after.marked.items ≡ length before.marked.items) × (length after.changed.items ≡ length before.changed.items) × (after.polynomials ≡ before.polynomials)

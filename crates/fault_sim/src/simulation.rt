@@ -10,9 +10,12 @@ ghost use Rattle.ae_net.specs.Run.{Shows};
 ghost use Rattle.fault_sim.specs.declared.words.TheConstants.{LANES};
 ghost use Rattle.fault_sim.specs.Answers.{IsFirstTelling};
 ghost use Rattle.fault_sim.specs.Lanes.{IsPass};
+ghost use Rattle.fault_sim.specs.Polynomials.{ArePolynomials};
 
+use crate::bench::bench_for;
 use crate::pass::write_good;
-use crate::search::{bench_for, next_points, nothing_found, try_points};
+use crate::polynomial::{Polynomial, polynomials_of};
+use crate::search::{next_points, nothing_found, try_points};
 use crate::words::{Word, full, has_lane};
 use ae_base::{Mask, Memory, PINS, Point};
 use ae_net::{Fault, Net, Sig, one_run, valid_law};
@@ -68,12 +71,14 @@ pub fn responses(alloc: Global, net: &Net, points: &[Point]) -> Result<Vec<Mask>
     ensures outs { IfOk result (λ outs. outs.items ≡ map (out net.now None) points.now) }
 {
     shows_out(net);
+    let polynomials = polynomials_of(alloc, net)?;
     let mut words = vec![in alloc; full(false); net.inputs().len() + net.gates().len()]?;
     let mut seen = vec![in alloc; full(false); PINS as usize]?;
     let mut outs = Vec::new(alloc);
     push_all(
         net,
         points,
+        polynomials.as_slice(),
         words.as_mut_slice(),
         seen.as_mut_slice(),
         &mut outs,
@@ -85,19 +90,21 @@ pub fn responses(alloc: Global, net: &Net, points: &[Point]) -> Result<Vec<Mask>
 fn push_all(
     net: &Net,
     points: &[Point],
+    polynomials: &[Option<Polynomial>],
     words: &mut [Word],
     seen: &mut [Word],
     outs: &mut Vec<Mask>,
 ) -> Result<(), Memory>
     requires words { signals net.now ≡ length words.old }
     requires seen { PINS ≤ length seen.old }
+    requires polynomials { ArePolynomials net.now polynomials.now }
     requires outs { outs.old.items ≡ [] }
     ensures { OnOk result (outs.new.items ≡ map (out net.now None) points.now) }
 {
     let mut base = 0;
     while base < points.len() {
         let now = next_points(points, base);
-        write_good(net, now, words, seen);
+        write_good(net, now, polynomials, words, seen);
         push_outs(net, words, base, now.len(), outs)?;
         base += now.len();
     }
@@ -117,6 +124,6 @@ pub fn first_telling(
 {
     let mut bench = bench_for(alloc, net)?;
     let mut found = nothing_found(alloc, list.len())?;
-    try_points(net, points, list, &mut bench, found.as_mut_slice());
+    try_points(net, points, list, &mut bench, found.as_mut_slice())?;
     Ok(found)
 }

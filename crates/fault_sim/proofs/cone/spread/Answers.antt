@@ -1,7 +1,9 @@
 use Rattle.std.proofs.Common.{◌≡◌, refl, ap, sym, subst, ◌∙◌, arith}
 use Rattle.std.proofs.lemmas.Bool.{false≢true}
+use Rattle.fault_sim.specs.Sites.{fault_in}
 use Rattle.fault_sim.specs.Marks.{IsFirstTaken, is_marked}
-use Rattle.fault_sim.proofs.Cones.{advanced, all-faulty, refilled}
+use Rattle.fault_sim.proofs.Cones.{advanced, all-faulty}
+use Rattle.fault_sim.proofs.Holding.{refilled}
 use Rattle.fault_sim.proofs.cone.spread.Goals as goal
 
 pub gates-preserved : goal.gates-preserved
@@ -17,10 +19,7 @@ gates-preserved c =
       cone = c.visit.ensures.cone;
       marks = c.visit.ensures.marks;
       from = omega (arith, c.gates.invariant.from, at.0);
-      spread = λ fault past start.
-          let spread = c.gates.invariant.spread fault past start in
-          c.visit.ensures.spread fault (past i (omega (arith, c.gates.invariant.from, at.0)) at.1)
-          (advanced n fault c.args.good.now before _ c.gates.next i c.valid_law.ensures (λ k from within. past k (omega (arith, from, c.gates.invariant.from)) within) at.0 at.1 (subst (λ ms. IsFirstTaken before.marked.items ms i) (sym after) taken) refl refl spread);
+      spread = c.visit.ensures.spread (advanced n (fault_in c.args.held.now) c.args.good.now before _ c.gates.next i c.valid_law.ensures at.0 at.1 (subst (λ ms. IsFirstTaken before.marked.items ms i) (sym after) taken) refl refl c.gates.invariant.spread);
     }
 
 pub returns-clause-marks : goal.returns-clause-marks
@@ -31,6 +30,5 @@ returns-clause-marks c =
     }
 
 pub returns-clause-faulty : goal.returns-clause-faulty
-returns-clause-faulty c fault past start =
-    all-faulty c.args.net.now fault c.args.good.now c.gates.cone c.gates.next c.valid_law.ensures (λ k from within. past k (omega (arith, from, c.gates.invariant.from)) within) (λ k. ap (λ marks. is_marked marks k) (sym c.as_mut_slice.ensures.value) ∙ c.in_default.ensures.taken k)
-    (c.gates.invariant.spread fault past start)
+returns-clause-faulty c =
+    all-faulty c.args.net.now (fault_in c.args.held.now) c.args.good.now c.gates.cone c.gates.next c.valid_law.ensures (λ k. ap (λ marks. is_marked marks k) (sym c.as_mut_slice.ensures.value) ∙ c.in_default.ensures.taken k) c.gates.invariant.spread

@@ -16,7 +16,7 @@ loop-i-preserved c =
       seen = c.gate_word.ensures.len ∙ c.loop-i.invariant.seen;
       runs = λ l x w lt inputs run s h.
           let lane = c.loop-i.invariant.runs l x w lt inputs run in
-          more-lane w l words (length n.inputs + i) m c.gate_word.result e (omega (arith, e, within, c.loop-i.invariant.len, c.requires.room)) (c.gate_word.ensures.value None l x w lt tt run lane) lane s (omega (arith, h));
+          more-lane w l words (length n.inputs + i) m c.gate_word.result e (omega (arith, e, within, c.loop-i.invariant.len, c.requires.room)) (c.gate_word.ensures.value (λ l. None) (λ l lt. tt) l x w lt run lane) lane s (omega (arith, h));
     }
 
 pub returns-clause-runs : goal.returns-clause-runs

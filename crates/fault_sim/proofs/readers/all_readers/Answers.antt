@@ -1,6 +1,6 @@
 use Rattle.std.proofs.Common.{◌≡◌, length, ap, arith}
 use Rattle.std.proofs.lemmas.Option.{slice_get_within}
-use Rattle.fault_sim.proofs.Cones.{refilled}
+use Rattle.fault_sim.proofs.Holding.{refilled}
 use Rattle.fault_sim.proofs.Reading.{one_gate_more}
 use Rattle.fault_sim.proofs.readers.all_readers.Goals as goal
 

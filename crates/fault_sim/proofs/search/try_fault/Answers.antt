@@ -8,7 +8,7 @@ returns-in-Some-clause-first c points pass before =
     let more : c.args.base ≤ c.args.base + c.args.count = omega arith in
     found-stays c.args.net.now points c.args.base (c.args.base + c.args.count) c.args.fault c.in-Some.i more (subst (IsFirstBelow c.args.net.now points c.args.base c.args.fault) c.in-Some.is before)
 
-pub returns-in-None-clause-first : goal.returns-in-None-clause-first
-returns-in-None-clause-first c points pass before =
+pub returns-in_ok-told-in-None-clause-first : goal.returns-in_ok-told-in-None-clause-first
+returns-in_ok-told-in-None-clause-first c points pass before =
     subst (IsFirstBelow c.args.net.now points (c.args.base + c.args.count) c.args.fault) (sym c.place_of.ensures)
-    (first-found c.args.net.now points c.args.base c.args.count c.args.fault c.args.bench.now.good.items c.told_by.result c.first_lane.result c.requires.count c.told_by.ensures.tells c.first_lane.ensures pass (subst (IsFirstBelow c.args.net.now points c.args.base c.args.fault) c.in-None.is before))
+    (first-found c.args.net.now points c.args.base c.args.count c.args.fault c.args.bench.now.good.items c.in_ok-told-in-None.told c.first_lane.result c.requires.count c.in_ok-told-in-None.ensures.tells c.first_lane.ensures pass (subst (IsFirstBelow c.args.net.now points c.args.base c.args.fault) c.in-None.is before))

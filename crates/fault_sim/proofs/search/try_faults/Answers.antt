@@ -17,13 +17,14 @@ loop-k-preserved c =
     let there = slice_get-get_or list k (record { place = Stem 0; value = false }) within in
     let found_there = slice_get-get_or found k None (omega (arith, within, c.loop-k.invariant.len, c.requires.len)) in
     record {
-      bench = c.try_fault.ensures.bench;
-      good = c.try_fault.ensures.good ∙ c.loop-k.invariant.good;
-      len = length-set found k c.try_fault.result ∙ c.loop-k.invariant.len;
+      bench = c.in_ok-found.ensures.bench;
+      all = c.in_ok-found.ensures.all;
+      good = c.in_ok-found.ensures.good ∙ c.loop-k.invariant.good;
+      len = length-set found k c.in_ok-found.field-0 ∙ c.loop-k.invariant.len;
       first = λ points pass before.
-          let now : IsPass n points c.args.base c.args.count c.loop-k.bench.good.items = subst (λ good. IsPass n points c.args.base c.args.count good.items) c.try_fault.ensures.good pass in
+          let now : IsPass n points c.args.base c.args.count c.loop-k.bench.good.items = subst (λ good. IsPass n points c.args.base c.args.count good.items) c.in_ok-found.ensures.good pass in
           let parts = c.loop-k.invariant.first points now before in (
-            more-found n points (c.args.base + c.args.count) list found k _ c.try_fault.result there (c.try_fault.ensures.first points now (parts.1 k _ _ (omega arith) within there found_there)) parts.0,
-            rest-found n points c.args.base (length list) list found k c.try_fault.result parts.1,
+            more-found n points (c.args.base + c.args.count) list found k _ c.in_ok-found.field-0 there (c.in_ok-found.ensures.first points now (parts.1 k _ _ (omega arith) within there found_there)) parts.0,
+            rest-found n points c.args.base (length list) list found k c.in_ok-found.field-0 parts.1,
           );
     }

@@ -1,42 +1,10 @@
-use Rattle.std.proofs.Common.{◌≡◌, length, refl, subst, ◌∙◌, arith}
-use Rattle.fault_sim.specs.Lanes.{AreFirstBelow, IsGood, IsPass}
+use Rattle.std.proofs.Common.{length, ◌∙◌}
 use Rattle.fault_sim.proofs.Searches.{all-found, none-found}
 use Rattle.fault_sim.proofs.search.try_points.Goals as goal
 
-pub try_faults-requires-clause-few : goal.try_faults-requires-clause-few
-try_faults-requires-clause-few c = omega (arith, c.next_points-now.ensures.within, c.requires.few)
-
-pub loop-base-smaller : goal.loop-base-smaller
-loop-base-smaller c = omega (arith, c.next_points-now.ensures.some, c.next_points-now.ensures.within)
-
-pub loop-base-init : goal.loop-base-init
-loop-base-init c = record {
-  bench = c.requires.bench;
-  within = omega arith;
-  len = refl;
-  first = none-found c.args.net.now c.args.points.now c.args.list.now c.args.found.now 0 (length c.args.list.now) c.requires.first;
-}
-
-pub loop-base-preserved : goal.loop-base-preserved
-loop-base-preserved c =
-    let n = c.args.net.now in
-    let points = c.args.points.now in
-    let base = c.loop-base.base in
-    let now = c.next_points-now.result.now in
-    let good = c.begin_pass.new.bench.good.items in
-    let pass : IsPass n points base (length now) good = λ l lt. subst (λ x. IsGood n x l good) (c.next_points-now.ensures.points l lt) (c.begin_pass.ensures.pass l lt) in
-    record {
-      bench = c.try_faults.ensures.bench;
-      within = c.next_points-now.ensures.within;
-      len = c.try_faults.ensures.len ∙ c.loop-base.invariant.len;
-      first = c.try_faults.ensures.first points pass c.loop-base.invariant.first;
-    }
+pub try_passes-requires-clause-first : goal.try_passes-requires-clause-first
+try_passes-requires-clause-first c = c.in_ok-try_alone.ensures.first (none-found c.args.net.now c.args.points.now c.args.list.now c.args.found.now 0 (length c.args.list.now) c.requires.first)
 
 pub returns-clause-first : goal.returns-clause-first
 returns-clause-first c =
-    let n = c.args.net.now in
-    let points = c.args.points.now in
-    let list = c.args.list.now in
-    let end : c.loop-base.base ≡ length points = omega (arith, c.loop-base-test.false, c.loop-base.invariant.within) in
-    all-found n points list c.loop-base.found (λ fault x. c.detects_law.ensures n fault x c.valid_law.ensures) (c.loop-base.invariant.len ∙ c.requires.len)
-    (subst (λ b. AreFirstBelow n points b list c.loop-base.found 0 (length list)) end c.loop-base.invariant.first)
+    all-found c.args.net.now c.args.points.now c.args.list.now c.try_passes.new.found (λ fault x. c.detects_law.ensures c.args.net.now fault x c.valid_law.ensures) (c.in_ok-try_passes.ensures.len ∙ c.in_ok-try_alone.ensures.len ∙ c.requires.len) c.in_ok-try_passes.ensures.first

@@ -1,22 +1,24 @@
-use Rattle.std.proofs.Common.{◌≡◌, ◌<◌, ℕ, length, sym, subst, ◌∙◌, arith}
+use Rattle.std.proofs.Common.{◌≡◌, ℕ, ◌<◌, ◌+◌, length, ap, sym, subst, ◌∙◌}
 use Rattle.std.specs.Prelude.{Some, slice_get, slice_index}
-use Rattle.ae_base.specs.Mask.{has}
-use Rattle.ae_net.specs.Run.{seen}
-use Rattle.ae_net.specs.declared.net.Place.TheVariants.{Pin}
-use Rattle.fault_sim.proofs.Cones.{there_at, held-lane, held-view, past-view}
+use Rattle.ae_base.specs.Mask.{has, where_below}
+use Rattle.ae_net.specs.Run.{seen, table}
+use Rattle.ae_net.specs.declared.net.Place.TheVariants.{Pin, Stem}
+use Rattle.ae_net.specs.Network.{gate_at}
+use Rattle.fault_sim.specs.declared.words.TheConstants.{LANES}
+use Rattle.fault_sim.specs.Lanes.{sees}
+use Rattle.fault_sim.specs.Sites.{fault_in}
+use Rattle.fault_sim.proofs.Cones.{there_at, held-lane}
 use Rattle.fault_sim.proofs.table.held_word.Goals as goal
-use Rattle.fault_sim.proofs.table.held_word.Goals.{then-k-len, else-k-len}
 
 pub returns-clause-value : goal.returns-clause-value
 returns-clause-value c l x v lt run lane =
     let n = c.args.net.now in
     let i = c.args.i in
-    let gate = c.gate-gate.result.now in
-    let there : slice_get n.gates i ≡ Some gate = subst (λ g. slice_get n.gates i ≡ Some g) (sym c.gate-gate.ensures.gate) (there_at n i c.requires.place) in
-    let read : (k : ℕ) → k < length gate.pins → slice_index c.read_pins.new.seen k ≡ slice_index c.args.words.now (slice_index gate.pins k) = subst (λ pins. (k : ℕ) → k < length pins → slice_index c.read_pins.new.seen k ≡ slice_index c.args.words.now (slice_index pins k)) c.as_slice.ensures c.read_pins.ensures.pins in
-    let views = c.if-k-len.seen in
-    let view : (k : ℕ) → k < length gate.pins → has (slice_index views k) l ≡ seen (Some (record { place = Pin i c.args.k; value = c.args.value })) (Pin i k) (has (slice_index c.args.words.now (slice_index gate.pins k)) l) = elim c.if-k-len.branch [
-      | then-k-len w ↦ λ k within. subst (λ vs. has (slice_index vs k) l ≡ seen (Some (record { place = Pin i c.args.k; value = c.args.value })) (Pin i k) (has (slice_index c.args.words.now (slice_index gate.pins k)) l)) (sym w.seen-is) (held-view i c.args.k c.args.value gate.pins c.args.words.now c.read_pins.new.seen w.full.result k l (omega (arith, w.if-k-len.true, c.len.ensures, c.gate-gate.ensures.valid.few_pins, c.requires.seen, c.read_pins.ensures.len)) (w.full.ensures l lt) (read k within))
-      | else-k-len w ↦ λ k within. subst (λ vs. has (slice_index vs k) l ≡ seen (Some (record { place = Pin i c.args.k; value = c.args.value })) (Pin i k) (has (slice_index c.args.words.now (slice_index gate.pins k)) l)) (sym w.seen-is) (past-view i c.args.k c.args.value gate.pins c.args.words.now c.read_pins.new.seen k l (omega (arith, w.if-k-len.false, c.len.ensures)) within (read k within))
-    ] in
-    c.table_word.ensures l lt ∙ held-lane n c.args.value x v i c.args.k gate l c.args.words.now views c.inputs-names.ensures.valid there run view lane
+    let at : length c.inputs.result.now + i ≡ length n.inputs + i = ap (λ inputs. length inputs + i) c.inputs.ensures.inputs in
+    let pins : c.as_slice.result.now ≡ (gate_at n i).pins = c.as_slice.ensures ∙ ap (λ gate. gate.pins) c.gate-gate.ensures.gate in
+    let pin : (k l : ℕ) → k < length (gate_at n i).pins → l < LANES → has (slice_index c.show_pins.new.seen k) l ≡ seen (fault_in c.args.held.now l) (Pin i k) (has (slice_index c.args.words.now (slice_index (gate_at n i).pins k)) l) =
+    subst (λ pins. (k l : ℕ) → k < length pins → l < LANES → has (slice_index c.show_pins.new.seen k) l ≡ seen (fault_in c.args.held.now l) (Pin i k) (has (slice_index c.args.words.now (slice_index pins k)) l)) pins c.show_pins.ensures.pins in
+    held-lane n (fault_in c.args.held.now l) x v i (gate_at n i) l c.args.words.now c.show_pins.new.seen (has c.shown.result l) c.inputs.ensures.valid (there_at n i c.requires.place) run (λ k within. pin k l within lt) lane
+    (c.shown.ensures l lt
+    ∙ ap (λ b. seen (fault_in c.args.held.now l) (Stem (length c.inputs.result.now + i)) b) (c.table_word.ensures l lt ∙ ap (λ gate. table gate (where_below (length gate.pins) (sees c.show_pins.new.seen l))) c.gate-gate.ensures.gate)
+    ∙ ap (λ s. seen (fault_in c.args.held.now l) (Stem s) (table (gate_at n i) (where_below (length (gate_at n i).pins) (sees c.show_pins.new.seen l)))) at)
